@@ -1,0 +1,10 @@
+pub mod Tests
+pub mod Numbers
+pub mod Written
+pub mod Once
+pub mod Packed
+pub mod Parts
+pub mod Words
+pub mod Stores
+pub mod Replaced
+pub mod Points
