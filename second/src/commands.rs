@@ -1,0 +1,314 @@
+//! The commands of the program, over any input and output.
+
+use std::io::{self, Read, Write};
+
+use crate::coding::Rate;
+use crate::control::control;
+use crate::draw::{Damage, Draw};
+use crate::modes::{Mode, P1_BITS, PIDS_BITS};
+use crate::packing::{pack, unpack};
+use crate::run::{
+    self, code_frames, decode_frames, Answer, Reading, Refusal, Sending, Side, State,
+};
+use crate::scrambling::scramble;
+
+/// Why a command ends before its work is done.
+#[derive(Debug)]
+pub enum Stop {
+    Refused { refusal: Refusal, frame: u64 },
+    Different(String),
+    Trouble(io::Error),
+}
+
+impl From<io::Error> for Stop {
+    /// No section: trouble with input or output.
+    fn from(error: io::Error) -> Stop {
+        Stop::Trouble(error)
+    }
+}
+
+/// Document 01, refusals: stops a command at an L1 frame.
+fn refused(number: u32, place: usize, frame: u64) -> Stop {
+    let refusal = Refusal { number, place };
+    Stop::Refused { refusal, frame }
+}
+
+/// Document 01, refusal 1: the covered mode of a number.
+fn covered(mode: u64) -> Result<&'static Mode, Stop> {
+    Mode::of_number(mode).ok_or(refused(1, 0, 0))
+}
+
+/// Document 01, lent lengths: the next bytes of the input, fewer if it ends before.
+fn take(input: &mut impl Read, length: usize) -> io::Result<Vec<u8>> {
+    let mut bytes = Vec::with_capacity(length);
+    input.take(length as u64).read_to_end(&mut bytes)?;
+    Ok(bytes)
+}
+
+/// Document 01, lent lengths: the next four buffers of the input.
+fn take_four(input: &mut impl Read, lengths: [usize; 4]) -> io::Result<[Vec<u8>; 4]> {
+    Ok([
+        take(input, lengths[0])?,
+        take(input, lengths[1])?,
+        take(input, lengths[2])?,
+        take(input, lengths[3])?,
+    ])
+}
+
+/// Document 01, operations: one side of a run with its memories.
+struct Run {
+    mode: &'static Mode,
+    state: State,
+    memory_p3: Vec<u8>,
+    memory_p4: Vec<u8>,
+}
+
+impl Run {
+    /// Document 01, operations: a start with memories of the right lengths.
+    fn start(side: Side, number: u64) -> Result<Run, Stop> {
+        let mode = covered(number)?;
+        let [p3, p4] = match side {
+            Side::Sender => mode.sender_memory_lengths(),
+            Side::Reader => mode.reader_memory_lengths(),
+        };
+        let (mut memory_p3, mut memory_p4) = (vec![0; p3], vec![0; p4]);
+        let answer = run::start(side, number, &mut memory_p3, &mut memory_p4);
+        if answer.number != 0 {
+            return Err(refused(answer.number, answer.place, 0));
+        }
+        Ok(Run {
+            mode,
+            state: answer.state,
+            memory_p3,
+            memory_p4,
+        })
+    }
+
+    /// Document 01, operations: sends P1, PIDS, P3 and P4; gives PM, PX1, PX2 and control.
+    fn send(&mut self, frames: &[Vec<u8>; 4]) -> (Answer, [Vec<u8>; 4]) {
+        let [p1, pids, p3, p4] = frames;
+        let [mut pm, mut px1, mut px2, mut control] =
+            self.mode.matrix_lengths().map(|length| vec![0; length]);
+        let mut lent = Sending {
+            p1,
+            pids,
+            p3,
+            p4,
+            pm: &mut pm,
+            px1: &mut px1,
+            px2: &mut px2,
+            control: &mut control,
+            memory_p3: &mut self.memory_p3,
+            memory_p4: &mut self.memory_p4,
+        };
+        let answer = run::send(self.state, &mut lent);
+        self.state = answer.state;
+        (answer, [pm, px1, px2, control])
+    }
+
+    /// Document 01, operations: reads PM, PX1, PX2 and control; gives the returned frames.
+    fn read(&mut self, matrices: &[Vec<u8>; 4]) -> (Answer, Vec<u8>) {
+        let [pm, px1, px2, control] = matrices;
+        let [mut p1, mut pids, mut p3, mut p4] =
+            self.mode.frame_lengths().map(|length| vec![0; length]);
+        let mut lent = Reading {
+            p1: &mut p1,
+            pids: &mut pids,
+            p3: &mut p3,
+            p4: &mut p4,
+            pm,
+            px1,
+            px2,
+            control,
+            memory_p3: &mut self.memory_p3,
+            memory_p4: &mut self.memory_p4,
+        };
+        let age = self.state.age;
+        let answer = run::read(self.state, &mut lent);
+        self.state = answer.state;
+        let returned = match (answer.number, age) {
+            (0, 2) => [p1, pids, p3, p4].concat(),
+            (0, _) => [p1, pids].concat(),
+            _ => Vec::new(),
+        };
+        (answer, returned)
+    }
+}
+
+/// Document 01, sheet guarantees: draws the transfer frames of a run.
+pub fn draw(seed: u64, mode: u64, count: u64, output: &mut impl Write) -> Result<(), Stop> {
+    let mode = covered(mode)?;
+    let mut draw = Draw::new(seed);
+    for _ in 0..count {
+        for length in mode.frame_lengths() {
+            output.write_all(&draw.bytes(length))?;
+        }
+    }
+    Ok(())
+}
+
+/// Document 01, operations: sends a run of L1 frames.
+pub fn send(
+    mode: u64,
+    count: u64,
+    input: &mut impl Read,
+    output: &mut impl Write,
+) -> Result<(), Stop> {
+    let mut sender = Run::start(Side::Sender, mode)?;
+    for frame in 0..count {
+        let frames = take_four(input, sender.mode.frame_lengths())?;
+        let (answer, matrices) = sender.send(&frames);
+        if answer.number != 0 {
+            return Err(refused(answer.number, answer.place, frame));
+        }
+        output.write_all(&matrices.concat())?;
+    }
+    Ok(())
+}
+
+/// Document 01, operations: reads a run of L1 frames up to the first refused one.
+pub fn read(
+    mode: u64,
+    count: u64,
+    input: &mut impl Read,
+    output: &mut impl Write,
+) -> Result<(), Stop> {
+    let mut reader = Run::start(Side::Reader, mode)?;
+    for frame in 0..count {
+        let matrices = take_four(input, reader.mode.matrix_lengths())?;
+        let (answer, returned) = reader.read(&matrices);
+        if answer.number != 0 {
+            return Err(refused(answer.number, answer.place, frame));
+        }
+        output.write_all(&returned)?;
+    }
+    Ok(())
+}
+
+/// Document 01, operations: reads a run of L1 frames, going on after refused ones.
+pub fn read_on(
+    mode: u64,
+    count: u64,
+    input: &mut impl Read,
+    output: &mut impl Write,
+    report: &mut impl Write,
+) -> Result<(), Stop> {
+    let mut reader = Run::start(Side::Reader, mode)?;
+    for frame in 0..count {
+        let matrices = take_four(input, reader.mode.matrix_lengths())?;
+        let (answer, returned) = reader.read(&matrices);
+        let Answer { number, place, .. } = answer;
+        writeln!(report, "frame {frame} number {number} place {place}")?;
+        output.write_all(&returned)?;
+        if number == 3 {
+            // The input has ended: no further L1 frame is there.
+            break;
+        }
+    }
+    Ok(())
+}
+
+/// Section 11: writes the control blocks of an L1 frame.
+pub fn control_blocks(mode: u64, output: &mut impl Write) -> Result<(), Stop> {
+    output.write_all(&control(covered(mode)?.number))?;
+    Ok(())
+}
+
+/// Document 01, refusals: copies the matrices of a run, some of them damaged.
+pub fn damage(
+    seed: u64,
+    mode: u64,
+    count: u64,
+    input: &mut impl Read,
+    output: &mut impl Write,
+) -> Result<(), Stop> {
+    let lengths = covered(mode)?.matrix_lengths();
+    let mut damage = Damage::new(seed, count);
+    for frame in 0..count {
+        let mut matrices = take_four(input, lengths)?;
+        if let Some(short) = (0..4).find(|&m| matrices[m].len() != lengths[m]) {
+            return Err(refused(3, 4 + short, frame));
+        }
+        damage.frame(frame, &mut matrices);
+        output.write_all(&matrices.concat())?;
+    }
+    Ok(())
+}
+
+/// Document 01, what the sheets cover: holds two outputs of send against each other.
+pub fn compare(mode: u64, count: u64, a: &[u8], b: &[u8]) -> Result<(), Stop> {
+    let covered = covered(mode)?;
+    if let Some(byte) = (0..a.len().min(b.len())).find(|&n| a[n] != b[n]) {
+        let bit = (a[byte] ^ b[byte]).leading_zeros() as usize;
+        return Err(Stop::Different(name_of_bit(covered, 8 * byte + bit)));
+    }
+    let frame_length: usize = covered.matrix_lengths().iter().sum();
+    let expected = u128::from(count) * frame_length as u128;
+    if a.len() != b.len() || a.len() as u128 != expected {
+        return Err(Stop::Different(format!(
+            "mode {mode} lengths {} and {} of {expected}",
+            a.len(),
+            b.len()
+        )));
+    }
+    Ok(())
+}
+
+/// Document 01, lent lengths: the L1 frame, matrix, row and column of a bit of send's output.
+fn name_of_bit(mode: &Mode, bit: usize) -> String {
+    let lengths = mode.matrix_lengths();
+    let frame_bits = 8 * lengths.iter().sum::<usize>();
+    let frame = bit / frame_bits;
+    let mut rest = bit % frame_bits;
+    let mut matrix = 0;
+    while rest >= 8 * lengths[matrix] {
+        rest -= 8 * lengths[matrix];
+        matrix += 1;
+    }
+    // Each of the four has 512 rows in an L1 frame.
+    let row_bits = 8 * lengths[matrix] / 512;
+    let name = ["PM", "PX1", "PX2", "control"][matrix];
+    let (row, column) = (rest / row_bits, rest % row_bits);
+    let number = mode.number;
+    format!("mode {number} frame {frame} {name} row {row} column {column}")
+}
+
+/// The input of the stored vectors: rate, frame bits and bytes of P1, PIDS, P3 of MP2 and of MP3.
+const VECTORS: [(Rate, usize, usize); 4] = [
+    (Rate::TwoFifths, P1_BITS, 18_272),
+    (Rate::TwoFifths, PIDS_BITS, 160),
+    (Rate::OneHalf, 2_304, 2_304),
+    (Rate::OneHalf, 4_608, 4_608),
+];
+
+/// Sections 8, 9 and 11: scrambled, coded and returned frames, and the control blocks.
+pub fn vectors(input: &mut impl Read, output: &mut impl Write) -> Result<(), Stop> {
+    let buffers = take_four(input, VECTORS.map(|(_, _, length)| length))?;
+    if let Some(short) = (0..4).find(|&n| buffers[n].len() != VECTORS[n].2) {
+        return Err(refused(3, short, 0));
+    }
+    for (frames, (rate, frame_bits, _)) in buffers.iter().zip(VECTORS) {
+        let bits = unpack(frames);
+        let scrambled: Vec<bool> = bits.chunks(frame_bits).flat_map(scramble).collect();
+        let coded = code_frames(rate, frame_bits, frames);
+        let coded_bits = coded.len() / (bits.len() / frame_bits);
+        let returned =
+            decode_frames(rate, coded_bits, &coded).map_err(|place| refused(8, place, 0))?;
+        output.write_all(&pack(&scrambled))?;
+        output.write_all(&pack(&coded))?;
+        output.write_all(&returned)?;
+    }
+    for mode in [1, 2, 3, 11] {
+        output.write_all(&control(mode))?;
+    }
+    Ok(())
+}
+
+/// Document 01, sheet guarantees: draws the input of the stored vectors.
+pub fn draw_vectors(seed: u64, output: &mut impl Write) -> Result<(), Stop> {
+    let mut draw = Draw::new(seed);
+    for (_, _, length) in VECTORS {
+        output.write_all(&draw.bytes(length))?;
+    }
+    Ok(())
+}

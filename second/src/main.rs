@@ -1,0 +1,116 @@
+//! The arguments of the program; the work is done in the library.
+
+use std::ffi::OsString;
+use std::io::{self, BufWriter, Write};
+use std::process::ExitCode;
+
+use second::commands::{self, Stop};
+use second::{cells, run::Refusal};
+
+/// The commands with their operands.
+const COMMANDS: [(&str, &str); 11] = [
+    ("draw", "SEED MODE COUNT"),
+    ("send", "MODE COUNT"),
+    ("read", "MODE COUNT"),
+    ("read-on", "MODE COUNT"),
+    ("cells", ""),
+    ("all-cells", ""),
+    ("control", "MODE"),
+    ("damage", "SEED MODE COUNT"),
+    ("compare", "MODE COUNT FILE_A FILE_B"),
+    ("vectors", ""),
+    ("draw-vectors", "SEED"),
+];
+
+/// No section: runs one command; 0 if it did its work, 1 if refused or different, 2 otherwise.
+fn main() -> ExitCode {
+    let arguments: Vec<OsString> = std::env::args_os().skip(1).collect();
+    let name = arguments.first().and_then(|name| name.to_str());
+    let Some(&(name, operands)) = COMMANDS.iter().find(|(known, _)| Some(*known) == name) else {
+        let known = COMMANDS.map(|(known, _)| known).join("|");
+        eprintln!("usage: second {known} ...");
+        return ExitCode::from(2);
+    };
+    let Some((numbers, files)) = split(operands, &arguments[1..]) else {
+        let usage = format!("usage: second {name} {operands}");
+        eprintln!("{}", usage.trim_end());
+        return ExitCode::from(2);
+    };
+    let mut output = BufWriter::new(io::stdout().lock());
+    let done = dispatch(name, &numbers, files, &mut output);
+    let flushed = output.flush().map_err(Stop::Trouble);
+    ended(done.and(flushed))
+}
+
+/// No section: the operands as numbers and files; none if they do not fit the usage.
+fn split<'a>(operands: &str, given: &'a [OsString]) -> Option<(Vec<u64>, &'a [OsString])> {
+    let names: Vec<&str> = operands.split_whitespace().collect();
+    if names.len() != given.len() {
+        return None;
+    }
+    let numbers = names
+        .iter()
+        .filter(|name| !name.starts_with("FILE"))
+        .count();
+    let (given, files) = given.split_at(numbers);
+    let numbers: Option<Vec<u64>> = given.iter().map(decimal).collect();
+    Some((numbers?, files))
+}
+
+/// No section: an operand of decimal digits; a great one stands as the greatest.
+fn decimal(operand: &OsString) -> Option<u64> {
+    let digits = operand.to_str()?;
+    if digits.is_empty() || !digits.bytes().all(|byte| byte.is_ascii_digit()) {
+        return None;
+    }
+    Some(digits.parse().unwrap_or(u64::MAX))
+}
+
+/// No section: calls the command with its operands and the standard streams.
+fn dispatch(
+    name: &str,
+    numbers: &[u64],
+    files: &[OsString],
+    output: &mut impl Write,
+) -> Result<(), Stop> {
+    let mut input = io::stdin().lock();
+    match (name, numbers) {
+        ("draw", &[seed, mode, count]) => commands::draw(seed, mode, count, output),
+        ("send", &[mode, count]) => commands::send(mode, count, &mut input, output),
+        ("read", &[mode, count]) => commands::read(mode, count, &mut input, output),
+        ("read-on", &[mode, count]) => {
+            commands::read_on(mode, count, &mut input, output, &mut io::stderr().lock())
+        }
+        ("cells", _) => Ok(cells::list(&mut input, output)?),
+        ("all-cells", _) => Ok(cells::all(output)?),
+        ("control", &[mode]) => commands::control_blocks(mode, output),
+        ("damage", &[seed, mode, count]) => commands::damage(seed, mode, count, &mut input, output),
+        ("compare", &[mode, count]) => {
+            let (a, b) = (std::fs::read(&files[0])?, std::fs::read(&files[1])?);
+            commands::compare(mode, count, &a, &b)
+        }
+        ("vectors", _) => commands::vectors(&mut input, output),
+        ("draw-vectors", &[seed]) => commands::draw_vectors(seed, output),
+        _ => Err(Stop::Trouble(io::Error::other("no such command"))),
+    }
+}
+
+/// Document 01, refusals: tells how the command ended.
+fn ended(done: Result<(), Stop>) -> ExitCode {
+    match done {
+        Ok(()) => ExitCode::SUCCESS,
+        Err(Stop::Refused { refusal, frame }) => {
+            let Refusal { number, place } = refusal;
+            eprintln!("refused: number {number} place {place} frame {frame}");
+            ExitCode::from(1)
+        }
+        Err(Stop::Different(difference)) => {
+            println!("{difference}");
+            ExitCode::from(1)
+        }
+        Err(Stop::Trouble(error)) => {
+            eprintln!("trouble: {error}");
+            ExitCode::from(2)
+        }
+    }
+}

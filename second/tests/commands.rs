@@ -1,0 +1,143 @@
+//! The commands of the program.
+
+use second::commands::{self, Stop};
+
+/// The commands: the output of a drawn run's sending.
+fn sent(seed: u64, mode: u64, count: u64) -> (Vec<u8>, Vec<u8>) {
+    let mut frames = Vec::new();
+    commands::draw(seed, mode, count, &mut frames).unwrap();
+    let mut matrices = Vec::new();
+    commands::send(mode, count, &mut &frames[..], &mut matrices).unwrap();
+    (frames, matrices)
+}
+
+/// The commands: number, place and frame of a refusal.
+fn refusal(result: Result<(), Stop>) -> (u32, usize, u64) {
+    match result {
+        Err(Stop::Refused { refusal, frame }) => (refusal.number, refusal.place, frame),
+        other => panic!("not refused: {other:?}"),
+    }
+}
+
+/// Reading: what was drawn comes back in the order of the L1 frames.
+#[test]
+fn reading_returns_the_frames() {
+    let (frames, matrices) = sent(1, 2, 5);
+    let mut returned = Vec::new();
+    commands::read(2, 5, &mut &matrices[..], &mut returned).unwrap();
+    let drawn: Vec<&[u8]> = frames.chunks(18_432 + 2_304).collect();
+    let mut expected = Vec::new();
+    for t in 0..5 {
+        expected.extend(&drawn[t][..18_432]);
+        if t >= 2 {
+            expected.extend(&drawn[t - 2][18_432..]);
+        }
+    }
+    assert!(returned == expected);
+}
+
+/// Reading on: one line for each L1 frame, and the accepted ones returned.
+#[test]
+fn reading_on() {
+    let (frames, mut matrices) = sent(1, 1, 4);
+    let frame_length = 46_080 + 4_096;
+    matrices[frame_length + 7] ^= 1;
+    let mut returned = Vec::new();
+    let mut report = Vec::new();
+    commands::read_on(1, 4, &mut &matrices[..], &mut returned, &mut report).unwrap();
+    let report = String::from_utf8(report).unwrap();
+    let lines: Vec<&str> = report.lines().collect();
+    assert_eq!(lines.len(), 4);
+    assert_eq!(lines[0], "frame 0 number 0 place 0");
+    assert!(lines[1].starts_with("frame 1 number 5 place 0"));
+    assert_eq!(lines[3], "frame 3 number 0 place 0");
+    let drawn: Vec<&[u8]> = frames.chunks(18_432).collect();
+    assert!(returned == [drawn[0], drawn[2], drawn[3]].concat());
+}
+
+/// Short input: number 3 and the first short buffer.
+#[test]
+fn short_input() {
+    let (frames, matrices) = sent(1, 11, 2);
+    let frame_length = 18_272 + 160 + 2 * 4_608;
+    for (length, place) in [(0, 0), (18_272, 1), (18_432, 2), (18_432 + 4_608, 3)] {
+        let mut input = &frames[..frame_length + length];
+        let mut output = Vec::new();
+        let stop = commands::send(11, 2, &mut input, &mut output);
+        assert_eq!(refusal(stop), (3, place, 1));
+        assert!(output == matrices[..matrices.len() / 2]);
+    }
+    for (length, place) in [(46_079, 4), (46_080, 5), (55_297, 6), (65_000, 7)] {
+        let stop = commands::read(11, 2, &mut &matrices[..length], &mut Vec::new());
+        assert_eq!(refusal(stop), (3, place, 0));
+    }
+    let stop = commands::send(4, 0, &mut &frames[..], &mut Vec::new());
+    assert_eq!(refusal(stop), (1, 0, 0));
+}
+
+/// Damage: reproducible, now and then on one L1 frame only, never of other lengths.
+#[test]
+fn damage() {
+    let (_, matrices) = sent(1, 3, 4);
+    let frame_length = matrices.len() / 4;
+    let mut one_only = 0;
+    for seed in 0..60 {
+        let mut damaged = Vec::new();
+        commands::damage(seed, 3, 4, &mut &matrices[..], &mut damaged).unwrap();
+        assert_eq!(damaged.len(), matrices.len());
+        let pairs = damaged
+            .chunks(frame_length)
+            .zip(matrices.chunks(frame_length));
+        let hit = pairs.filter(|(a, b)| a != b).count();
+        one_only += usize::from(hit == 1);
+    }
+    assert!((25..50).contains(&one_only));
+}
+
+/// Compare: the name of the first differing bit, or the lengths.
+#[test]
+fn compare() {
+    let (_, matrices) = sent(1, 11, 3);
+    let length = matrices.len();
+    assert!(commands::compare(11, 3, &matrices, &matrices).is_ok());
+    let frame_length = length / 3;
+    for (byte, bit, name) in [
+        (0, 0, "mode 11 frame 0 PM row 0 column 0"),
+        (frame_length + 91, 3, "mode 11 frame 1 PM row 1 column 11"),
+        (46_080 + 9_215, 7, "mode 11 frame 0 PX1 row 511 column 143"),
+        (55_296 + 18, 2, "mode 11 frame 0 PX2 row 1 column 2"),
+        (length - 8, 5, "mode 11 frame 2 control row 511 column 5"),
+    ] {
+        let mut other = matrices.clone();
+        other[byte] ^= 128 >> bit;
+        match commands::compare(11, 3, &matrices, &other) {
+            Err(Stop::Different(text)) => assert_eq!(text, name),
+            other => panic!("{other:?}"),
+        }
+    }
+    let shorter = commands::compare(11, 3, &matrices, &matrices[..length - 1]);
+    assert!(matches!(shorter, Err(Stop::Different(_))));
+    let both_short = commands::compare(11, 4, &matrices, &matrices);
+    assert!(matches!(both_short, Err(Stop::Different(_))));
+}
+
+/// Vectors: the lengths, and the frames returned at the end of each part.
+#[test]
+fn vectors() {
+    let mut input = Vec::new();
+    commands::draw_vectors(3, &mut input).unwrap();
+    let mut output = Vec::new();
+    commands::vectors(&mut &input[..], &mut output).unwrap();
+    let mut rest = &output[..];
+    let mut frames = &input[..];
+    for (length, coded) in [(18_272, 45_680), (160, 400), (2_304, 4_608), (4_608, 9_216)] {
+        let returned = &rest[length + coded..2 * length + coded];
+        assert!(returned == &frames[..length]);
+        rest = &rest[2 * length + coded..];
+        frames = &frames[length..];
+    }
+    let control: Vec<u8> = [1, 2, 3, 11].map(second::control::control).concat();
+    assert!(rest == control);
+    let stop = commands::vectors(&mut &input[..18_300], &mut Vec::new());
+    assert_eq!(refusal(stop), (3, 1, 0));
+}
