@@ -1,0 +1,32 @@
+-- A call either succeeds or is refused. Assumes nothing.
+use mathlib.Core.Path.{_≡_, refl, ap, _∙_}
+use mathlib.Core.Logic.{_⊎_, inl, inr, _≢_}
+use Rattle.runs.specs.declared.Answer.{Answer}
+use Rattle.runs.specs.declared.Answer.the-variants.{Success, ModeNotCovered, StateNotValid, WrongLength, WrongControl, P1NotCoded, PidsNotCoded, FillNotZero, ExtendedNotCoded}
+use Rattle.runs.specs.Answers.{numberOf, onSuccess}
+use Rattle.runs.specs.Lent.{Result}
+
+either : (a : Answer) → (a ≡ Success) ⊎ ((done refused : Result) → onSuccess a done refused ≡ refused)
+unfolding onSuccess
+either Success = inl refl
+either ModeNotCovered = inr (λ x y. refl)
+either StateNotValid = inr (λ x y. refl)
+either (WrongLength k) = inr (λ x y. refl)
+either (WrongControl k) = inr (λ x y. refl)
+either P1NotCoded = inr (λ x y. refl)
+either (PidsNotCoded k) = inr (λ x y. refl)
+either (FillNotZero k) = inr (λ x y. refl)
+either (ExtendedNotCoded k) = inr (λ x y. refl)
+
+on-done : (done refused : Result) → onSuccess Success done refused ≡ done
+unfolding onSuccess
+on-done done refused = refl
+
+-- a call whose number is not 0 was refused
+pub refused-is : (a : Answer) (done refused : Result) → numberOf (done .answer) ≡ 0 → numberOf (onSuccess a done refused .answer) ≢ 0
+    → onSuccess a done refused ≡ refused
+refused-is a done refused ok ne = go (either a)
+  where
+    go : (a ≡ Success) ⊎ ((x y : Result) → onSuccess a x y ≡ y) → onSuccess a done refused ≡ refused
+    go (inl e) = absurd (ne (ap (λ (x : Answer). numberOf (onSuccess x done refused .answer)) e ∙ ap (λ (r : Result). numberOf (r .answer)) (on-done done refused) ∙ ok))
+    go (inr f) = f done refused

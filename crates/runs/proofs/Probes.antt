@@ -1,0 +1,41 @@
+-- The definitions give the starred probe points: computed, with Interleaver IV's counter in closed form. Assumes nothing.
+use mathlib.Core.Path.{_≡_, refl, sym, ap, subst, fun-ext}
+use Prim.Native.Nat.{ℕ, _+_, _*_, _/_, _%_}
+use native.Mathlib.Omega.{arith}
+use Rattle.bits.specs.Bits.{number}
+use Rattle.coding.specs.Coder.{coded, output, back}
+use Rattle.interleaving.specs.Matrix.{cell, partitionOf, blockOf, rowOf, columnOf}
+use Rattle.interleaving.specs.EquationsI as I
+use Rattle.interleaving.specs.EquationsII as II
+use Rattle.interleaving.specs.EquationsIV as IV
+use Rattle.interleaving.specs.InverseIV.{missed}
+use Rattle.interleaving.specs.PM.{v, p1Place, pidsPlace}
+use Rattle.interleaving.specs.PX.{v4, partitions, runs, order, place}
+use Rattle.interleaving.proofs.Counter.{pt-is}
+use Rattle.interleaving.proofs.OncePX.{perm4}
+use Rattle.control.specs.Control.{sequence, field, sum, parity, rsid, assembled, stored, encoded}
+use Rattle.runs.specs.Probes.{Hold, pointsBy, points}
+
+-- step i's cell with its counter in closed form
+placeBy : ℕ → ℕ
+placeBy i =
+    let p : ℕ = IV.partition 4 32 36 2 v4 i in
+    let n : ℕ = (i + 0) / 8 * 2 + (i + 0) % 2 in
+    cell 4 36 p (IV.blockAt 4 32 36 2 v4 p n) (IV.rowAt 4 32 36 2 v4 n) (IV.columnAt 4 32 36 2 v4 n)
+
+counted : (i : ℕ) → IV.pt 4 32 36 2 v4 i ≡ (i + 0) / 8 * 2 + (i + 0) % 2
+unfolding missed
+counted i = omega (arith, pt-is 4 32 36 2 v4 v4 (omega arith) (omega arith) perm4 i)
+
+place-by : (i : ℕ) → placeBy i ≡ place 1 i
+unfolding place partitions runs order IV.place placeBy
+place-by i =
+    let p : ℕ = IV.partition 4 32 36 2 v4 i in
+    sym (ap (λ (n : ℕ). cell 4 36 p (IV.blockAt 4 32 36 2 v4 p n) (IV.rowAt 4 32 36 2 v4 n) (IV.columnAt 4 32 36 2 v4 n)) (counted i))
+
+computed : Hold (pointsBy placeBy)
+unfolding pointsBy placeBy v v4 p1Place pidsPlace I.place I.partition I.partIndex I.block I.kOf I.row I.column II.place II.partition II.partIndex II.block II.kOf IV.partition IV.partIndex IV.blockAt IV.rowAt IV.columnAt cell partitionOf blockOf rowOf columnOf coded output back number sequence field sum parity rsid assembled stored encoded
+computed = refl
+
+pub probes-hold : Hold points
+probes-hold = subst (λ (f : ℕ → ℕ). Hold (pointsBy f)) (fun-ext place-by) computed

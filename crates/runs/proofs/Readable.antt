@@ -1,0 +1,95 @@
+-- There is a reader's run that is handed all that was sent. Assumes nothing.
+use Prim.Native.Nat.{ℕ, zero, suc, _+_, _≤_, _<_}
+use mathlib.Core.Path.{_≡_, refl, ap}
+use mathlib.Core.Bool.{true}
+use mathlib.Core.Option.{none}
+use mathlib.Core.List.{List, [], _∷_}
+use native.Mathlib.Nat.{zero-add}
+use native.Mathlib.Omega.{arith}
+use lib.ListN.{replicate, length-replicate}
+use Rattle.control.specs.Modes.{covered}
+use Rattle.control.proofs.Sent as control
+use Rattle.runs.specs.declared.State.{State}
+use Rattle.runs.specs.Lengths.{P3, P4, Kind, kindOf, frameLen, readerLen, p1Len, pidsLen, controlLen}
+use Rattle.runs.specs.Lent.{Frames, Lent, Memory, Result, signalOf}
+use Rattle.runs.specs.Answers.{numberOf}
+use Rattle.runs.specs.Causes.{wrong}
+use Rattle.runs.specs.Starting.{Started, memorySizes, zeros, start}
+use Rattle.runs.specs.Sending.{lentSizes}
+use Rattle.runs.specs.Reading.{readStep}
+use Rattle.runs.specs.Runs.{calls, Fitting, SenderRun, ReaderRun, readings, signalsSent, count, frameAt}
+use Rattle.runs.specs.Defined.{defined, table}
+use Rattle.runs.specs.Handed.{Handed, done, given}
+use Rattle.runs.proofs.PM.{pm-length}
+use Rattle.runs.proofs.Passing.{wrong-cons, wrong-nil}
+use Rattle.runs.proofs.States.{start-ok}
+use Rattle.runs.proofs.Succeeds.{start-succeeds}
+use Rattle.runs.proofs.Sender.{as-defined-is, covered-of, right-at}
+use Rattle.runs.proofs.Fixed.{in-length, matrixIn}
+use Rattle.runs.proofs.Memory.{readMemory}
+use Rattle.runs.proofs.ReaderRun.{Got, read-run}
+
+pub start-clear : (len : Kind → ℕ) (mode : ℕ) → covered mode ≡ true → numberOf (start len mode (zeros len mode) .answer) ≡ 0
+unfolding memorySizes numberOf
+start-clear len mode cov =
+    ap (λ (s : Started). numberOf (s .answer))
+    (start-succeeds len mode (zeros len mode) cov
+    (wrong-cons _ _ _ _ (length-replicate _ 0) (wrong-cons _ _ _ _ (length-replicate _ 0) (wrong-nil _))))
+
+blank : ℕ → Frames
+blank mode =
+    record {
+      p1 = replicate p1Len 0;
+      pids = replicate pidsLen 0;
+      p3 = replicate (frameLen (kindOf mode P3)) 0;
+      p4 = replicate (frameLen (kindOf mode P4)) 0;
+    }
+
+module _ (mode : ℕ) (cov : covered mode ≡ true) (F : ℕ → Frames) (n : ℕ)
+    (right : (t : ℕ) → t < n → Fitting mode (F t)) where
+  abbrev handing : ℕ → Lent
+  handing t = record { frames = blank mode; signal = defined mode F t }
+
+  handing-fits : (t : ℕ) → t < n → wrong 0 (lentSizes mode (handing t)) ≡ none
+  unfolding lentSizes blank defined signalOf matrixIn controlLen
+  handing-fits t h =
+      let r = right t h in
+      wrong-cons _ _ _ _ (length-replicate {A = ℕ} p1Len 0)
+      (wrong-cons _ _ _ _ (length-replicate {A = ℕ} pidsLen 0)
+      (wrong-cons _ _ _ _ (length-replicate {A = ℕ} (frameLen (kindOf mode P3)) 0)
+      (wrong-cons _ _ _ _ (length-replicate {A = ℕ} (frameLen (kindOf mode P4)) 0)
+      (wrong-cons _ _ _ _ (pm-length (F t .p1) (F t .pids))
+      (wrong-cons _ _ _ _ (in-length mode cov F n right P3 t h)
+      (wrong-cons _ _ _ _ (in-length mode cov F n right P4 t h) (wrong-cons _ _ _ _ (control.control-length mode) (wrong-nil _))))))))
+
+  straight : (k T : ℕ) → T + k ≤ n → (r : State) (m : Memory)
+      → (gs : List Result) × Handed mode (table T k (defined mode F)) (calls readStep r m (table T k handing)) gs
+  unfolding table calls
+  straight zero T h r m = ([], done)
+  straight (suc k) T h r m =
+      let (gs, rest) = straight k (suc T) (omega arith) (readStep r m (handing T) .state) (readStep r m (handing T) .memory) in
+      (readStep r m (handing T) ∷ gs, given (record { same = refl; lengths = handing-fits T (omega arith) }) rest)
+
+pub can-read : (mode : ℕ) (a : SenderRun mode)
+    → (b : ReaderRun mode) × (gs : List Result) × Handed mode (signalsSent mode a) (readings mode b) gs
+unfolding readings
+can-read mode a =
+    let cov = covered-of mode a in
+    let n = count mode a in
+    let F = frameAt mode a in
+    let right = right-at mode a in
+    let first = start readerLen mode (zeros readerLen mode) in
+    let (gs, h) = straight mode cov F n right n 0 (omega arith) (first .state) (first .memory) in (
+      record { upon = zeros readerLen mode; started = start-clear readerLen mode cov; lents = table 0 n (handing mode cov F n right) },
+      gs,
+      rw (as-defined-is mode a) h,
+    )
+
+pub read-all : (mode : ℕ) (a : SenderRun mode) (b : ReaderRun mode) (gs : List Result)
+    → Handed mode (signalsSent mode a) (readings mode b) gs
+    → Got mode (covered-of mode a) (frameAt mode a) (count mode a) (right-at mode a) 0 (count mode a) gs
+unfolding readings readMemory
+read-all mode a b gs h =
+    read-run mode (covered-of mode a) (frameAt mode a) (count mode a) (right-at mode a) h
+    (count mode a) 0 (zero-add (count mode a)) (as-defined-is mode a) (b .lents)
+    (ap (λ (s : Started). calls readStep (s .state) (s .memory) (b .lents)) (start-ok readerLen mode (b .upon) (b .started) .1))

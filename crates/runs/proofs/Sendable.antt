@@ -1,0 +1,83 @@
+-- There is a sender's run that sends given frames. Assumes nothing.
+use Prim.Native.Nat.{ℕ, suc, _%_}
+use mathlib.Core.Path.{_≡_, refl, ap, _∙_}
+use mathlib.Core.Bool.{true}
+use mathlib.Core.Option.{none}
+use mathlib.Core.List.{List, [], _∷_, map}
+use lib.ListN.{replicate, length-replicate}
+use Rattle.control.specs.Modes.{covered}
+use Rattle.runs.specs.declared.State.{State}
+use Rattle.runs.specs.Lengths.{P3, P4, kindOf, matrixLen, senderLen, pmLen, controlLen}
+use Rattle.runs.specs.Lent.{Frames, Lent, Memory, Result, ByteFrames, memoryNext}
+use Rattle.runs.specs.Answers.{numberOf}
+use Rattle.runs.specs.Causes.{wrong}
+use Rattle.runs.specs.Starting.{Started, memorySizes, zeros}
+use Rattle.runs.specs.Sending.{lentSizes, sendStep, sent}
+use Rattle.runs.specs.Runs.{calls, succeeded, Every, Fitting, SenderRun, sendings, framesSent}
+use Rattle.runs.proofs.Passing.{wrong-append, wrong-cons, wrong-nil}
+use Rattle.runs.proofs.States.{next-at, start-ok, stateAt, valid-at}
+use Rattle.runs.proofs.Succeeds.{send-succeeds}
+use Rattle.runs.proofs.Sender.{MemoryRight, framesIn, memory-right}
+use Rattle.runs.proofs.Readable.{start-clear}
+
+lending : ℕ → Frames → Lent
+lending mode f =
+    record {
+      frames = f;
+      signal = record {
+        matrices = record {
+          pm = replicate pmLen 0;
+          px1 = replicate (matrixLen (kindOf mode P3)) 0;
+          px2 = replicate (matrixLen (kindOf mode P4)) 0;
+        };
+        control = replicate controlLen 0;
+      };
+    }
+
+lending-fits : (mode : ℕ) (f : Frames) → Fitting mode f → wrong 0 (lentSizes mode (lending mode f)) ≡ none
+unfolding lentSizes lending
+lending-fits mode f r =
+    wrong-cons _ _ _ _ (r .p1-right)
+    (wrong-cons _ _ _ _ (r .pids-right)
+    (wrong-cons _ _ _ _ (r .extended-right P3)
+    (wrong-cons _ _ _ _ (r .extended-right P4)
+    (wrong-cons _ _ _ _ (length-replicate {A = ℕ} pmLen 0)
+    (wrong-cons _ _ _ _ (length-replicate {A = ℕ} (matrixLen (kindOf mode P3)) 0)
+    (wrong-cons _ _ _ _ (length-replicate {A = ℕ} (matrixLen (kindOf mode P4)) 0)
+    (wrong-cons _ _ _ _ (length-replicate {A = ℕ} controlLen 0) (wrong-nil _))))))))
+
+send-sends : (mode : ℕ) → covered mode ≡ true → (T : ℕ) (m : Memory) (f : Frames) → MemoryRight senderLen mode m → Fitting mode f
+    → sendStep (stateAt mode T) m (lending mode f) ≡ sent (stateAt mode T) m (lending mode f)
+unfolding memorySizes
+send-sends mode cov T m f mr fr =
+    send-succeeds (stateAt mode T) m (lending mode f) (valid-at mode cov T)
+    (wrong-append 0 _ _ (lending-fits mode f fr) (λ j. wrong-cons _ _ _ _ (mr P3) (wrong-cons _ _ _ _ (mr P4) (wrong-nil _))))
+
+-- the frames of the calls that succeeded, where the first gave r
+sentAfter : ℕ → Frames → List Frames → Result → List Frames
+sentAfter mode f fs r =
+    framesIn (succeeded (record { lent = lending mode f; result = r } ∷ calls sendStep (r .state) (r .memory) (map (lending mode) fs)))
+
+send-each : (mode : ℕ) → covered mode ≡ true → (fs : List Frames) → Every (Fitting mode) fs → (T : ℕ) (m : Memory) → MemoryRight senderLen mode m
+    → framesIn (succeeded (calls sendStep (stateAt mode T) m (map (lending mode) fs))) ≡ fs
+unfolding calls succeeded sent sentAfter lending numberOf
+send-each mode cov [] each T m mr = refl
+send-each mode cov (f ∷ fs) each T m mr =
+    ap (sentAfter mode f fs) (send-sends mode cov T m f mr (each .0))
+    ∙ ap (λ (r : State). f ∷ framesIn (succeeded (calls sendStep r (memoryNext mode (T % 2) m f) (map (lending mode) fs)))) (next-at mode T)
+    ∙ ap (λ (l : List Frames). f ∷ l)
+    (send-each mode cov fs (each .1) (suc T) (memoryNext mode (T % 2) m f) (memory-right mode cov T m f mr (each .0)))
+
+all-bytes : (mode : ℕ) (fs : List Frames) → Every (Fitting mode) fs → Every (λ (l : Lent). ByteFrames (l .frames)) (map (lending mode) fs)
+unfolding lending
+all-bytes mode [] each = tt
+all-bytes mode (f ∷ fs) each = (each .0 .bytes, all-bytes mode fs (each .1))
+
+pub can-send : (mode : ℕ) → covered mode ≡ true → (fs : List Frames) → Every (Fitting mode) fs → (a : SenderRun mode) × (framesSent mode a ≡ fs)
+unfolding framesSent sendings
+can-send mode cov fs each =
+    let go = start-clear senderLen mode cov in (
+      record { upon = zeros senderLen mode; started = go; lents = map (lending mode) fs; bytes = all-bytes mode fs each },
+      ap (λ (s : Started). framesIn (succeeded (calls sendStep (s .state) (s .memory) (map (lending mode) fs)))) (start-ok senderLen mode (zeros senderLen mode) go .1)
+          ∙ send-each mode cov fs each 0 (zeros senderLen mode) (λ x. elim x [ P3 ↦ length-replicate _ 0 | P4 ↦ length-replicate _ 0 ]),
+    )

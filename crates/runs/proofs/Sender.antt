@@ -1,0 +1,137 @@
+-- A run of a sender, call by call: what it has sent is the definition of what is sent. Assumes nothing.
+use Prim.Native.Nat.{ℕ, zero, suc, _%_, _<_}
+use mathlib.Core.Path.{_≡_, refl, sym, ap, ap₂, _∙_, fun-ext}
+use mathlib.Core.Bool.{true, cond}
+use mathlib.Core.Option.{Option, none, some}
+use mathlib.Core.List.{List, [], _∷_, _++_, map}
+use native.Mathlib.Nat.{add-zero, not-suc-le-zero, le-of-suc-le-suc}
+use lib.ListN.{length, getD, length-replicate}
+use lib.Dec.{eqb}
+use Rattle.control.specs.Modes.{covered}
+use Rattle.runs.specs.declared.Answer.{Answer}
+use Rattle.runs.specs.declared.Answer.the-variants.{WrongLength}
+use Rattle.runs.specs.Lengths.{Extended, P3, P4, Kind, kindOf, senderLen}
+use Rattle.runs.specs.Lent.{Frames, Signal, Lent, Memory, Result, memoryOf, ByteFrames, signalOf, memoryNext}
+use Rattle.runs.specs.Answers.{numberOf, onSuccess}
+use Rattle.runs.specs.Causes.{Size, at, judge, wrong}
+use Rattle.runs.specs.Starting.{memorySizes, zeros}
+use Rattle.runs.specs.Sending.{lentSizes, refused, sendAnswer, sendStep, sent}
+use Rattle.runs.specs.Runs.{Call, calls, succeeded, Every, Fitting, SenderRun, sendings, framesSent, signalsSent, noFrames, noSignal, count, frameAt, matricesAt}
+use Rattle.runs.specs.Defined.{defined, table}
+use Rattle.runs.proofs.Extended.{memory-length}
+use Rattle.runs.proofs.Lists.{length-map, table-at, table-shift}
+use Rattle.runs.proofs.Passing.{wrong-head}
+use Rattle.runs.proofs.States.{defined-shift, defined-start, definedFrom, memoryFrom, next-at, start-ok, stateAt, valid-at}
+
+lent-right : (mode : ℕ) (l : Lent) (rest : List Size) → ByteFrames (l .frames) → wrong 0 (lentSizes mode l ++ rest) ≡ none → Fitting mode (l .frames)
+unfolding lentSizes
+lent-right mode l rest bytes e =
+    let (a, e₁) = wrong-head _ _ _ _ e in
+    let (b, e₂) = wrong-head _ _ _ _ e₁ in
+    let (c, e₃) = wrong-head _ _ _ _ e₂ in
+    let (d, e₄) = wrong-head _ _ _ _ e₃ in
+    record { p1-right = a; pids-right = b; extended-right = λ x. elim x [ P3 ↦ c | P4 ↦ d ]; bytes = bytes }
+
+abbrev pub MemoryRight : (Kind → ℕ) → ℕ → Memory → Type 0
+MemoryRight len mode m = (e : Extended) → length (memoryOf m e) ≡ len (kindOf mode e)
+
+abbrev pub framesIn : List Call → List Frames
+framesIn ss = map (λ (c : Call). c .lent .frames) ss
+
+abbrev signalsIn : List Call → List Signal
+signalsIn ss = map (λ (c : Call). c .result .lent .signal) ss
+
+record Ran (mode T : ℕ) (m : Memory) (ss : List Call) : Type 0 where
+  signals : signalsIn ss ≡ table 0 (length ss) (definedFrom mode T m (λ t. getD (framesIn ss) t noFrames))
+  rights : (t : ℕ) → t < length ss → Fitting mode (getD (framesIn ss) t noFrames)
+
+-- one more call that succeeded, in front
+ran-cons : (mode T : ℕ) (m : Memory) (l : Lent) (ss : List Call) → Fitting mode (l .frames)
+    → Ran mode (suc T) (memoryNext mode (T % 2) m (l .frames)) ss
+    → Ran mode T m (record { lent = l; result = sent (stateAt mode T) m l } ∷ ss)
+unfolding table sent definedFrom memoryFrom
+ran-cons mode T m l ss right ih =
+    record {
+      signals = ap₂ (λ (x : Signal) (xs : List Signal). x ∷ xs) here (ih .signals ∙ rest);
+      rights = λ t. elim t [ zero ↦ λ h. right | suc k ↦ λ h. ih .rights k (le-of-suc-le-suc h) ];
+    }
+  where
+    F : ℕ → Frames
+    F t = getD (l .frames ∷ framesIn ss) t noFrames
+
+    here : signalOf mode (T % 2) m (l .frames) ≡ definedFrom mode T m F 0
+    here = ap (λ (k : ℕ). signalOf mode (k % 2) m (l .frames)) (sym (add-zero T))
+
+    rest : table 0 (length ss) (definedFrom mode (suc T) (memoryNext mode (T % 2) m (l .frames)) (λ k. F (suc k)))
+        ≡ table 1 (length ss) (definedFrom mode T m F)
+    rest = ap (table 0 (length ss)) (fun-ext (λ t. sym (defined-shift mode T m F t))) ∙ sym (table-shift 0 (length ss) (definedFrom mode T m F))
+
+pub memory-right : (mode : ℕ) → covered mode ≡ true → (t : ℕ) (m : Memory) (f : Frames)
+    → MemoryRight senderLen mode m → Fitting mode f → MemoryRight senderLen mode (memoryNext mode (t % 2) m f)
+unfolding memoryNext
+memory-right mode cov t m f mr fr P3 = memory-length (kindOf mode P3) (t % 2) (m .for3) (f .p3)
+memory-right mode cov t m f mr fr P4 = memory-length (kindOf mode P4) (t % 2) (m .for4) (f .p4)
+
+-- a sending in L1 frame T's state is refused for a length, and then changes nothing, or it succeeds with right lengths
+send-cases : (mode : ℕ) → covered mode ≡ true → (T : ℕ) (m : Memory) (l : Lent) → ByteFrames (l .frames) → (A : Result → Type 0)
+    → ((k : ℕ) → A (refused (stateAt mode T) m l (WrongLength k)))
+    → (Fitting mode (l .frames) → A (sent (stateAt mode T) m l))
+    → A (sendStep (stateAt mode T) m l)
+unfolding sendStep sendAnswer judge onSuccess
+send-cases mode cov T m l bytes A bad good = rw (valid-at mode cov T) (go (wrong 0 sizes) refl)
+  where
+    sizes : List Size
+    sizes = lentSizes mode l ++ memorySizes senderLen mode m
+
+    gives : Answer → Result
+    gives a = onSuccess a (sent (stateAt mode T) m l) (refused (stateAt mode T) m l a)
+
+    go : (o : Option ℕ) → wrong 0 sizes ≡ o → A (gives (judge (none ∷ at WrongLength o ∷ [])))
+    go none e = good (lent-right mode l _ bytes e)
+    go (some k) e = bad k
+
+send-run : (mode : ℕ) → covered mode ≡ true → (ls : List Lent) → Every (λ (l : Lent). ByteFrames (l .frames)) ls
+    → (T : ℕ) (m : Memory) → MemoryRight senderLen mode m → Ran mode T m (succeeded (calls sendStep (stateAt mode T) m ls))
+unfolding calls succeeded table sent numberOf
+send-run mode cov [] s T m right = record { signals = refl; rights = λ t h. absurd (not-suc-le-zero h) }
+send-run mode cov (l ∷ ls) s T m right =
+    send-cases mode cov T m l (s .0)
+    (λ r. Ran mode T m
+    (cond (eqb (numberOf (r .answer)) 0) (record { lent = l; result = r } ∷ succeeded (calls sendStep (r .state) (r .memory) ls))
+    (succeeded (calls sendStep (r .state) (r .memory) ls))))
+    (λ k. send-run mode cov ls (s .1) T m right)
+    (λ fr. ran-cons mode T m l _ fr
+    (rw (next-at mode T) (send-run mode cov ls (s .1) (suc T) (memoryNext mode (T % 2) m (l .frames)) (memory-right mode cov T m (l .frames) right fr))))
+
+-- ---- what a sender's run has sent
+
+sent-facts : (mode : ℕ) (a : SenderRun mode) → Ran mode 0 (zeros senderLen mode) (succeeded (sendings mode a))
+unfolding sendings
+sent-facts mode a =
+    let (cov, e) = start-ok senderLen mode (a .upon) (a .started) in
+    rw e (send-run mode cov (a .lents) (a .bytes) 0 (zeros senderLen mode) (λ x. elim x [ P3 ↦ length-replicate _ 0 | P4 ↦ length-replicate _ 0 ]))
+
+count-is : (mode : ℕ) (a : SenderRun mode) → count mode a ≡ length (succeeded (sendings mode a))
+unfolding count framesSent
+count-is mode a = length-map (λ (c : Call). c .lent .frames) (succeeded (sendings mode a))
+
+pub as-defined-is : (mode : ℕ) (a : SenderRun mode)
+    → signalsSent mode a ≡ table 0 (count mode a) (defined mode (frameAt mode a))
+unfolding signalsSent frameAt framesSent
+as-defined-is mode a =
+    rw (count-is mode a)
+    (sent-facts mode a .signals ∙ ap (table 0 _) (fun-ext (λ t. defined-start mode (λ t. getD (framesIn (succeeded (sendings mode a))) t noFrames) t)))
+
+pub right-at : (mode : ℕ) (a : SenderRun mode) (t : ℕ) → t < count mode a → Fitting mode (frameAt mode a t)
+unfolding frameAt framesSent
+right-at mode a t h = sent-facts mode a .rights t (rw (count-is mode a) at h)
+
+pub matrices-at : (mode : ℕ) (a : SenderRun mode) (t : ℕ) → t < count mode a
+    → matricesAt mode a t ≡ defined mode (frameAt mode a) t .matrices
+unfolding matricesAt
+matrices-at mode a t h =
+    ap (λ (x : Signal). x .matrices)
+    (ap (λ (xs : List Signal). getD xs t noSignal) (as-defined-is mode a) ∙ table-at (count mode a) (defined mode (frameAt mode a)) noSignal t h)
+
+pub covered-of : (mode : ℕ) → SenderRun mode → covered mode ≡ true
+covered-of mode a = start-ok senderLen mode (a .upon) (a .started) .0

@@ -1,0 +1,95 @@
+-- A start that succeeded, the states of a run, and the definition of what is sent from any L1 frame on. Assumes nothing.
+use Prim.Native.Nat.{ℕ, zero, suc, _+_, _%_, min}
+use mathlib.Core.Path.{_≡_, refl, sym, ap, ap₂, _∙_}
+use mathlib.Core.Bool.{Bool, true, false, not}
+use mathlib.Core.Option.{Option, none, some}
+use mathlib.Core.List.{[], _∷_}
+use native.Mathlib.Nat.{add-zero, add-suc, zero-add, suc-add}
+use native.Mathlib.Omega.{arith}
+use borrow.Author.Tests.{lt-ltb}
+use Rattle.control.specs.Modes.{covered}
+use Rattle.runs.specs.declared.Answer.{Answer}
+use Rattle.runs.specs.declared.Answer.the-variants.{ModeNotCovered, WrongLength}
+use Rattle.runs.specs.declared.State.{State}
+use Rattle.runs.specs.Lengths.{Kind, senderLen}
+use Rattle.runs.specs.Lent.{Frames, Signal, Memory, signalOf, memoryNext}
+use Rattle.runs.specs.Answers.{numberOf, onSuccess}
+use Rattle.runs.specs.Causes.{at, judge, when, wrong}
+use Rattle.runs.specs.Starting.{Started, valid, next, fresh, memorySizes, zeros, startAnswer, started, start}
+use Rattle.runs.specs.Defined.{memoryBefore, defined}
+
+-- ---- a start that succeeded
+
+pub start-ok : (len : Kind → ℕ) (mode : ℕ) (m : Memory) → numberOf (start len mode m .answer) ≡ 0
+    → (covered mode ≡ true) × (start len mode m ≡ started len mode)
+unfolding start startAnswer judge numberOf onSuccess
+start-ok len mode m = go (covered mode) (wrong 0 (memorySizes len mode m))
+  where
+    answer : Bool → Option ℕ → Answer
+    answer b o = judge (when (not b) ModeNotCovered ∷ at WrongLength o ∷ [])
+
+    gives : Answer → Started
+    gives a = onSuccess a (started len mode) (record { answer = a; state = fresh 1; memory = m })
+
+    go : (b : Bool) (o : Option ℕ) → numberOf (gives (answer b o) .answer) ≡ 0 → (b ≡ true) × (gives (answer b o) ≡ started len mode)
+    go true none e = (refl, refl)
+    go true (some k) e = absurd (omega arith)
+    go false o e = absurd (omega arith)
+
+-- ---- states
+
+abbrev pub stateAt : ℕ → ℕ → State
+stateAt mode t = record { mode = mode; half = t % 2; age = min 2 t }
+
+pub old : (k : ℕ) → min 2 (suc (suc k)) ≡ 2
+old k = omega arith
+
+pub valid-at : (mode : ℕ) → covered mode ≡ true → (t : ℕ) → valid (stateAt mode t) ≡ true
+unfolding valid
+valid-at mode cov zero = rw cov
+valid-at mode cov (suc zero) = rw cov
+valid-at mode cov (suc (suc k)) = rw (cov, old k, lt-ltb (suc (suc k) % 2) 2 (omega arith))
+
+pub next-at : (mode t : ℕ) → next (stateAt mode t) ≡ stateAt mode (suc t)
+unfolding next
+next-at mode t = λ i. record { mode = mode; half = halves i; age = ages i }
+  where
+    halves : (t % 2 + 1) % 2 ≡ suc t % 2
+    halves = omega arith
+
+    ages : min 2 (min 2 t + 1) ≡ min 2 (suc t)
+    ages = omega arith
+
+-- ---- the definition of what is sent, from L1 frame T on with the memory m there
+
+unfoldable pub memoryFrom : ℕ → ℕ → Memory → (ℕ → Frames) → ℕ → Memory
+memoryFrom mode T m F zero = m
+memoryFrom mode T m F (suc t) = memoryNext mode ((T + t) % 2) (memoryFrom mode T m F t) (F t)
+
+unfoldable pub definedFrom : ℕ → ℕ → Memory → (ℕ → Frames) → ℕ → Signal
+definedFrom mode T m F t = signalOf mode ((T + t) % 2) (memoryFrom mode T m F t) (F t)
+
+memory-shift : (mode T : ℕ) (m : Memory) (F : ℕ → Frames) (t : ℕ)
+    → memoryFrom mode T m F (suc t) ≡ memoryFrom mode (suc T) (memoryNext mode (T % 2) m (F 0)) (λ k. F (suc k)) t
+unfolding memoryFrom
+memory-shift mode T m F zero = ap (λ (k : ℕ). memoryNext mode (k % 2) m (F 0)) (add-zero T)
+memory-shift mode T m F (suc t) =
+    ap₂ (λ (k : ℕ) (x : Memory). memoryNext mode (k % 2) x (F (suc t))) (add-suc T t ∙ sym (suc-add T t)) (memory-shift mode T m F t)
+
+pub defined-shift : (mode T : ℕ) (m : Memory) (F : ℕ → Frames) (t : ℕ)
+    → definedFrom mode T m F (suc t) ≡ definedFrom mode (suc T) (memoryNext mode (T % 2) m (F 0)) (λ k. F (suc k)) t
+unfolding definedFrom
+defined-shift mode T m F t =
+    ap₂ (λ (k : ℕ) (x : Memory). signalOf mode (k % 2) x (F (suc t))) (add-suc T t ∙ sym (suc-add T t)) (memory-shift mode T m F t)
+
+memory-start : (mode : ℕ) (F : ℕ → Frames) (t : ℕ)
+    → memoryFrom mode 0 (zeros senderLen mode) F t ≡ memoryBefore mode F t
+unfolding memoryFrom memoryBefore
+memory-start mode F zero = refl
+memory-start mode F (suc t) =
+    ap₂ (λ (k : ℕ) (x : Memory). memoryNext mode (k % 2) x (F t)) (zero-add t) (memory-start mode F t)
+
+pub defined-start : (mode : ℕ) (F : ℕ → Frames) (t : ℕ)
+    → definedFrom mode 0 (zeros senderLen mode) F t ≡ defined mode F t
+unfolding definedFrom defined
+defined-start mode F t = ap₂ (λ (k : ℕ) (x : Memory). signalOf mode (k % 2) x (F t)) (zero-add t) (memory-start mode F t)

@@ -1,0 +1,52 @@
+-- Document 01: "A start, a sending or a reading that meets no listed cause succeeds." Assumes nothing.
+use Prim.Native.Nat.{ℕ, _<_}
+use mathlib.Core.Path.{_≡_}
+use mathlib.Core.Bool.{true, false, cond}
+use mathlib.Core.Option.{none}
+use mathlib.Core.List.{_++_}
+use lib.Dec.{ltb}
+use borrow.Author.Tests.{lt-ltb}
+use Rattle.control.specs.Modes.{covered}
+use Rattle.control.specs.Lookup.{departs}
+use Rattle.runs.specs.declared.State.{State}
+use Rattle.runs.specs.Lengths.{Extended, P3, P4, Kind, senderLen, readerLen}
+use Rattle.runs.specs.Chain.{p1Bad, pidsBad}
+use Rattle.runs.specs.Answers.{onSuccess}
+use Rattle.runs.specs.Causes.{first, judge, wrong}
+use Rattle.runs.specs.Lent.{Lent, Memory, frameOf}
+use Rattle.runs.specs.Starting.{memorySizes, start, startAnswer, started, valid}
+use Rattle.runs.specs.Sending.{lentSizes, sendAnswer, sendStep, sent}
+use Rattle.runs.specs.Reading.{fillPlace, framePlace, pushed, readAnswer, readStep, received}
+
+-- a start of a covered mode with the right lengths
+pub start-succeeds : (len : Kind → ℕ) (mode : ℕ) (m : Memory) → covered mode ≡ true → wrong 0 (memorySizes len mode m) ≡ none
+    → start len mode m ≡ started len mode
+unfolding start startAnswer judge onSuccess
+start-succeeds len mode m cov lengths = rw (cov, lengths)
+
+-- a sending with a valid state and the right lengths
+pub send-succeeds : (s : State) (m : Memory) (l : Lent) → valid s ≡ true
+    → wrong 0 (lentSizes (s .mode) l ++ memorySizes senderLen (s .mode) m) ≡ none → sendStep s m l ≡ sent s m l
+unfolding sendStep sendAnswer judge onSuccess
+send-succeeds s m l state lengths = rw (state, lengths)
+
+-- a reading that meets none of 2 to 8
+pub record Clear (s : State) (m : Memory) (l : Lent) : Type 0 where
+  pub state : valid s ≡ true
+  pub lengths : wrong 0 (lentSizes (s .mode) l ++ memorySizes readerLen (s .mode) m) ≡ none
+  pub control : first 16 (departs (s .mode) (l .signal .control)) ≡ none
+  pub p1 : p1Bad (l .signal .matrices .pm) ≡ false
+  pub pids : first 16 (pidsBad (l .signal .matrices .pm)) ≡ none
+  pub fill : cond (ltb (s .age) 2) (fillPlace s (l .signal .matrices)) none ≡ none
+  pub extended : cond (ltb (s .age) 2) none (framePlace s (pushed m (l .signal .matrices))) ≡ none
+
+pub read-succeeds : (s : State) (m : Memory) (l : Lent) → Clear s m l → readStep s m l ≡ received s m l
+unfolding readStep readAnswer judge onSuccess
+read-succeeds s m l c = rw (c .state, c .lengths, c .control, c .p1, c .pids, c .fill, c .extended)
+
+-- before the third L1 frame the buffers for P3 and P4 keep their contents
+pub early-kept : (s : State) (m : Memory) (l : Lent) → s .age < 2 → (e : Extended)
+    → frameOf (received s m l .lent .frames) e ≡ frameOf (l .frames) e
+unfolding received
+early-kept s m l h P3 = rw (lt-ltb (s .age) 2 h)
+early-kept s m l h P4 = rw (lt-ltb (s .age) 2 h)

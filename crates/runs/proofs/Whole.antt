@@ -1,0 +1,23 @@
+-- Demand 3: the theorem about whole runs. Assumes nothing.
+use Prim.Native.Nat.{ℕ}
+use native.Mathlib.Nat.{zero-add}
+use Rattle.runs.specs.WholeRuns.{WholeRuns}
+use Rattle.runs.proofs.Sender.{as-defined-is}
+use Rattle.runs.proofs.Fixed.{differ-extended-is, fixed-extended-is, fixed-is, p1-fixed}
+use Rattle.runs.proofs.Readable.{can-read, read-all}
+use Rattle.runs.proofs.Sendable.{can-send}
+
+pub whole-runs : (mode : ℕ) → WholeRuns mode
+whole-runs mode =
+    record {
+      as-defined = as-defined-is mode;
+      fixed = fixed-is mode;
+      fixed-extended = fixed-extended-is mode;
+      differ = λ a b t ha hb ne e. ne (p1-fixed mode a b t ha hb e);
+      differ-extended = differ-extended-is mode;
+      read-back = λ a b gs h.
+          let got = read-all mode a b gs h in
+          (got .as-many, λ t l. rw (zero-add t) at (got .each t l));
+      readable = can-read mode;
+      sendable = can-send mode;
+    }

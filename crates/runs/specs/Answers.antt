@@ -1,0 +1,38 @@
+-- Document 01, the table of causes: the number and the place that each answer stands for.
+use Prim.Native.Nat.{ℕ}
+use Rattle.runs.specs.declared.Answer.{Answer}
+use Rattle.runs.specs.declared.Answer.the-variants.{Success, ModeNotCovered, StateNotValid, WrongLength, WrongControl, P1NotCoded, PidsNotCoded, FillNotZero, ExtendedNotCoded}
+
+unfoldable pub numberOf : Answer → ℕ
+numberOf Success = 0
+numberOf ModeNotCovered = 1
+numberOf StateNotValid = 2
+numberOf (WrongLength place) = 3
+numberOf (WrongControl block) = 4
+numberOf P1NotCoded = 5
+numberOf (PidsNotCoded frame) = 6
+numberOf (FillNotZero cell) = 7
+numberOf (ExtendedNotCoded frame) = 8
+
+unfoldable pub placeOf : Answer → ℕ
+placeOf Success = 0
+placeOf ModeNotCovered = 0
+placeOf StateNotValid = 0
+placeOf (WrongLength place) = place
+placeOf (WrongControl block) = block
+placeOf P1NotCoded = 0
+placeOf (PidsNotCoded frame) = frame
+placeOf (FillNotZero cell) = cell
+placeOf (ExtendedNotCoded frame) = frame
+
+-- the one thing on success, the other on each refusal
+unfoldable pub onSuccess : {A : Type 0} → Answer → A → A → A
+onSuccess Success done refused = done
+onSuccess ModeNotCovered done refused = refused
+onSuccess StateNotValid done refused = refused
+onSuccess (WrongLength place) done refused = refused
+onSuccess (WrongControl block) done refused = refused
+onSuccess P1NotCoded done refused = refused
+onSuccess (PidsNotCoded frame) done refused = refused
+onSuccess (FillNotZero cell) done refused = refused
+onSuccess (ExtendedNotCoded frame) done refused = refused

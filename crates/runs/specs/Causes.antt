@@ -1,0 +1,41 @@
+-- Document 01, the table of causes: the lowest number wins, then the lowest place.
+use Prim.Native.Nat.{ℕ, suc, _-_}
+use mathlib.Core.Bool.{Bool, cond}
+use mathlib.Core.Option.{Option, none, some}
+use mathlib.Core.List.{List, [], _∷_}
+use lib.Dec.{eqb, ltb}
+use Rattle.bits.specs.Tests.{lowest}
+use Rattle.runs.specs.declared.Answer.{Answer}
+use Rattle.runs.specs.declared.Answer.the-variants.{Success}
+
+-- the answer from the list of causes, each met or not, in the order of their numbers: the first that is met
+unfoldable pub judge : List (Option Answer) → Answer
+judge [] = Success
+judge (none ∷ rest) = judge rest
+judge (some answer ∷ rest) = answer
+
+-- a cause without a place
+abbrev pub when : Bool → Answer → Option Answer
+when test answer = cond test (some answer) none
+
+-- a cause that is met at a place
+abbrev pub at : (ℕ → Answer) → Option ℕ → Option Answer
+at answer none = none
+at answer (some place) = some (answer place)
+
+-- a buffer's length, and what it should be
+pub data Size : Type 0 where
+  size : ℕ → ℕ → Size
+
+-- the first wrong length, counted from k
+unfoldable pub wrong : ℕ → List Size → Option ℕ
+wrong k [] = none
+wrong k (size have want ∷ rest) = cond (eqb have want) (wrong (suc k) rest) (some k)
+
+-- the lowest place below n that is bad, if there is one
+unfoldable pub first : ℕ → (ℕ → Bool) → Option ℕ
+first n bad = cond (ltb (lowest n bad) n) (some (lowest n bad)) none
+
+-- two rows of places, n of the first: those of the second are counted on
+unfoldable pub beside : ℕ → (ℕ → Bool) → (ℕ → Bool) → ℕ → Bool
+beside n f g k = cond (ltb k n) (f k) (g (k - n))

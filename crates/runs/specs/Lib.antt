@@ -1,0 +1,13 @@
+pub mod Lengths
+pub mod Chain
+pub mod Answers
+pub mod Causes
+pub mod Lent
+pub mod Starting
+pub mod Sending
+pub mod Reading
+pub mod Runs
+pub mod Defined
+pub mod Handed
+pub mod WholeRuns
+pub mod Probes

@@ -1,0 +1,51 @@
+-- Document 01, "Operations of a run": what a sending does.
+use Prim.Native.Nat.{ℕ}
+use mathlib.Core.Bool.{not}
+use mathlib.Core.List.{List, [], _∷_, _++_}
+use lib.ListN.{length}
+use Rattle.runs.specs.declared.Answer.{Answer}
+use Rattle.runs.specs.declared.Answer.the-variants.{Success, StateNotValid, WrongLength}
+use Rattle.runs.specs.declared.State.{State}
+use Rattle.runs.specs.Lengths.{P3, P4, kindOf, frameLen, matrixLen, senderLen, p1Len, pidsLen, pmLen, controlLen}
+use Rattle.runs.specs.Answers.{onSuccess}
+use Rattle.runs.specs.Causes.{Size, at, judge, size, when, wrong}
+use Rattle.runs.specs.Lent.{Lent, Memory, Result, memoryNext, signalOf}
+use Rattle.runs.specs.Starting.{memorySizes, next, valid}
+
+-- the lent buffers in the order of the table: P1, PIDS, P3, P4, PM, PX1, PX2, control
+unfoldable pub lentSizes : ℕ → Lent → List Size
+lentSizes mode l =
+    size (length (l .frames .p1)) p1Len
+    ∷ size (length (l .frames .pids)) pidsLen
+    ∷ size (length (l .frames .p3)) (frameLen (kindOf mode P3))
+    ∷ size (length (l .frames .p4)) (frameLen (kindOf mode P4))
+    ∷ size (length (l .signal .matrices .pm)) pmLen
+    ∷ size (length (l .signal .matrices .px1)) (matrixLen (kindOf mode P3))
+    ∷ size (length (l .signal .matrices .px2)) (matrixLen (kindOf mode P4))
+    ∷ size (length (l .signal .control)) controlLen
+    ∷ []
+
+-- sending meets only 2 and 3
+unfoldable pub sendAnswer : State → Memory → Lent → Answer
+sendAnswer s m l =
+    judge
+    (when (not (valid s)) StateNotValid
+    ∷ at WrongLength (wrong 0 (lentSizes (s .mode) l ++ memorySizes senderLen (s .mode) m))
+    ∷ [])
+
+-- a success writes the matrices and the control sequences, and the memory
+unfoldable pub sent : State → Memory → Lent → Result
+sent s m l =
+    record {
+      answer = Success;
+      state = next s;
+      memory = memoryNext (s .mode) (s .half) m (l .frames);
+      lent = record { frames = l .frames; signal = signalOf (s .mode) (s .half) m (l .frames) };
+    }
+
+-- a refusal leaves the state, the memory and all buffers as they were
+abbrev pub refused : State → Memory → Lent → Answer → Result
+refused s m l answer = record { answer = answer; state = s; memory = m; lent = l }
+
+unfoldable pub sendStep : State → Memory → Lent → Result
+sendStep s m l = onSuccess (sendAnswer s m l) (sent s m l) (refused s m l (sendAnswer s m l))

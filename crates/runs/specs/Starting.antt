@@ -1,0 +1,61 @@
+-- Document 01, "Operations of a run": states, and what a start does.
+use Prim.Native.Nat.{ℕ, _+_, _%_, min}
+use mathlib.Core.Bool.{Bool, not, _&&_, _||_}
+use mathlib.Core.List.{List, [], _∷_}
+use lib.ListN.{length, replicate}
+use lib.Dec.{eqb, ltb}
+use Rattle.control.specs.Modes.{covered}
+use Rattle.runs.specs.declared.Answer.{Answer}
+use Rattle.runs.specs.declared.Answer.the-variants.{Success, ModeNotCovered, WrongLength}
+use Rattle.runs.specs.declared.State.{State}
+use Rattle.runs.specs.Lengths.{P3, P4, Kind, kindOf}
+use Rattle.runs.specs.Answers.{onSuccess}
+use Rattle.runs.specs.Causes.{Size, at, judge, size, when, wrong}
+use Rattle.runs.specs.Lent.{Memory}
+
+-- age 0 with half 0, age 1 with half 1, age 2 with either; and a covered mode
+unfoldable pub valid : State → Bool
+valid s =
+    covered (s .mode)
+    && ((eqb (s .age) 0 && eqb (s .half) 0) || (eqb (s .age) 1 && eqb (s .half) 1) || (eqb (s .age) 2 && ltb (s .half) 2))
+
+-- the state after one more L1 frame
+unfoldable pub next : State → State
+next s = record { mode = s .mode; half = (s .half + 1) % 2; age = min 2 (s .age + 1) }
+
+-- the state before the first
+abbrev pub fresh : ℕ → State
+fresh mode = record { mode = mode; half = 0; age = 0 }
+
+-- ---- a start, of a sender with the lengths `senderLen`, of a reader with `readerLen`
+
+-- its answer, the state, and the memory as it leaves it
+pub record Started : Type 0 where
+  pub answer : Answer
+  pub state : State
+  pub memory : Memory
+
+-- the memory for P3, for P4
+unfoldable pub memorySizes : (Kind → ℕ) → ℕ → Memory → List Size
+memorySizes len mode m = size (length (m .for3)) (len (kindOf mode P3)) ∷ size (length (m .for4)) (len (kindOf mode P4)) ∷ []
+
+-- the zero fill
+abbrev pub zeros : (Kind → ℕ) → ℕ → Memory
+zeros len mode = record { for3 = replicate (len (kindOf mode P3)) 0; for4 = replicate (len (kindOf mode P4)) 0 }
+
+unfoldable pub startAnswer : (Kind → ℕ) → ℕ → Memory → Answer
+startAnswer len mode m =
+    judge
+    (when (not (covered mode)) ModeNotCovered
+    ∷ at WrongLength (wrong 0 (memorySizes len mode m))
+    ∷ [])
+
+-- a success zeroes the memory
+abbrev pub started : (Kind → ℕ) → ℕ → Started
+started len mode = record { answer = Success; state = fresh mode; memory = zeros len mode }
+
+-- refused, it returns the state of MP1 and leaves the memory
+unfoldable pub start : (Kind → ℕ) → ℕ → Memory → Started
+start len mode m =
+    onSuccess (startAnswer len mode m) (started len mode)
+    (record { answer = startAnswer len mode m; state = fresh 1; memory = m })
