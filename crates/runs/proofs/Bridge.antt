@@ -10,7 +10,9 @@ use Rattle.coding.specs.Channel.{channel}
 use Rattle.coding.proofs.Channel.{channel-bit}
 use Rattle.interleaving.specs.PM.{p1Place, pidsPlace, matrix}
 use Rattle.interleaving.specs.PX.{codedBytes, codedBits, stepOf, after, read}
-use Rattle.runs.specs.Lengths.{Kind, unused, narrow, wide, frameBits, rowOf, matrixLen, senderLen, pmLen}
+use Rattle.runs.specs.declared.Kind.{Kind}
+use Rattle.runs.specs.declared.Kind.the-variants.{Unused, Narrow, Wide}
+use Rattle.runs.specs.Lengths.{frameBits, rowOf, matrixLen, senderLen, pmLen}
 use Rattle.runs.specs.Chain.{Buffer, pmOf, codedOf, pxOf, memOf}
 
 -- ---- PM
@@ -34,15 +36,15 @@ pm-from a b p1 pids e d =
 
 matrix-bytes : (k : Kind) → codedBytes (rowOf k) ≡ matrixLen k
 unfolding rowOf codedBytes matrixLen
-matrix-bytes unused = refl
-matrix-bytes narrow = refl
-matrix-bytes wide = refl
+matrix-bytes Unused = refl
+matrix-bytes Narrow = refl
+matrix-bytes Wide = refl
 
 memory-bytes : (k : Kind) → 2 * codedBytes (rowOf k) ≡ senderLen k
 unfolding rowOf codedBytes senderLen
-memory-bytes unused = refl
-memory-bytes narrow = refl
-memory-bytes wide = refl
+memory-bytes Unused = refl
+memory-bytes Narrow = refl
+memory-bytes Wide = refl
 
 module _ (k : Kind) (half : ℕ) (m a coded : Buffer) (e : coded ≡ packed (codedBytes (rowOf k)) (codedOf k a)) where
   code-is : (i : ℕ) → i < codedBits (rowOf k) → bitAt coded i ≡ codedOf k a i

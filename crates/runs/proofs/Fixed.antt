@@ -8,14 +8,16 @@ use native.Mathlib.Omega.{arith}
 use native.Mathlib.Decide.{ℕ-discrete}
 use lib.ListN.{length, length-replicate}
 use Rattle.control.specs.Modes.{covered}
-use Rattle.runs.specs.Lengths.{Extended, P3, P4, kindOf, matrixLen, senderLen}
+use Rattle.runs.specs.declared.Extended.{Extended}
+use Rattle.runs.specs.declared.Extended.the-variants.{P3, P4}
+use Rattle.runs.specs.Lengths.{kindOf, matrixLen, senderLen}
 use Rattle.runs.specs.Chain.{Buffer, pmOf, p1Of, pidsOf, pxOf, memOf, framesOf, frameBad}
 use Rattle.runs.specs.Lent.{Frames, Matrices, Memory, frameOf, matrixOf, memoryOf, signalOf, memoryNext}
 use Rattle.runs.specs.Runs.{Fitting, SenderRun, count, frameAt, matricesAt}
 use Rattle.runs.specs.Defined.{memoryBefore, defined, eighth}
 use Rattle.runs.specs.WholeRuns.{SameMatrices}
 use Rattle.runs.proofs.Rows.{window}
-use Rattle.runs.proofs.Extended.{matrix-length, frames-back, frames-good}
+use Rattle.runs.proofs.PX.{matrix-length, frames-back, frames-good}
 use Rattle.runs.proofs.PM.{p1-back, pids-back}
 use Rattle.runs.proofs.Sender.{MemoryRight, covered-of, matrices-at, memory-right, right-at}
 

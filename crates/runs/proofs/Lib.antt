@@ -1,6 +1,6 @@
 pub mod Conv
 pub mod Rows
-pub mod Extended
+pub mod PX
 pub mod PM
 pub mod Bridge
 pub mod Refusals

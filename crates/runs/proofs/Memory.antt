@@ -7,7 +7,9 @@ use native.Mathlib.Omega.{arith}
 use lib.ListN.{length, drop, length-append, length-drop, drop-of-length-le}
 use lib.Seq.{drop-append-le}
 use Rattle.runs.specs.declared.State.{State}
-use Rattle.runs.specs.Lengths.{Extended, P3, P4, readerLen}
+use Rattle.runs.specs.declared.Extended.{Extended}
+use Rattle.runs.specs.declared.Extended.the-variants.{P3, P4}
+use Rattle.runs.specs.Lengths.{readerLen}
 use Rattle.runs.specs.Chain.{Buffer}
 use Rattle.runs.specs.Lent.{Matrices, Signal, Lent, Memory, matrixOf, memoryOf}
 use Rattle.runs.specs.Answers.{numberOf}

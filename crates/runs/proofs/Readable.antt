@@ -10,7 +10,9 @@ use lib.ListN.{replicate, length-replicate}
 use Rattle.control.specs.Modes.{covered}
 use Rattle.control.proofs.Sent as control
 use Rattle.runs.specs.declared.State.{State}
-use Rattle.runs.specs.Lengths.{P3, P4, Kind, kindOf, frameLen, readerLen, p1Len, pidsLen, controlLen}
+use Rattle.runs.specs.declared.Extended.the-variants.{P3, P4}
+use Rattle.runs.specs.declared.Kind.{Kind}
+use Rattle.runs.specs.Lengths.{kindOf, frameLen, readerLen, p1Len, pidsLen, controlLen}
 use Rattle.runs.specs.Lent.{Frames, Lent, Memory, Result, signalOf}
 use Rattle.runs.specs.Answers.{numberOf}
 use Rattle.runs.specs.Causes.{wrong}

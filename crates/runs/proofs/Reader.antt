@@ -10,7 +10,9 @@ use lib.Dec.{ltb}
 use borrow.Author.Tests.{eq-eqb}
 use Rattle.control.specs.Modes.{covered}
 use Rattle.control.proofs.Sent as control
-use Rattle.runs.specs.Lengths.{Extended, P3, P4, kindOf, matrixLen, readerLen}
+use Rattle.runs.specs.declared.Extended.{Extended}
+use Rattle.runs.specs.declared.Extended.the-variants.{P3, P4}
+use Rattle.runs.specs.Lengths.{kindOf, matrixLen, readerLen}
 use Rattle.runs.specs.Answers.{numberOf, placeOf}
 use Rattle.runs.specs.Lent.{Frames, Signal, Lent, Memory, frameOf, memoryOf, signalOf, memoryNext}
 use Rattle.runs.specs.Causes.{wrong}
@@ -21,7 +23,7 @@ use Rattle.runs.specs.Runs.{Fitting}
 use Rattle.runs.specs.Defined.{memoryBefore, defined}
 use Rattle.runs.specs.Handed.{Given}
 use Rattle.runs.specs.WholeRuns.{Returned}
-use Rattle.runs.proofs.Extended.{fill-first, fill-second}
+use Rattle.runs.proofs.PX.{fill-first, fill-second}
 use Rattle.runs.proofs.PM.{p1-back, p1-good, pids-back, pids-good}
 use Rattle.runs.proofs.Passing.{beside-good, first-none, wrong-append}
 use Rattle.runs.proofs.States.{old, stateAt, valid-at}

@@ -16,7 +16,9 @@ use Rattle.coding.specs.Channel.{IsFrame}
 use Rattle.coding.proofs.Channel.{no-frame, empty-passes, empty-frame}
 use Rattle.interleaving.specs.PM.{p1Place, pidsPlace}
 use Rattle.interleaving.specs.PX.{place, stepOf, unreached, isFill}
-use Rattle.runs.specs.Lengths.{Kind, unused, narrow, wide, frameBits, rowOf}
+use Rattle.runs.specs.declared.Kind.{Kind}
+use Rattle.runs.specs.declared.Kind.the-variants.{Unused, Narrow, Wide}
+use Rattle.runs.specs.Lengths.{frameBits, rowOf}
 use Rattle.runs.specs.Chain.{Buffer, p1Bad, pidsBad, gathered, frameBad, fillBad}
 use Rattle.runs.specs.Causes.{first}
 use Rattle.runs.proofs.PM.{p1-long, pids-long}
@@ -36,12 +38,12 @@ pids-refused pm f = no-frame TwoFifths 80 pids-long (λ i. bitAt pm (pidsPlace i
 pub frame-refused : (k : Kind) (half : ℕ) (x : Buffer) (f : ℕ)
     → frameBad k half x f ≡ true ↔ (IsFrame Half (frameBits k) (gathered k half x) f → ⊥)
 unfolding frameBad frameBits
-frame-refused unused half x f = (
-  (λ e. absurd (true≢false (sym e ∙ empty-passes Half (gathered unused half x) f))),
-  (λ n. absurd (n (empty-frame Half (gathered unused half x) f))),
+frame-refused Unused half x f = (
+  (λ e. absurd (true≢false (sym e ∙ empty-passes Half (gathered Unused half x) f))),
+  (λ n. absurd (n (empty-frame Half (gathered Unused half x) f))),
 )
-frame-refused narrow half x f = no-frame Half 2304 (long 2304 (omega arith) refl) (gathered narrow half x) f
-frame-refused wide half x f = no-frame Half 4608 (long 4608 (omega arith) refl) (gathered wide half x) f
+frame-refused Narrow half x f = no-frame Half 2304 (long 2304 (omega arith) refl) (gathered Narrow half x) f
+frame-refused Wide half x f = no-frame Half 4608 (long 4608 (omega arith) refl) (gathered Wide half x) f
 
 -- 7: no step up to the one that reads the cell has written it, and it is 1
 pub fill-refused : (k : Kind) (age : ℕ) (x : Buffer) (c : ℕ)

@@ -7,7 +7,8 @@ use mathlib.Core.List.{List, [], _∷_, map}
 use lib.ListN.{replicate, length-replicate}
 use Rattle.control.specs.Modes.{covered}
 use Rattle.runs.specs.declared.State.{State}
-use Rattle.runs.specs.Lengths.{P3, P4, kindOf, matrixLen, senderLen, pmLen, controlLen}
+use Rattle.runs.specs.declared.Extended.the-variants.{P3, P4}
+use Rattle.runs.specs.Lengths.{kindOf, matrixLen, senderLen, pmLen, controlLen}
 use Rattle.runs.specs.Lent.{Frames, Lent, Memory, Result, ByteFrames, memoryNext}
 use Rattle.runs.specs.Answers.{numberOf}
 use Rattle.runs.specs.Causes.{wrong}

@@ -10,7 +10,10 @@ use lib.Dec.{eqb}
 use Rattle.control.specs.Modes.{covered}
 use Rattle.runs.specs.declared.Answer.{Answer}
 use Rattle.runs.specs.declared.Answer.the-variants.{WrongLength}
-use Rattle.runs.specs.Lengths.{Extended, P3, P4, Kind, kindOf, senderLen}
+use Rattle.runs.specs.declared.Extended.{Extended}
+use Rattle.runs.specs.declared.Extended.the-variants.{P3, P4}
+use Rattle.runs.specs.declared.Kind.{Kind}
+use Rattle.runs.specs.Lengths.{kindOf, senderLen}
 use Rattle.runs.specs.Lent.{Frames, Signal, Lent, Memory, Result, memoryOf, ByteFrames, signalOf, memoryNext}
 use Rattle.runs.specs.Answers.{numberOf, onSuccess}
 use Rattle.runs.specs.Causes.{Size, at, judge, wrong}
@@ -18,7 +21,7 @@ use Rattle.runs.specs.Starting.{memorySizes, zeros}
 use Rattle.runs.specs.Sending.{lentSizes, refused, sendAnswer, sendStep, sent}
 use Rattle.runs.specs.Runs.{Call, calls, succeeded, Every, Fitting, SenderRun, sendings, framesSent, signalsSent, noFrames, noSignal, count, frameAt, matricesAt}
 use Rattle.runs.specs.Defined.{defined, table}
-use Rattle.runs.proofs.Extended.{memory-length}
+use Rattle.runs.proofs.PX.{memory-length}
 use Rattle.runs.proofs.Lists.{length-map, table-at, table-shift}
 use Rattle.runs.proofs.Passing.{wrong-head}
 use Rattle.runs.proofs.States.{defined-shift, defined-start, definedFrom, memoryFrom, next-at, start-ok, stateAt, valid-at}

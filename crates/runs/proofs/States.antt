@@ -11,7 +11,8 @@ use Rattle.control.specs.Modes.{covered}
 use Rattle.runs.specs.declared.Answer.{Answer}
 use Rattle.runs.specs.declared.Answer.the-variants.{ModeNotCovered, WrongLength}
 use Rattle.runs.specs.declared.State.{State}
-use Rattle.runs.specs.Lengths.{Kind, senderLen}
+use Rattle.runs.specs.declared.Kind.{Kind}
+use Rattle.runs.specs.Lengths.{senderLen}
 use Rattle.runs.specs.Lent.{Frames, Signal, Memory, signalOf, memoryNext}
 use Rattle.runs.specs.Answers.{numberOf, onSuccess}
 use Rattle.runs.specs.Causes.{at, judge, when, wrong}

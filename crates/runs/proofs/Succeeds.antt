@@ -9,7 +9,10 @@ use borrow.Author.Tests.{lt-ltb}
 use Rattle.control.specs.Modes.{covered}
 use Rattle.control.specs.Lookup.{departs}
 use Rattle.runs.specs.declared.State.{State}
-use Rattle.runs.specs.Lengths.{Extended, P3, P4, Kind, senderLen, readerLen}
+use Rattle.runs.specs.declared.Extended.{Extended}
+use Rattle.runs.specs.declared.Extended.the-variants.{P3, P4}
+use Rattle.runs.specs.declared.Kind.{Kind}
+use Rattle.runs.specs.Lengths.{senderLen, readerLen}
 use Rattle.runs.specs.Chain.{p1Bad, pidsBad}
 use Rattle.runs.specs.Answers.{onSuccess}
 use Rattle.runs.specs.Causes.{first, judge, wrong}

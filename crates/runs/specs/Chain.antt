@@ -7,7 +7,8 @@ use Rattle.coding.specs.declared.Rate.the-variants.{TwoFifths, Half}
 use Rattle.coding.specs.Channel.{channel, unchannel, noFrame}
 use Rattle.interleaving.specs.PM.{p1Place, pidsPlace, matrix}
 use Rattle.interleaving.specs.PX.{codedBits, after, read, later, isFill}
-use Rattle.runs.specs.Lengths.{Kind, frameBits, rowOf, frameLen, matrixLen, senderLen, p1Len, pidsLen, pmLen}
+use Rattle.runs.specs.declared.Kind.{Kind}
+use Rattle.runs.specs.Lengths.{frameBits, rowOf, frameLen, matrixLen, senderLen, p1Len, pidsLen, pmLen}
 
 abbrev pub Buffer : Type 0
 Buffer = List ℕ

@@ -4,7 +4,9 @@ use Rattle.bits.specs.Bits.{Bytes}
 use Rattle.control.specs.Control.{controlOf}
 use Rattle.runs.specs.declared.Answer.{Answer}
 use Rattle.runs.specs.declared.State.{State}
-use Rattle.runs.specs.Lengths.{Extended, P3, P4, kindOf}
+use Rattle.runs.specs.declared.Extended.{Extended}
+use Rattle.runs.specs.declared.Extended.the-variants.{P3, P4}
+use Rattle.runs.specs.Lengths.{kindOf}
 use Rattle.runs.specs.Chain.{Buffer, pmOf, pxOf, memOf}
 
 -- the transfer frames of an L1 frame: 1 of P1, 16 of PIDS, 8 of P3, 8 of P4

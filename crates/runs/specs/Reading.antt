@@ -9,7 +9,8 @@ use Rattle.control.specs.Lookup.{departs}
 use Rattle.runs.specs.declared.Answer.{Answer}
 use Rattle.runs.specs.declared.Answer.the-variants.{Success, StateNotValid, WrongLength, WrongControl, P1NotCoded, PidsNotCoded, FillNotZero, ExtendedNotCoded}
 use Rattle.runs.specs.declared.State.{State}
-use Rattle.runs.specs.Lengths.{P3, P4, kindOf, matrixLen, readerLen}
+use Rattle.runs.specs.declared.Extended.the-variants.{P3, P4}
+use Rattle.runs.specs.Lengths.{kindOf, matrixLen, readerLen}
 use Rattle.runs.specs.Chain.{Buffer, p1Of, pidsOf, p1Bad, pidsBad, framesOf, frameBad, fillBad}
 use Rattle.runs.specs.Answers.{onSuccess}
 use Rattle.runs.specs.Causes.{at, beside, first, judge, when, wrong}

@@ -6,7 +6,8 @@ use mathlib.Core.List.{List, [], _∷_, map}
 use lib.ListN.{length, getD}
 use lib.Dec.{eqb}
 use Rattle.runs.specs.declared.State.{State}
-use Rattle.runs.specs.Lengths.{Extended, kindOf, frameLen, senderLen, readerLen, p1Len, pidsLen}
+use Rattle.runs.specs.declared.Extended.{Extended}
+use Rattle.runs.specs.Lengths.{kindOf, frameLen, senderLen, readerLen, p1Len, pidsLen}
 use Rattle.runs.specs.Answers.{numberOf}
 use Rattle.runs.specs.Lent.{Frames, Matrices, Signal, Lent, Memory, Result, frameOf, ByteFrames}
 use Rattle.runs.specs.Sending.{sendStep}

@@ -6,7 +6,8 @@ use lib.ListN.{length}
 use Rattle.runs.specs.declared.Answer.{Answer}
 use Rattle.runs.specs.declared.Answer.the-variants.{Success, StateNotValid, WrongLength}
 use Rattle.runs.specs.declared.State.{State}
-use Rattle.runs.specs.Lengths.{P3, P4, kindOf, frameLen, matrixLen, senderLen, p1Len, pidsLen, pmLen, controlLen}
+use Rattle.runs.specs.declared.Extended.the-variants.{P3, P4}
+use Rattle.runs.specs.Lengths.{kindOf, frameLen, matrixLen, senderLen, p1Len, pidsLen, pmLen, controlLen}
 use Rattle.runs.specs.Answers.{onSuccess}
 use Rattle.runs.specs.Causes.{Size, at, judge, size, when, wrong}
 use Rattle.runs.specs.Lent.{Lent, Memory, Result, memoryNext, signalOf}

@@ -8,7 +8,9 @@ use Rattle.control.specs.Modes.{covered}
 use Rattle.runs.specs.declared.Answer.{Answer}
 use Rattle.runs.specs.declared.Answer.the-variants.{Success, ModeNotCovered, WrongLength}
 use Rattle.runs.specs.declared.State.{State}
-use Rattle.runs.specs.Lengths.{P3, P4, Kind, kindOf}
+use Rattle.runs.specs.declared.Extended.the-variants.{P3, P4}
+use Rattle.runs.specs.declared.Kind.{Kind}
+use Rattle.runs.specs.Lengths.{kindOf}
 use Rattle.runs.specs.Answers.{onSuccess}
 use Rattle.runs.specs.Causes.{Size, at, judge, size, when, wrong}
 use Rattle.runs.specs.Lent.{Memory}

@@ -7,7 +7,7 @@ use mathlib.Core.List.{List, []}
 use lib.ListN.{length, getD}
 use Rattle.control.specs.Modes.{covered}
 use Rattle.runs.specs.declared.Answer.the-variants.{StateNotValid}
-use Rattle.runs.specs.Lengths.{Extended}
+use Rattle.runs.specs.declared.Extended.{Extended}
 use Rattle.runs.specs.Answers.{numberOf, placeOf}
 use Rattle.runs.specs.Lent.{Frames, Result, frameOf, matrixOf}
 use Rattle.runs.specs.Starting.{fresh}

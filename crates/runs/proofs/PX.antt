@@ -17,7 +17,8 @@ use Rattle.coding.specs.Channel.{channel}
 use Rattle.coding.proofs.Channel.{channel-bit}
 use Rattle.interleaving.specs.PX.{cells, place, after, read, later, unreached, isFill}
 use Rattle.interleaving.specs.FinderPX.{source}
-use Rattle.runs.specs.Lengths.{Kind, frameBits, rowOf, frameLen, matrixLen, senderLen}
+use Rattle.runs.specs.declared.Kind.{Kind}
+use Rattle.runs.specs.Lengths.{frameBits, rowOf, frameLen, matrixLen, senderLen}
 use Rattle.runs.specs.Chain.{Buffer, codedOf, pxOf, memOf, gathered, framesOf, frameBad, fillBad}
 use Rattle.runs.proofs.Conv.{base, memAt, outAt, back, fill}
 use Rattle.runs.proofs.Rows.{bitsOf, decoded, in-half, inRow, inside, matrix-bits, memory-bits, none-bad, three-bits, undo, window}
