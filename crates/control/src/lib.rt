@@ -1,22 +1,25 @@
+// System control processing: section 11 of SY_IDD_1011s. An internal crate: lengths and ranges are required, and the crate above gives document 01's numbers.
 ghost use mathlib.Core.Path.{_≡_};
-ghost use Prim.Native.Nat.{_+_, _<_, _≤_, _%_};
-ghost use lib.ListN.{length, getD};
+ghost use Prim.Native.Nat.{_+_, _*_, _/_, _<_, _≤_, _%_, _^_};
+ghost use lib.ListN.{length};
 ghost use lib.Bits.{bitAnd};
 ghost use lib.Count.{ones};
-ghost use Rattle.bits.specs.Bits.{number};
-ghost use Rattle.bits.specs.Tests.{same};
-ghost use Rattle.control.specs.Control.{rsid, assembled, rowBit, blockOf, controlOf, reservedSent};
-ghost use Rattle.control.specs.Lookup.{firstDeparting, lookedUp};
-ghost use Rattle.control.specs.Decoded.{decoded};
+ghost use Rattle.bits.specs.Bits.{number, byteOf};
+ghost use Rattle.bits.specs.Tests.{same, lowest};
 ghost use Rattle.control.specs.Modes.{covered};
+ghost use Rattle.control.specs.Control.{rsid, assembled, rowBit, blockOf, controlOf};
+ghost use Rattle.control.specs.Departs.{departs};
+ghost use Rattle.control.specs.Lookup.{lookedUp};
+ghost use Rattle.control.specs.Words.{plain, Columns, across, decoded};
 
 // Table 11-3: the two rows of four, by the column's number after division by 4.
 const TO_30: [u32; 4] = [0b10, 0b01, 0b00, 0b11];
 
 const FROM_31: [u32; 4] = [0b10, 0b11, 0b00, 0b01];
 
+// The reference subcarrier identification of a column.
 fn rsid_of(column: usize) -> u32
-    ensures { λ r. ⌜ r ≡ rsid column ⌝ }
+    ensures { λ r. ⌜ (r ≡ rsid column) × (r < 4) ⌝ }
 {
     if column < 31 {
         TO_30[column % 4]
@@ -36,6 +39,24 @@ const OVER_11: u32 = 0x0001_f000;
 
 const OVER_0: u32 = 0x0000_01fe;
 
+// The reserved bits where Table 11-1 has them: the weights 1, 2, 4 in bits 7, 16, 24.
+fn reserved_bits(reserved: u8) -> u32
+    requires { ⌜ reserved < 8 ⌝ }
+    ensures { λ r. ⌜ r ≡ reserved / 4 % 2 * 2 ^ 24 + reserved / 2 % 2 * 2 ^ 16 + reserved % 2 * 2 ^ 7 ⌝ }
+{
+    let z = reserved as u32;
+    ((z / 4 % 2) << 24) + ((z / 2 % 2) << 16) + ((z % 2) << 7)
+}
+
+// The fields of the sequence without the parity bits.
+fn plain_of(mode: u8, count: u8, reserved: u8, column: usize) -> u32
+    requires { ⌜ (mode < 64) × (count < 16) × (reserved < 8) ⌝ }
+    ensures { λ r. ⌜ (r ≡ plain mode count reserved column) × (r < 2 ^ 31) ⌝ }
+{
+    let fields = (rsid_of(column) << 20) + ((count as u32) << 12) + ((mode as u32) << 1);
+    FIXED + reserved_bits(reserved) + fields
+}
+
 // The modulo 2 sum of the bits of x at which the mask has a 1.
 fn parity_under(x: u32, mask: u32) -> u32
     ensures { λ r. ⌜ r ≡ ones (bitAnd x mask) % 2 ⌝ }
@@ -43,12 +64,12 @@ fn parity_under(x: u32, mask: u32) -> u32
     u32::count_ones(x & mask) % 2
 }
 
-// The system control data sequence, bit 31 first.
-pub fn sequence_of(mode: u8, count: u8, column: usize) -> u32
-    requires { ⌜ (mode < 64) × (count < 16) ⌝ }
-    ensures { λ r. ⌜ r ≡ number 32 (assembled mode count reservedSent column) ⌝ }
+// The system control data sequence of a column, bit 31 first.
+pub fn sequence_of(mode: u8, count: u8, reserved: u8, column: usize) -> u32
+    requires { ⌜ (mode < 64) × (count < 16) × (reserved < 8) ⌝ }
+    ensures { λ r. ⌜ r ≡ number 32 (assembled mode count reserved column) ⌝ }
 {
-    let x = FIXED + (rsid_of(column) << 20) + ((count as u32) << 12) + ((mode as u32) << 1);
+    let x = plain_of(mode, count, reserved, column);
     let p23 = parity_under(x, OVER_23);
     let p18 = parity_under(x, OVER_18);
     let p11 = parity_under(x, OVER_11);
@@ -56,72 +77,101 @@ pub fn sequence_of(mode: u8, count: u8, column: usize) -> u32
     x + (p23 << 23) + (p18 << 18) + (p11 << 11) + p0
 }
 
-// One bit of a control block: after differential encoding the bit at a row is the modulo 2 sum of the sequence down to that row.
-fn cell(mode: u8, count: u8, row: usize, column: usize) -> u8
-    requires { ⌜ (mode < 64) × (count < 16) × (row < 32) ⌝ }
-    ensures { λ r. ⌜ r ≡ rowBit mode count reservedSent row column ⌝ }
+// One column of a packed block, row 0 first: each bit of the sequence is added modulo 2 to the last one stored. The three columns that fill the row are 0.
+fn column_of(mode: u8, count: u8, reserved: u8, column: usize) -> u32
+    requires { ⌜ (mode < 64) × (count < 16) × (reserved < 8) ⌝ }
+    ensures { λ r. ⌜ r ≡ number 32 (λ row. rowBit mode count reserved row column) ⌝ }
 {
-    if column < 61 {
-        let x = sequence_of(mode, count, column);
-        (u32::count_ones(x >> (31 - row)) % 2) as u8
-    } else {
-        0
+    if column > 60 {
+        return 0;
     }
+    let x = sequence_of(mode, count, reserved, column);
+    let mut y: u32 = 0;
+    let mut row: u32 = 0;
+    while row < 32 {
+        y = y * 2 + ((y ^ (x >> (31 - row))) & 1);
+        row += 1;
+    }
+    y
 }
 
-// Byte j of a control block.
-fn byte_of(mode: u8, count: u8, j: usize) -> u8
-    requires { ⌜ (mode < 64) × (count < 16) × (j < 256) ⌝ }
-    ensures { λ r. ⌜ r ≡ getD (blockOf mode count) j 0 ⌝ }
+// All columns of a packed block.
+fn columns(mode: u8, count: u8, reserved: u8) -> [u32; 64]
+    requires { ⌜ (mode < 64) × (count < 16) × (reserved < 8) ⌝ }
+    ensures { λ r. ⌜ Columns mode count reserved r ⌝ }
 {
-    let row = j / 8;
+    let mut words = [0; 64];
+    let mut column = 0;
+    while column < 64 {
+        words[column] = column_of(mode, count, reserved, column);
+        column += 1;
+    }
+    words
+}
+
+// Byte j of the packed block whose columns are the words: eight columns of row j / 8.
+fn byte_of(words: &[u32; 64], j: usize) -> u8
+    requires { ⌜ j < 256 ⌝ }
+    ensures { λ r. ⌜ r ≡ byteOf (across (now (words .entry))) j ⌝ }
+{
+    let place = 31 - j / 8;
     let first = j % 8 * 8;
     let mut x: u8 = 0;
     let mut k: usize = 0;
     while k < 8 {
-        x = x * 2 + cell(mode, count, row, first + k);
+        x = (x << 1) | ((words[first + k] >> place) & 1) as u8;
         k += 1;
     }
     x
 }
 
-// Writes all sixteen blocks.
-pub fn fill_control(mode: u8, out: &mut [u8])
-    requires { ⌜ (mode < 64) × (length (now out) ≡ 4096) ⌝ }
-    ensures { λ _. ⌜ now (out .exit) ≡ controlOf mode ⌝ }
+// Writes the control block of a mode, a count and reserved bits.
+fn fill_block(mode: u8, count: u8, reserved: u8, out: &mut [u8])
+    requires { ⌜ (mode < 64) × (count < 16) × (reserved < 8) × (length (now out) ≡ 256) ⌝ }
+    ensures { λ _. ⌜ now (out .exit) ≡ blockOf mode count reserved ⌝ }
 {
-    let mut n: usize = 0;
-    while n < 4096 {
-        out[n] = byte_of(mode, (n / 256) as u8, n % 256);
-        n += 1;
-    }
-}
-
-// Whether a block is the one of this mode and count.
-pub fn block_is(mode: u8, count: u8, block: &[u8]) -> bool
-    requires { ⌜ (mode < 64) × (count < 16) × (length (now block) ≡ 256) ⌝ }
-    ensures { λ r. ⌜ r ≡ same (now (block .entry)) (blockOf mode count) ⌝ }
-{
+    let words = columns(mode, count, reserved);
     let mut j: usize = 0;
     while j < 256 {
-        if block[j] != byte_of(mode, count, j) {
-            return false;
-        }
+        out[j] = byte_of(&words, j);
         j += 1;
     }
-    true
 }
 
-// The lowest block that is not the one of this mode and count, or 16.
-pub fn first_departing(mode: u8, control: &[u8]) -> u8
-    requires { ⌜ (mode < 64) × (length (now control) ≡ 4096) ⌝ }
-    ensures { λ r. ⌜ r ≡ firstDeparting mode (now (control .entry)) ⌝ }
+// Writes all sixteen blocks.
+pub fn fill_control(mode: u8, reserved: u8, out: &mut [u8])
+    requires { ⌜ (mode < 64) × (reserved < 8) × (length (now out) ≡ 4096) ⌝ }
+    ensures { λ _. ⌜ now (out .exit) ≡ controlOf mode reserved ⌝ }
+{
+    let mut count: u8 = 0;
+    while count < 16 {
+        let from = count as usize * 256;
+        let to = from + 256;
+        fill_block(mode, count, reserved, &mut out[from..to]);
+        count += 1;
+    }
+}
+
+// Whether a block is the one of this mode, this count and these reserved bits.
+pub fn block_is(mode: u8, count: u8, reserved: u8, block: &[u8]) -> bool
+    requires { ⌜ (mode < 64) × (count < 16) × (reserved < 8) ⌝ }
+    ensures { λ r. ⌜ r ≡ same (now (block .entry)) (blockOf mode count reserved) ⌝ }
+{
+    let mut want = [0; 256];
+    fill_block(mode, count, reserved, &mut want);
+    bits::same(block, &want)
+}
+
+// The lowest block that is not the one of this mode, its count and these reserved bits, or 16.
+pub fn first_departing(mode: u8, reserved: u8, control: &[u8]) -> u8
+    requires { ⌜ (mode < 64) × (reserved < 8) × (length (now control) ≡ 4096) ⌝ }
+    ensures { λ r. ⌜ r ≡ lowest 16 (departs mode reserved (now (control .entry))) ⌝ }
 {
     let mut c: u8 = 0;
     while c < 16 {
         let start = c as usize * 256;
         let end = start + 256;
-        if !block_is(mode, c, &control[start..end]) {
+        if !block_is(mode, c, reserved, &control[start..end]) {
             return c;
         }
         c += 1;
@@ -129,9 +179,9 @@ pub fn first_departing(mode: u8, control: &[u8]) -> u8
     16
 }
 
+// What a control block alone says.
 pub enum Looked {
     Found { mode: u8, count: u8 },
-    Length,
     NotABlock,
 }
 
@@ -142,7 +192,7 @@ fn decoded_at(block: &[u8], row: usize) -> u8
 {
     let here = bits::get(block, row * 64);
     let above = bits::get(block, (row - 1) * 64);
-    (here + above) % 2
+    (here ^ above) & 1
 }
 
 // The k bits of column 0 from a row on, before differential encoding, as a number.
@@ -153,14 +203,14 @@ fn field_at(block: &[u8], row: usize, k: usize) -> u8
     let mut x: u8 = 0;
     let mut i: usize = 0;
     while i < k {
-        x = x * 2 + decoded_at(block, row + i);
+        x = (x << 1) | decoded_at(block, row + i);
         i += 1;
     }
     x
 }
 
 // Whether the mode is MP1, MP2, MP3 or MP11.
-fn is_covered(mode: u8) -> bool
+pub fn is_covered(mode: u8) -> bool
     ensures { λ r. ⌜ r ≡ covered mode ⌝ }
 {
     if mode == 1 {
@@ -177,17 +227,18 @@ fn is_covered(mode: u8) -> bool
 
 // The mode and count of a block, by the fields of its column 0 and one comparison.
 pub fn lookup(block: &[u8]) -> Looked
+    requires { ⌜ length (now block) ≡ 256 ⌝ }
     ensures { λ r. ⌜ r ≡ lookedUp (now (block .entry)) ⌝ }
 {
-    if block.len() != 256 {
-        return Looked::Length;
-    }
     let mode = field_at(block, 25, 6);
     let count = field_at(block, 16, 4);
-    if is_covered(mode) {
-        if block_is(mode, count, block) {
-            return Looked::Found { mode, count };
-        }
+    let known = is_covered(mode);
+    if !known {
+        return Looked::NotABlock;
     }
-    Looked::NotABlock
+    let equal = block_is(mode, count, 0, block);
+    if !equal {
+        return Looked::NotABlock;
+    }
+    Looked::Found { mode, count }
 }

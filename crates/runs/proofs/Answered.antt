@@ -1,6 +1,7 @@
 -- A call either succeeds or is refused. Assumes nothing.
 use mathlib.Core.Path.{_≡_, refl, ap, _∙_}
 use mathlib.Core.Logic.{_⊎_, inl, inr, _≢_}
+use native.Mathlib.Omega.{arith}
 use Rattle.runs.specs.declared.Answer.{Answer}
 use Rattle.runs.specs.declared.Answer.the-variants.{Success, ModeNotCovered, StateNotValid, WrongLength, WrongControl, P1NotCoded, PidsNotCoded, FillNotZero, ExtendedNotCoded}
 use Rattle.runs.specs.Answers.{numberOf, onSuccess}
@@ -30,3 +31,23 @@ refused-is a done refused ok ne = go (either a)
     go : (a ≡ Success) ⊎ ((x y : Result) → onSuccess a x y ≡ y) → onSuccess a done refused ≡ refused
     go (inl e) = absurd (ne (ap (λ (x : Answer). numberOf (onSuccess x done refused .answer)) e ∙ ap (λ (r : Result). numberOf (r .answer)) (on-done done refused) ∙ ok))
     go (inr f) = f done refused
+
+-- any other answer than success is a refusal
+pub not-success : (a : Answer) (done refused : Result) → a ≢ Success → onSuccess a done refused ≡ refused
+not-success a done refused ne = go (either a)
+  where
+    go : (a ≡ Success) ⊎ ((x y : Result) → onSuccess a x y ≡ y) → onSuccess a done refused ≡ refused
+    go (inl e) = absurd (ne e)
+    go (inr f) = f done refused
+
+-- the number 0 is success alone
+pub success-is : (a : Answer) → numberOf a ≡ 0 → a ≡ Success
+success-is Success e = refl
+success-is ModeNotCovered e = absurd (omega arith)
+success-is StateNotValid e = absurd (omega arith)
+success-is (WrongLength k) e = absurd (omega arith)
+success-is (WrongControl k) e = absurd (omega arith)
+success-is P1NotCoded e = absurd (omega arith)
+success-is (PidsNotCoded k) e = absurd (omega arith)
+success-is (FillNotZero k) e = absurd (omega arith)
+success-is (ExtendedNotCoded k) e = absurd (omega arith)

@@ -12,7 +12,7 @@ use Rattle.interleaving.specs.PM.{p1Place, pidsPlace, matrix}
 use Rattle.interleaving.specs.PX.{codedBytes, codedBits, stepOf, after, read}
 use Rattle.runs.specs.declared.Kind.{Kind}
 use Rattle.runs.specs.declared.Kind.the-variants.{Unused, Narrow, Wide}
-use Rattle.runs.specs.Lengths.{frameBits, rowOf, matrixLen, senderLen, pmLen}
+use Rattle.runs.specs.Lengths.{frameBits, tableRow, matrixLen, senderLen, pmLen}
 use Rattle.runs.specs.Chain.{Buffer, pmOf, codedOf, pxOf, memOf}
 
 -- ---- PM
@@ -34,35 +34,35 @@ pm-from a b p1 pids e d =
 
 -- ---- PX
 
-matrix-bytes : (k : Kind) → codedBytes (rowOf k) ≡ matrixLen k
-unfolding rowOf codedBytes matrixLen
+matrix-bytes : (k : Kind) → codedBytes (tableRow k) ≡ matrixLen k
+unfolding codedBytes
 matrix-bytes Unused = refl
 matrix-bytes Narrow = refl
 matrix-bytes Wide = refl
 
-memory-bytes : (k : Kind) → 2 * codedBytes (rowOf k) ≡ senderLen k
-unfolding rowOf codedBytes senderLen
+memory-bytes : (k : Kind) → 2 * codedBytes (tableRow k) ≡ senderLen k
+unfolding codedBytes
 memory-bytes Unused = refl
 memory-bytes Narrow = refl
 memory-bytes Wide = refl
 
-module _ (k : Kind) (half : ℕ) (m a coded : Buffer) (e : coded ≡ packed (codedBytes (rowOf k)) (codedOf k a)) where
-  code-is : (i : ℕ) → i < codedBits (rowOf k) → bitAt coded i ≡ codedOf k a i
+module _ (k : Kind) (half : ℕ) (m a coded : Buffer) (e : coded ≡ packed (codedBytes (tableRow k)) (codedOf k a)) where
+  code-is : (i : ℕ) → i < codedBits (tableRow k) → bitAt coded i ≡ codedOf k a i
   unfolding codedOf
-  code-is i h = ap (λ (x : Buffer). bitAt x i) e ∙ bitAt-packed (codedBytes (rowOf k)) _ (λ j _. channel-bit Half (frameBits k) (bitAt a) j) i h
+  code-is i h = ap (λ (x : Buffer). bitAt x i) e ∙ bitAt-packed (codedBytes (tableRow k)) _ (λ j _. channel-bit Half (frameBits k) (bitAt a) j) i h
 
-  after-same : (n : ℕ) → n ≤ codedBits (rowOf k) → after (rowOf k) half (bitAt coded) (bitAt m) n ≡ after (rowOf k) half (codedOf k a) (bitAt m) n
+  after-same : (n : ℕ) → n ≤ codedBits (tableRow k) → after (tableRow k) half (bitAt coded) (bitAt m) n ≡ after (tableRow k) half (codedOf k a) (bitAt m) n
   unfolding after
   after-same n h = written-cong _ _ _ _ n _ (λ i l. (refl, code-is i (omega arith)))
 
-  pub px-from : packed (codedBytes (rowOf k)) (read (rowOf k) half (bitAt coded) (bitAt m)) ≡ pxOf k half m a
+  pub px-from : packed (codedBytes (tableRow k)) (read (tableRow k) half (bitAt coded) (bitAt m)) ≡ pxOf k half m a
   unfolding pxOf read
   px-from =
-      packed-cong (codedBytes (rowOf k)) _ _ (λ j h. ap (λ (f : ℕ → ℕ). f (stepOf (rowOf k) half j)) (after-same (suc j) h))
-      ∙ ap (λ (n : ℕ). packed n (λ j. after (rowOf k) half (codedOf k a) (bitAt m) (suc j) (stepOf (rowOf k) half j))) (matrix-bytes k)
+      packed-cong (codedBytes (tableRow k)) _ _ (λ j h. ap (λ (f : ℕ → ℕ). f (stepOf (tableRow k) half j)) (after-same (suc j) h))
+      ∙ ap (λ (n : ℕ). packed n (λ j. after (tableRow k) half (codedOf k a) (bitAt m) (suc j) (stepOf (tableRow k) half j))) (matrix-bytes k)
 
-  pub mem-from : packed (2 * codedBytes (rowOf k)) (after (rowOf k) half (bitAt coded) (bitAt m) (codedBits (rowOf k))) ≡ memOf k half m a
+  pub mem-from : packed (2 * codedBytes (tableRow k)) (after (tableRow k) half (bitAt coded) (bitAt m) (codedBits (tableRow k))) ≡ memOf k half m a
   unfolding memOf
   mem-from =
-      ap (packed (2 * codedBytes (rowOf k))) (after-same (codedBits (rowOf k)) (omega arith))
-      ∙ ap (λ (n : ℕ). packed n (after (rowOf k) half (codedOf k a) (bitAt m) (codedBits (rowOf k)))) (memory-bytes k)
+      ap (packed (2 * codedBytes (tableRow k))) (after-same (codedBits (tableRow k)) (omega arith))
+      ∙ ap (λ (n : ℕ). packed n (after (tableRow k) half (codedOf k a) (bitAt m) (codedBits (tableRow k)))) (memory-bytes k)

@@ -26,7 +26,7 @@ readMemory mode S (suc t) = pushed (readMemory mode S t) (S t .matrices)
 -- a reading that is not answered by 0 changes nothing
 pub read-refused : (s : State) (m : Memory) (l : Lent) → numberOf (readStep s m l .answer) ≢ 0
     → readStep s m l ≡ refused s m l (readAnswer s m l)
-unfolding readStep received numberOf
+unfolding readStep received
 read-refused s m l = refused-is (readAnswer s m l) (received s m l) (refused s m l (readAnswer s m l)) refl
 
 pub pushed-of : (m : Memory) (x : Matrices) (e : Extended) → memoryOf (pushed m x) e ≡ push (memoryOf m e) (matrixOf x e)

@@ -18,7 +18,7 @@ use Rattle.coding.proofs.Channel.{channel-bit}
 use Rattle.interleaving.specs.PX.{cells, place, after, read, later, unreached, isFill}
 use Rattle.interleaving.specs.FinderPX.{source}
 use Rattle.runs.specs.declared.Kind.{Kind}
-use Rattle.runs.specs.Lengths.{frameBits, rowOf, frameLen, matrixLen, senderLen}
+use Rattle.runs.specs.Lengths.{frameBits, tableRow, frameLen, matrixLen, senderLen}
 use Rattle.runs.specs.Chain.{Buffer, codedOf, pxOf, memOf, gathered, framesOf, frameBad, fillBad}
 use Rattle.runs.proofs.Conv.{base, memAt, outAt, back, fill}
 use Rattle.runs.proofs.Rows.{bitsOf, decoded, in-half, inRow, inside, matrix-bits, memory-bits, none-bad, three-bits, undo, window}
@@ -34,7 +34,7 @@ module _ (k : Kind) where
   unfolding pxOf
   matrix-length half m a = length-packed _ _
 
-  after-lt : (half : ℕ) (m a : Buffer) (n c : ℕ) → after (rowOf k) half (codedOf k a) (bitAt m) n c < 2
+  after-lt : (half : ℕ) (m a : Buffer) (n c : ℕ) → after (tableRow k) half (codedOf k a) (bitAt m) n c < 2
   unfolding after codedOf
   after-lt half m a n c = written-lt _ _ n _ (channel-bit Half (frameBits k) (bitAt a)) (bitAt-lt m) c
 
@@ -51,7 +51,7 @@ module _ (k : Kind) where
   codes A i = channel Half (frameBits k) (bitAt (A i))
 
   memories-are : (t : ℕ) (m : Buffer) (A : ℕ → Buffer) (i c : ℕ) → c < 2 * bitsOf k
-      → bitAt (memories t m A i) c ≡ memAt (bitsOf k) (place (rowOf k)) t (bitAt m) (codes A) i c
+      → bitAt (memories t m A i) c ≡ memAt (bitsOf k) (place (tableRow k)) t (bitAt m) (codes A) i c
   unfolding memories memAt memOf after codedOf
   memories-are t m A zero c h = refl
   memories-are t m A (suc i) c h =
@@ -59,7 +59,7 @@ module _ (k : Kind) where
       ∙ written-mem _ _ (bitsOf k) _ _ c (memories-are t m A i c h)
 
   matrices-are : (t : ℕ) (m : Buffer) (A : ℕ → Buffer) (i j : ℕ) → j < bitsOf k
-      → bitAt (matrices t m A i) j ≡ outAt (bitsOf k) (place (rowOf k)) t (bitAt m) (codes A) i j
+      → bitAt (matrices t m A i) j ≡ outAt (bitsOf k) (place (tableRow k)) t (bitAt m) (codes A) i j
   unfolding matrices outAt pxOf read after codedOf
   matrices-are t m A i j h =
       bitAt-packed (matrixLen k) _ (λ n _. after-lt ((t + i) % 2) (memories t m A i) (A i) (suc n) _) j (omega (arith, matrix-bits k))
@@ -71,11 +71,11 @@ module _ (k : Kind) where
   unfolding gathered later matrices
   gather-is t m A j h =
       let H : ℕ = bitsOf k in
-      let w = place (rowOf k) in
-      let p : ℕ = j + (w (t % 2 * H + j) + cells (rowOf k) - (t % 2 * H + j)) % cells (rowOf k) in
-      let twice : cells (rowOf k) ≡ 2 * H = omega arith in
+      let w = place (tableRow k) in
+      let p : ℕ = j + (w (t % 2 * H + j) + cells (tableRow k) - (t % 2 * H + j)) % cells (tableRow k) in
+      let twice : cells (tableRow k) ≡ 2 * H = omega arith in
       let (below, found) =
-      back H w (source (rowOf k)) (inside k) (undo k) t (bitAt m) (codes A) (omega arith) 0 j p h
+      back H w (source (tableRow k)) (inside k) (undo k) t (bitAt m) (codes A) (omega arith) 0 j p h
       (ap (λ (n : ℕ). j + (w (t % 2 * H + j) + n - (t % 2 * H + j)) % n) twice
       ∙ ap (λ (n : ℕ). j + (w (n % 2 * H + j) + 2 * H - (n % 2 * H + j)) % (2 * H)) (sym (add-zero t))) in
       three-bits H (matrixLen k) (matrix-bits k) (matrices t m A) (λ i. matrix-length _ _ _) p below
@@ -123,20 +123,20 @@ module _ (k : Kind) where
   -- ---- L1 frames 0 and 1 upon a memory of zeros
 
   fill-clear : (A : ℕ → Buffer) (t c : ℕ) → t < 2 → c < bitsOf k
-      → unreached (rowOf k) (base (bitsOf k) t + c) && eqb (bitAt (matrices 0 (replicate (senderLen k) 0) A t) c) 1 ≡ false
+      → unreached (tableRow k) (base (bitsOf k) t + c) && eqb (bitAt (matrices 0 (replicate (senderLen k) 0) A t) c) 1 ≡ false
   unfolding unreached
   fill-clear A t c two h = go (eqb shown 0) refl
     where
       shown : ℕ
-      shown = written (place (rowOf k)) (λ s. 1) (suc (base (bitsOf k) t + c)) (λ s. 0) (base (bitsOf k) t + c)
+      shown = written (place (tableRow k)) (λ s. 1) (suc (base (bitsOf k) t + c)) (λ s. 0) (base (bitsOf k) t + c)
 
       go : (b : Bool) → eqb shown 0 ≡ b → b && eqb (bitAt (matrices 0 (replicate (senderLen k) 0) A t) c) 1 ≡ false
       go false e = refl
       go true e =
           ap (λ (x : ℕ). eqb x 1)
           (matrices-are 0 (replicate (senderLen k) 0) A t c h
-          ∙ fill (bitsOf k) (place (rowOf k)) (bitAt (replicate (senderLen k) 0)) (codes A) t c two h
-          (written-never (place (rowOf k)) (suc (base (bitsOf k) t + c)) (base (bitsOf k) t + c) (eqb-true shown 0 e))
+          ∙ fill (bitsOf k) (place (tableRow k)) (bitAt (replicate (senderLen k) 0)) (codes A) t c two h
+          (written-never (place (tableRow k)) (suc (base (bitsOf k) t + c)) (base (bitsOf k) t + c) (eqb-true shown 0 e))
           ∙ bitAt-zeros (senderLen k) (base (bitsOf k) t + c))
 
   pub fill-first : (a : Buffer) (c : ℕ) → c < 8 * matrixLen k → fillBad k 0 (pxOf k 0 (replicate (senderLen k) 0) a) c ≡ false

@@ -32,7 +32,7 @@ use Rattle.runs.proofs.Memory.{readMemory}
 use Rattle.runs.proofs.ReaderRun.{Got, read-run}
 
 pub start-clear : (len : Kind → ℕ) (mode : ℕ) → covered mode ≡ true → numberOf (start len mode (zeros len mode) .answer) ≡ 0
-unfolding memorySizes numberOf
+unfolding memorySizes
 start-clear len mode cov =
     ap (λ (s : Started). numberOf (s .answer))
     (start-succeeds len mode (zeros len mode) cov
@@ -62,7 +62,7 @@ module _ (mode : ℕ) (cov : covered mode ≡ true) (F : ℕ → Frames) (n : �
       (wrong-cons _ _ _ _ (length-replicate {A = ℕ} (frameLen (kindOf mode P4)) 0)
       (wrong-cons _ _ _ _ (pm-length (F t .p1) (F t .pids))
       (wrong-cons _ _ _ _ (in-length mode cov F n right P3 t h)
-      (wrong-cons _ _ _ _ (in-length mode cov F n right P4 t h) (wrong-cons _ _ _ _ (control.control-length mode) (wrong-nil _))))))))
+      (wrong-cons _ _ _ _ (in-length mode cov F n right P4 t h) (wrong-cons _ _ _ _ (control.control-length mode 0) (wrong-nil _))))))))
 
   straight : (k T : ℕ) → T + k ≤ n → (r : State) (m : Memory)
       → (gs : List Result) × Handed mode (table T k (defined mode F)) (calls readStep r m (table T k handing)) gs

@@ -37,7 +37,7 @@ module _ (mode : ℕ) (cov : covered mode ≡ true) (F : ℕ → Frames) (n : �
   S t = defined mode F t
 
   read-right : (t : ℕ) → t ≤ n → (e : Extended) → length (memoryOf (readMemory mode S t) e) ≡ readerLen (kindOf mode e)
-  unfolding readMemory matrixIn readerLen
+  unfolding readMemory matrixIn
   read-right zero h P3 = length-replicate _ 0
   read-right zero h P4 = length-replicate _ 0
   read-right (suc t) h e =
@@ -48,7 +48,7 @@ module _ (mode : ℕ) (cov : covered mode ≡ true) (F : ℕ → Frames) (n : �
   read-three : (t : ℕ) → suc (suc t) < n → (e : Extended)
       → memoryOf (readMemory mode S (suc (suc (suc t)))) e
       ≡ matrixIn mode F e t ++ matrixIn mode F e (suc t) ++ matrixIn mode F e (suc (suc t))
-  unfolding readMemory matrixIn pushed readerLen
+  unfolding readMemory matrixIn pushed
   read-three t h P3 =
       push-three (matrixLen (kindOf mode P3)) _ _ _ _ (read-right t (omega arith) P3) (in-length mode cov F n right P3 t (omega arith))
       (in-length mode cov F n right P3 (suc t) (omega arith)) (in-length mode cov F n right P3 (suc (suc t)) h)
@@ -94,7 +94,7 @@ module _ (mode : ℕ) (cov : covered mode ≡ true) (F : ℕ → Frames) (n : �
       record {
         state = valid-at mode cov t;
         lengths = wrong-append 0 _ _ lens (sizes-right t (omega arith));
-        control = first-none 16 _ (control.control-good mode);
+        control = first-none 16 _ (control.control-good mode 0);
         p1 = p1-good _ _;
         pids = first-none 16 _ (pids-good _ _);
         fill = fill-clear t h;
@@ -111,7 +111,7 @@ module _ (mode : ℕ) (cov : covered mode ≡ true) (F : ℕ → Frames) (n : �
 
   -- the reading of L1 frame t gives the frames
   pub read-gives : (t : ℕ) → t < n → (f : Frames) → Returned F t (received (stateAt mode t) (readMemory mode S t) (handed t f))
-  unfolding received defined signalOf numberOf placeOf
+  unfolding received defined signalOf
   read-gives t h f =
       let r = right t h in
       record {

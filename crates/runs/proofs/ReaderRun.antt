@@ -9,7 +9,6 @@ use native.Mathlib.Omega.{arith}
 use lib.ListN.{length, getD}
 use Rattle.control.specs.Modes.{covered}
 use Rattle.runs.specs.declared.State.{State}
-use Rattle.runs.specs.declared.Extended.{Extended}
 use Rattle.runs.specs.Answers.{numberOf}
 use Rattle.runs.specs.Lent.{Frames, Signal, Lent, Memory, Result}
 use Rattle.runs.specs.Reading.{readStep, received}

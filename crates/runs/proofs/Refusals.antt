@@ -18,7 +18,7 @@ use Rattle.interleaving.specs.PM.{p1Place, pidsPlace}
 use Rattle.interleaving.specs.PX.{place, stepOf, unreached, isFill}
 use Rattle.runs.specs.declared.Kind.{Kind}
 use Rattle.runs.specs.declared.Kind.the-variants.{Unused, Narrow, Wide}
-use Rattle.runs.specs.Lengths.{frameBits, rowOf}
+use Rattle.runs.specs.Lengths.{frameBits, tableRow}
 use Rattle.runs.specs.Chain.{Buffer, p1Bad, pidsBad, gathered, frameBad, fillBad}
 use Rattle.runs.specs.Causes.{first}
 use Rattle.runs.proofs.PM.{p1-long, pids-long}
@@ -37,7 +37,7 @@ pids-refused pm f = no-frame TwoFifths 80 pids-long (λ i. bitAt pm (pidsPlace i
 -- 8: there is no P3 or P4 frame whose coded bits stand at the cells of frame f in three matrices
 pub frame-refused : (k : Kind) (half : ℕ) (x : Buffer) (f : ℕ)
     → frameBad k half x f ≡ true ↔ (IsFrame Half (frameBits k) (gathered k half x) f → ⊥)
-unfolding frameBad frameBits
+unfolding frameBad
 frame-refused Unused half x f = (
   (λ e. absurd (true≢false (sym e ∙ empty-passes Half (gathered Unused half x) f))),
   (λ n. absurd (n (empty-frame Half (gathered Unused half x) f))),
@@ -48,11 +48,11 @@ frame-refused Wide half x f = no-frame Half 4608 (long 4608 (omega arith) refl) 
 -- 7: no step up to the one that reads the cell has written it, and it is 1
 pub fill-refused : (k : Kind) (age : ℕ) (x : Buffer) (c : ℕ)
     → fillBad k age x c ≡ true
-    ↔ (((s : ℕ) → s < suc (stepOf (rowOf k) age c) → stepOf (rowOf k) age c ≢ place (rowOf k) s) × (bitAt x c ≡ 1))
+    ↔ (((s : ℕ) → s < suc (stepOf (tableRow k) age c) → stepOf (tableRow k) age c ≢ place (tableRow k) s) × (bitAt x c ≡ 1))
 unfolding fillBad isFill unreached
 fill-refused k age x c =
-    let w = place (rowOf k) in
-    let i : ℕ = stepOf (rowOf k) age c in
+    let w = place (tableRow k) in
+    let i : ℕ = stepOf (tableRow k) age c in
     let shown : ℕ = written w (λ s. 1) (suc i) (λ s. 0) i in (
       (λ e.
           let (p, q) = and-true (eqb shown 0) (eqb (bitAt x c) 1) e in

@@ -17,37 +17,37 @@ use Rattle.interleaving.specs.FinderPX.{source}
 use Rattle.interleaving.proofs.OncePX.{once}
 use Rattle.runs.specs.declared.Kind.{Kind}
 use Rattle.runs.specs.declared.Kind.the-variants.{Unused, Narrow, Wide}
-use Rattle.runs.specs.Lengths.{frameBits, rowOf, frameLen, matrixLen, senderLen}
+use Rattle.runs.specs.Lengths.{frameBits, tableRow, frameLen, matrixLen, senderLen}
 use Rattle.runs.specs.Chain.{Buffer, pxOf, memOf}
 
 -- ---- lengths
 
 -- the coded bits of an L1 frame: as many as its matrices have cells, and half as many as the internal matrix has
 abbrev pub bitsOf : Kind → ℕ
-bitsOf k = codedBits (rowOf k)
+bitsOf k = codedBits (tableRow k)
 
 pub matrix-bits : (k : Kind) → bitsOf k ≡ 8 * matrixLen k
-unfolding rowOf codedBytes matrixLen
+unfolding codedBytes
 matrix-bits Unused = refl
 matrix-bits Narrow = refl
 matrix-bits Wide = refl
 
 pub memory-bits : (k : Kind) → 2 * bitsOf k ≡ 8 * senderLen k
-unfolding rowOf codedBytes senderLen
+unfolding codedBytes
 memory-bits Unused = refl
 memory-bits Narrow = refl
 memory-bits Wide = refl
 
 -- ---- the place map
 
-pub inside : (k : Kind) (i : ℕ) → i < 2 * bitsOf k → place (rowOf k) i < 2 * bitsOf k
-unfolding rowOf codedBytes
+pub inside : (k : Kind) (i : ℕ) → i < 2 * bitsOf k → place (tableRow k) i < 2 * bitsOf k
+unfolding codedBytes
 inside Unused i h = absurd (not-suc-le-zero h)
 inside Narrow i h = once 0 (omega arith) .there i h
 inside Wide i h = once 1 (omega arith) .there i h
 
-pub undo : (k : Kind) (i : ℕ) → i < 2 * bitsOf k → source (rowOf k) (place (rowOf k) i) ≡ i
-unfolding rowOf codedBytes
+pub undo : (k : Kind) (i : ℕ) → i < 2 * bitsOf k → source (tableRow k) (place (tableRow k) i) ≡ i
+unfolding codedBytes
 undo Unused i h = absurd (not-suc-le-zero h)
 undo Narrow i h = once 0 (omega arith) .there-back i h
 undo Wide i h = once 1 (omega arith) .there-back i h
@@ -59,14 +59,14 @@ long n h e = record { enough = h; even = e }
 
 pub decoded : (k : Kind) (f y : ℕ → ℕ) → ((i : ℕ) → f i < 2) → ((j : ℕ) → j < bitsOf k → y j ≡ channel Half (frameBits k) f j)
     → (n : ℕ) → n < 8 * frameLen k → unchannel Half (frameBits k) y n ≡ f n
-unfolding rowOf codedBytes frameBits frameLen
+unfolding codedBytes
 decoded Unused f y b same n h = absurd (not-suc-le-zero h)
 decoded Narrow f y b same n h = unchannel-is Half 2304 (long 2304 (omega arith) refl) f y 8 b same n h
 decoded Wide f y b same n h = unchannel-is Half 4608 (long 4608 (omega arith) refl) f y 8 b same n h
 
 pub none-bad : (k : Kind) (f y : ℕ → ℕ) → ((i : ℕ) → f i < 2) → ((j : ℕ) → j < bitsOf k → y j ≡ channel Half (frameBits k) f j)
     → (n : ℕ) → n < 8 → noFrame Half (frameBits k) y n ≡ false
-unfolding rowOf codedBytes frameBits
+unfolding codedBytes
 none-bad Unused f y b same n h = empty-passes Half y n
 none-bad Narrow f y b same n h =
     let l = long 2304 (omega arith) refl in frame-passes Half 2304 l y n (frame-there Half 2304 l f y 8 b same n h)

@@ -61,7 +61,7 @@ sentAfter mode f fs r =
 
 send-each : (mode : ℕ) → covered mode ≡ true → (fs : List Frames) → Every (Fitting mode) fs → (T : ℕ) (m : Memory) → MemoryRight senderLen mode m
     → framesIn (succeeded (calls sendStep (stateAt mode T) m (map (lending mode) fs))) ≡ fs
-unfolding calls succeeded sent sentAfter lending numberOf
+unfolding calls succeeded sent sentAfter lending
 send-each mode cov [] each T m mr = refl
 send-each mode cov (f ∷ fs) each T m mr =
     ap (sentAfter mode f fs) (send-sends mode cov T m f mr (each .0))

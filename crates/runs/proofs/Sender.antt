@@ -95,7 +95,7 @@ send-cases mode cov T m l bytes A bad good = rw (valid-at mode cov T) (go (wrong
 
 send-run : (mode : ℕ) → covered mode ≡ true → (ls : List Lent) → Every (λ (l : Lent). ByteFrames (l .frames)) ls
     → (T : ℕ) (m : Memory) → MemoryRight senderLen mode m → Ran mode T m (succeeded (calls sendStep (stateAt mode T) m ls))
-unfolding calls succeeded table sent numberOf
+unfolding calls succeeded table sent
 send-run mode cov [] s T m right = record { signals = refl; rights = λ t h. absurd (not-suc-le-zero h) }
 send-run mode cov (l ∷ ls) s T m right =
     send-cases mode cov T m l (s .0)

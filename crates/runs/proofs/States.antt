@@ -16,14 +16,14 @@ use Rattle.runs.specs.Lengths.{senderLen}
 use Rattle.runs.specs.Lent.{Frames, Signal, Memory, signalOf, memoryNext}
 use Rattle.runs.specs.Answers.{numberOf, onSuccess}
 use Rattle.runs.specs.Causes.{at, judge, when, wrong}
-use Rattle.runs.specs.Starting.{Started, valid, next, fresh, memorySizes, zeros, startAnswer, started, start}
+use Rattle.runs.specs.Starting.{Started, aged, valid, next, fresh, memorySizes, zeros, startAnswer, started, start}
 use Rattle.runs.specs.Defined.{memoryBefore, defined}
 
 -- ---- a start that succeeded
 
 pub start-ok : (len : Kind → ℕ) (mode : ℕ) (m : Memory) → numberOf (start len mode m .answer) ≡ 0
     → (covered mode ≡ true) × (start len mode m ≡ started len mode)
-unfolding start startAnswer judge numberOf onSuccess
+unfolding start startAnswer judge onSuccess
 start-ok len mode m = go (covered mode) (wrong 0 (memorySizes len mode m))
   where
     answer : Bool → Option ℕ → Answer
@@ -46,7 +46,7 @@ pub old : (k : ℕ) → min 2 (suc (suc k)) ≡ 2
 old k = omega arith
 
 pub valid-at : (mode : ℕ) → covered mode ≡ true → (t : ℕ) → valid (stateAt mode t) ≡ true
-unfolding valid
+unfolding valid aged
 valid-at mode cov zero = rw cov
 valid-at mode cov (suc zero) = rw cov
 valid-at mode cov (suc (suc k)) = rw (cov, old k, lt-ltb (suc (suc k) % 2) 2 (omega arith))

@@ -7,7 +7,7 @@ use mathlib.Core.List.{_++_}
 use lib.Dec.{ltb}
 use borrow.Author.Tests.{lt-ltb}
 use Rattle.control.specs.Modes.{covered}
-use Rattle.control.specs.Lookup.{departs}
+use Rattle.control.specs.Departs.{departs}
 use Rattle.runs.specs.declared.State.{State}
 use Rattle.runs.specs.declared.Extended.{Extended}
 use Rattle.runs.specs.declared.Extended.the-variants.{P3, P4}
@@ -37,7 +37,7 @@ send-succeeds s m l state lengths = rw (state, lengths)
 pub record Clear (s : State) (m : Memory) (l : Lent) : Type 0 where
   pub state : valid s ≡ true
   pub lengths : wrong 0 (lentSizes (s .mode) l ++ memorySizes readerLen (s .mode) m) ≡ none
-  pub control : first 16 (departs (s .mode) (l .signal .control)) ≡ none
+  pub control : first 16 (departs (s .mode) 0 (l .signal .control)) ≡ none
   pub p1 : p1Bad (l .signal .matrices .pm) ≡ false
   pub pids : first 16 (pidsBad (l .signal .matrices .pm)) ≡ none
   pub fill : cond (ltb (s .age) 2) (fillPlace s (l .signal .matrices)) none ≡ none

@@ -3,7 +3,7 @@ use Prim.Native.Nat.{ℕ}
 use Rattle.runs.specs.declared.Answer.{Answer}
 use Rattle.runs.specs.declared.Answer.the-variants.{Success, ModeNotCovered, StateNotValid, WrongLength, WrongControl, P1NotCoded, PidsNotCoded, FillNotZero, ExtendedNotCoded}
 
-unfoldable pub numberOf : Answer → ℕ
+abbrev pub numberOf : Answer → ℕ
 numberOf Success = 0
 numberOf ModeNotCovered = 1
 numberOf StateNotValid = 2
@@ -14,7 +14,7 @@ numberOf (PidsNotCoded frame) = 6
 numberOf (FillNotZero cell) = 7
 numberOf (ExtendedNotCoded frame) = 8
 
-unfoldable pub placeOf : Answer → ℕ
+abbrev pub placeOf : Answer → ℕ
 placeOf Success = 0
 placeOf ModeNotCovered = 0
 placeOf StateNotValid = 0

@@ -8,7 +8,7 @@ use Rattle.coding.specs.Channel.{channel, unchannel, noFrame}
 use Rattle.interleaving.specs.PM.{p1Place, pidsPlace, matrix}
 use Rattle.interleaving.specs.PX.{codedBits, after, read, later, isFill}
 use Rattle.runs.specs.declared.Kind.{Kind}
-use Rattle.runs.specs.Lengths.{frameBits, rowOf, frameLen, matrixLen, senderLen, p1Len, pidsLen, pmLen}
+use Rattle.runs.specs.Lengths.{frameBits, tableRow, frameLen, matrixLen, senderLen, p1Len, pidsLen, pmLen}
 
 abbrev pub Buffer : Type 0
 Buffer = List ℕ
@@ -39,14 +39,14 @@ unfoldable pub codedOf : Kind → Buffer → ℕ → ℕ
 codedOf k a = channel Half (frameBits k) (bitAt a)
 
 unfoldable pub pxOf : Kind → ℕ → Buffer → Buffer → Buffer
-pxOf k half m a = packed (matrixLen k) (read (rowOf k) half (codedOf k a) (bitAt m))
+pxOf k half m a = packed (matrixLen k) (read (tableRow k) half (codedOf k a) (bitAt m))
 
 unfoldable pub memOf : Kind → ℕ → Buffer → Buffer → Buffer
-memOf k half m a = packed (senderLen k) (after (rowOf k) half (codedOf k a) (bitAt m) (codedBits (rowOf k)))
+memOf k half m a = packed (senderLen k) (after (tableRow k) half (codedOf k a) (bitAt m) (codedBits (tableRow k)))
 
 -- back, from the matrices x of an L1 frame in that half and of the two after it
 unfoldable pub gathered : Kind → ℕ → Buffer → ℕ → ℕ
-gathered k half x j = bitAt x (later (rowOf k) half j)
+gathered k half x j = bitAt x (later (tableRow k) half j)
 
 unfoldable pub framesOf : Kind → ℕ → Buffer → Buffer
 framesOf k half x = packed (frameLen k) (unchannel Half (frameBits k) (gathered k half x))
@@ -57,4 +57,4 @@ frameBad k half x f = noFrame Half (frameBits k) (gathered k half x) f
 
 -- cell c of the matrix x of an L1 frame of age 0 or 1, which is its half, can show only the zero fill, and is 1
 unfoldable pub fillBad : Kind → ℕ → Buffer → ℕ → Bool
-fillBad k age x c = isFill (rowOf k) age (bitAt x) c
+fillBad k age x c = isFill (tableRow k) age (bitAt x) c

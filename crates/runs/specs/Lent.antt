@@ -72,7 +72,7 @@ signalOf mode half m f =
         px1 = pxOf (kindOf mode P3) half (m .for3) (f .p3);
         px2 = pxOf (kindOf mode P4) half (m .for4) (f .p4);
       };
-      control = controlOf mode;
+      control = controlOf mode 0;
     }
 
 unfoldable pub memoryNext : ℕ → ℕ → Memory → Frames → Memory

@@ -5,7 +5,7 @@ use mathlib.Core.Option.{Option, none}
 use mathlib.Core.List.{[], _∷_, _++_}
 use lib.ListN.{length, drop}
 use lib.Dec.{ltb}
-use Rattle.control.specs.Lookup.{departs}
+use Rattle.control.specs.Departs.{departs}
 use Rattle.runs.specs.declared.Answer.{Answer}
 use Rattle.runs.specs.declared.Answer.the-variants.{Success, StateNotValid, WrongLength, WrongControl, P1NotCoded, PidsNotCoded, FillNotZero, ExtendedNotCoded}
 use Rattle.runs.specs.declared.State.{State}
@@ -44,7 +44,7 @@ readAnswer s m l =
     judge
     (when (not (valid s)) StateNotValid
     ∷ at WrongLength (wrong 0 (lentSizes (s .mode) l ++ memorySizes readerLen (s .mode) m))
-    ∷ at WrongControl (first 16 (departs (s .mode) (l .signal .control)))
+    ∷ at WrongControl (first 16 (departs (s .mode) 0 (l .signal .control)))
     ∷ when (p1Bad (x .pm)) P1NotCoded
     ∷ at PidsNotCoded (first 16 (pidsBad (x .pm)))
     ∷ at FillNotZero (cond (ltb (s .age) 2) (fillPlace s x) none)

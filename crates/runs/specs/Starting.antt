@@ -1,6 +1,6 @@
 -- Document 01, "Operations of a run": states, and what a start does.
 use Prim.Native.Nat.{ℕ, _+_, _%_, min}
-use mathlib.Core.Bool.{Bool, not, _&&_, _||_}
+use mathlib.Core.Bool.{Bool, false, cond, not, _&&_}
 use mathlib.Core.List.{List, [], _∷_}
 use lib.ListN.{length, replicate}
 use lib.Dec.{eqb, ltb}
@@ -15,11 +15,13 @@ use Rattle.runs.specs.Answers.{onSuccess}
 use Rattle.runs.specs.Causes.{Size, at, judge, size, when, wrong}
 use Rattle.runs.specs.Lent.{Memory}
 
--- age 0 with half 0, age 1 with half 1, age 2 with either; and a covered mode
+-- age 0 with half 0, age 1 with half 1, age 2 with either
+unfoldable pub aged : (half age : ℕ) → Bool
+aged half age = cond (eqb age 0) (eqb half 0) (cond (eqb age 1) (eqb half 1) (cond (eqb age 2) (ltb half 2) false))
+
+-- and a covered mode
 unfoldable pub valid : State → Bool
-valid s =
-    covered (s .mode)
-    && ((eqb (s .age) 0 && eqb (s .half) 0) || (eqb (s .age) 1 && eqb (s .half) 1) || (eqb (s .age) 2 && ltb (s .half) 2))
+valid s = covered (s .mode) && aged (s .half) (s .age)
 
 -- the state after one more L1 frame
 unfoldable pub next : State → State

@@ -1,24 +1,21 @@
--- `control::first_departing` meets its contract. Assumes nothing.
-use mathlib.Core.Path.{_≡_, sym, _∙_}
-use mathlib.Core.Bool.{true}
+-- `control::first_departing` meets its contract. The loop's invariant: no block below c departs. Assumes nothing.
+use mathlib.Core.Path.{_≡_, sym, ap, _∙_}
+use mathlib.Core.Bool.{false, not}
 use Prim.Native.Nat.{ℕ, _-_, _≤_, _<_}
 use native.Mathlib.Omega.{arith}
-use lib.ListN.{length-take, length-drop}
 use borrow.Author.Count.{below-more}
-use borrow.Author.Tests.{not-true, not-false}
 use borrow.Author.Needs.{needs}
-use Rattle.control.specs.Control.{blockOf}
-use Rattle.bits.specs.Tests.{same}
-use Rattle.control.specs.Lookup.{blockAt}
-use Rattle.control.proofs.Departing.{part-same, first-at, first-none}
+use Rattle.bits.proofs.Tests.{lowest-at, lowest-none}
+use Rattle.control.specs.Departs.{departs}
+use Rattle.control.proofs.Lent.{departs-part}
 use Rattle.control.proofs.first_departing.Statement.{statement}
 use Rattle.control.proofs.first_departing.Tie as tie
 
 abbrev Inv-loop : tie.InvT-loop
-Inv-loop mode control c₀ c = (c ≤ 16) × ((i : ℕ) → i < c → same (blockAt control i) (blockOf mode i) ≡ true)
+Inv-loop mode reserved control c₀ c = (c ≤ 16) × ((i : ℕ) → i < c → departs mode reserved control i ≡ false)
 
 abbrev μ-loop : tie.MeasureT-loop
-μ-loop mode control c₀ c = 16 - c
+μ-loop mode reserved control c₀ c = 16 - c
 
 loop-holds : tie.Need-loop-holds Inv-loop μ-loop
 loop-holds c = (search needs, λ i h. absurd (omega arith))
@@ -42,15 +39,14 @@ part-block-is-end : tie.Need-part-block-is-end Inv-loop μ-loop
 part-block-is-end c = search needs
 
 block-is-requires : tie.Need-block-is-requires Inv-loop μ-loop
-block-is-requires c κs = (search needs, search needs, simp (length-take, length-drop) (omega arith))
+block-is-requires c κs = search needs
 
 returns : tie.Need-returns Inv-loop μ-loop
 returns c =
     let a = c .before .before .before .before .before .before .args in
-    let n = c .before .before .before .before .loop .c in
-    sym
-    (first-at (a .mode) (a .control .now) n (omega arith) (c .before .before .before .before .loop .inv .1)
-    (sym (c .before .block-is .ensures ∙ part-same (a .mode) (a .control .now) n) ∙ not-true (c .before .block-is .result) (c .if1 .taken)))
+    let loop = c .before .before .before .before .loop in
+    let test = departs-part (a .mode) (a .reserved) (loop .c) (a .control .now) in
+    sym (lowest-at 16 (loop .c) _ (omega arith) (loop .inv .1) (sym (ap not (c .before .block-is .ensures) ∙ test) ∙ c .if1 .taken))
 
 add-c : tie.Need-add-c Inv-loop μ-loop
 add-c c = search needs
@@ -61,13 +57,12 @@ loop-less c = search needs
 loop-again : tie.Need-loop-again Inv-loop μ-loop
 loop-again c =
     let a = c .before .before .before .before .before .before .args in
-    let n = c .before .before .before .before .loop .c in
-    (omega arith, below-more _ _ (c .before .before .before .before .loop .inv .1) (sym (c .before .block-is .ensures ∙ part-same (a .mode) (a .control .now) n) ∙ not-false (c .before .block-is .result) (c .if1 .left)))
+    let loop = c .before .before .before .before .loop in
+    let test = departs-part (a .mode) (a .reserved) (loop .c) (a .control .now) in
+    (omega arith, below-more _ _ (loop .inv .1) (sym (ap not (c .before .block-is .ensures) ∙ test) ∙ c .if1 .left))
 
 returns-2 : tie.Need-returns-2 Inv-loop μ-loop
-returns-2 c =
-    let a = c .before .before .before .args in
-    sym (first-none (a .mode) (a .control .now) (λ i h. c .before .loop .inv .1 i (omega arith)))
+returns-2 c = sym (lowest-none 16 _ (λ i h. c .before .loop .inv .1 i (omega arith)))
 
 pub first-departing-spec : {M : Type 1} → statement M
 first-departing-spec =
