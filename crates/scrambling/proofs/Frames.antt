@@ -1,21 +1,21 @@
 -- Frames one after the other: the register at each byte, and a scrambled byte. Assumes nothing.
-use mathlib.Core.Path.{_≡_, sym, ap, _∙_}
+use mathlib.Core.Path.{_≡_, refl, sym, ap, _∙_}
 use mathlib.Core.Bool.{cond}
-use mathlib.Core.List.{List}
+use mathlib.Core.List.{List, [], _∷_}
 use Prim.Native.Nat.{ℕ, _+_, _*_, _/_, _%_, _<_}
-use native.Mathlib.Nat.{div-add-mod', mod-lt}
+use native.Mathlib.Nat.{div-add-mod', mod-lt, mod-eq-of-lt}
 use native.Mathlib.Decide.{decLt, ℕ-discrete}
 use native.Mathlib.Omega.{arith}
 use lib.Arith.{digits-mod}
 use lib.Dec.{eqb}
-use lib.ListN.{getD}
+use lib.ListN.{getD, length}
 use lib.Bits.{bitXor}
 use borrow.Author.Tests.{eq-eqb, ne-eqb}
-use Rattle.bits.specs.Bits.{number, bitAt}
+use Rattle.bits.specs.Bits.{number, bitAt, packed}
 use Rattle.bits.proofs.Packed.{bitAt-lt}
 use Rattle.bits.proofs.Numbers.{number-cong}
 use Rattle.bits.proofs.Stores.{number-xor, byte-number}
-use Rattle.scrambling.specs.Scrambler.{register, sequence, scrambledEach}
+use Rattle.scrambling.specs.Scrambler.{register, sequence, scrambled, scrambledEach}
 
 -- the register that a byte starts from, where the byte before it left one
 abbrev pub Follows : ℕ → ℕ → ℕ → Type 0
@@ -68,3 +68,19 @@ each-byte n bytes i hn h =
 pub scrambledEach-bit : (n : ℕ) (f : ℕ → ℕ) (j : ℕ) → scrambledEach n f j < 2
 unfolding scrambledEach
 scrambledEach-bit n f j = omega arith
+
+-- a scrambled bit depends on its bit alone
+pub scrambledEach-same : (n : ℕ) (f g : ℕ → ℕ) (i : ℕ) → f i ≡ g i → scrambledEach n f i ≡ scrambledEach n g i
+unfolding scrambledEach
+scrambledEach-same n f g i e = rw e
+
+-- ---- one frame
+
+pub one-frame : (n : ℕ) (f : ℕ → ℕ) (i : ℕ) → i < n → scrambledEach n f i ≡ scrambled f i
+unfolding scrambledEach scrambled
+one-frame n f i h = ap (λ (k : ℕ). (f i + sequence k) % 2) (mod-eq-of-lt h)
+
+pub empty-frame : (out : List ℕ) (f : ℕ → ℕ) → length out ≡ 0 → out ≡ packed (length out) f
+unfolding packed
+empty-frame [] f e = refl
+empty-frame (x ∷ out) f e = absurd (omega arith)
