@@ -7,4 +7,3 @@ pub mod Parts
 pub mod Words
 pub mod Stores
 pub mod Replaced
-pub mod Points

@@ -1,4 +1,3 @@
 pub mod Bits
 pub mod Tests
 pub mod Once
-pub mod Points

@@ -2,7 +2,7 @@
 use mathlib.Core.Path.{_≡_, refl, sym, ap, ap₂, _∙_}
 use mathlib.Core.Logic.{_↔_}
 use mathlib.Core.Bool.{Bool, true, false, not, true≢false}
-use Prim.Native.Nat.{ℕ, _+_, _*_, _/_, _%_, _<_, _≤_}
+use Prim.Native.Nat.{ℕ, suc, _+_, _*_, _/_, _%_, _<_, _≤_}
 use native.Mathlib.Nat.{div-add-mod', mod-lt, div-lt-iff-lt-mul, not-suc-le-zero}
 use native.Mathlib.Omega.{arith}
 use lib.Dec.{T, eqb, eqb→eq}
@@ -17,9 +17,9 @@ use Rattle.coding.specs.declared.Rate.the-variants.{TwoFifths, Half}
 use Rattle.coding.specs.Coder.{coded}
 use Rattle.coding.specs.Inverse.{uncoded}
 use Rattle.coding.specs.Rates.{patternOf, recipeOf, codedLength, isCoded}
-use Rattle.coding.specs.Channel.{part, channel, unchannel, noFrame, Agree, IsFrame}
+use Rattle.coding.specs.Channel.{part, channel, unchannel, noFrame, Agree, IsCoded, IsFrame}
 use Rattle.coding.specs.Buffers.{Long}
-use Rattle.coding.proofs.Coder.{IsCoded, coded-bit, coded-same, uncoded-same, uncoded-coded, is-coded}
+use Rattle.coding.proofs.Coder.{coded-bit, coded-same, uncoded-same, uncoded-coded, coded-again}
 use Rattle.coding.proofs.Inverts.{inverts}
 
 pub channel-bit : (rate : Rate) (n : ℕ) (f : ℕ → ℕ) (m : ℕ) → channel rate n f m < 2
@@ -44,13 +44,22 @@ is-true : (b : Bool) → b ≡ true → T b
 is-true true e = tt
 is-true false e = absurd (true≢false (sym e))
 
-not-true : (b : Bool) → not b ≡ true → T b → ⊥
-not-true true e t = true≢false (sym e)
-not-true false e t = t
+not-true : (b : Bool) → (b ≡ true → ⊥) → not b ≡ true
+not-true true f = absurd (f refl)
+not-true false f = refl
 
-not-false : (b : Bool) → (T b → ⊥) → not b ≡ true
-not-false true f = absurd (f tt)
-not-false false f = refl
+no-frame-is : (rate : Rate) (n : ℕ) (y : ℕ → ℕ) (k : ℕ) → (isCoded rate n (part (codedLength rate n) k y) ≡ true → ⊥) → noFrame rate n y k ≡ true
+unfolding noFrame
+no-frame-is rate n y k f = not-true (isCoded rate n (part (codedLength rate n) k y)) f
+
+-- cells are the coding of a frame exactly where the test says so
+pub is-coded : (rate : Rate) (n : ℕ) → Long n → (y : ℕ → ℕ) → isCoded rate n y ≡ true ↔ IsCoded (patternOf rate) n y
+unfolding isCoded
+is-coded rate n l y =
+    let again = coded-again (patternOf rate) (recipeOf rate) (inverts rate) n l y in (
+      (λ e. again .1 (λ m h. eqb→eq _ _ (all-at _ _ (is-true _ e) m h))),
+      (λ w. all-true _ _ (λ m h. eq-eqb _ _ (again .0 w m h))),
+    )
 
 module _ (rate : Rate) (n : ℕ) (l : Long n) where
   pos : 0 < n
@@ -83,7 +92,7 @@ module _ (rate : Rate) (n : ℕ) (l : Long n) where
     pub frame-there : (k : ℕ) → k < K → IsFrame rate n y k
     frame-there k h = (part n k f, (λ i _. bits _), part-is k h)
 
-  -- the test is true exactly where there is no frame whose coding these cells are
+  -- part k is a coded transfer frame exactly where the test says so
   coded-frame : (y : ℕ → ℕ) (k : ℕ) → IsFrame rate n y k ↔ IsCoded (patternOf rate) n (part (codedLength rate n) k y)
   coded-frame y k = (
     (λ w. (scrambled (w .0), (λ i h. scrambled-bit (w .0) i), w .2)),
@@ -94,28 +103,19 @@ module _ (rate : Rate) (n : ℕ) (l : Long n) where
     )),
   )
 
-  test-yes : (y : ℕ → ℕ) (k : ℕ) → IsFrame rate n y k → isCoded rate n (part (codedLength rate n) k y) ≡ true
-  unfolding isCoded
-  test-yes y k w =
-      all-true _ _ (λ m h. eq-eqb _ _
-      (is-coded (patternOf rate) (recipeOf rate) (inverts rate) n l (part (codedLength rate n) k y) .0 (coded-frame y k .0 w) m h))
-
-  test-is : (y : ℕ → ℕ) (k : ℕ) → T (isCoded rate n (part (codedLength rate n) k y)) → IsFrame rate n y k
-  unfolding isCoded
-  test-is y k t =
-      coded-frame y k .1
-      (is-coded (patternOf rate) (recipeOf rate) (inverts rate) n l (part (codedLength rate n) k y) .1 (λ m h. eqb→eq _ _ (all-at _ _ t m h)))
-
-  pub no-frame : (y : ℕ → ℕ) (k : ℕ) → noFrame rate n y k ≡ true ↔ (IsFrame rate n y k → ⊥)
-  unfolding noFrame
-  no-frame y k = (
-    (λ e w. not-true (isCoded rate n (part (codedLength rate n) k y)) e (is-true (isCoded rate n (part (codedLength rate n) k y)) (test-yes y k w))),
-    (λ f. not-false (isCoded rate n (part (codedLength rate n) k y)) (λ t. f (test-is y k t))),
-  )
-
   pub frame-passes : (y : ℕ → ℕ) (k : ℕ) → IsFrame rate n y k → noFrame rate n y k ≡ false
   unfolding noFrame
-  frame-passes y k w = ap not (test-yes y k w)
+  frame-passes y k w = ap not (is-coded rate n l (part (codedLength rate n) k y) .1 (coded-frame y k .0 w))
+
+  pub no-frame : (y : ℕ → ℕ) (k : ℕ) → noFrame rate n y k ≡ true ↔ (IsFrame rate n y k → ⊥)
+  no-frame y k = (
+    (λ e w. true≢false (sym e ∙ frame-passes y k w)),
+    (λ f. no-frame-is rate n y k (λ e. f (coded-frame y k .1 (is-coded rate n l (part (codedLength rate n) k y) .0 e)))),
+  )
+
+  -- there and back
+  pub channel-back : (f : ℕ → ℕ) → ((i : ℕ) → f i < 2) → (i : ℕ) → unchannel rate n (channel rate n f) i ≡ f i
+  channel-back f bits i = unchannel-is f (channel rate n f) (suc (i / n)) bits (λ m h. refl) i (div-lt-iff-lt-mul pos .0 (omega arith))
 
   -- ---- the way back reads the coded bits of K frames alone
 

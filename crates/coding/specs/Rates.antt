@@ -1,7 +1,7 @@
 -- The two rates: the pattern of each, the recipe of its inverse, and the test that cells are a coding.
-use Prim.Native.Nat.{ℕ}
 use mathlib.Core.Bool.{Bool}
 use mathlib.Core.List.{List}
+use Prim.Native.Nat.{ℕ}
 use lib.Dec.{eqb}
 use Rattle.bits.specs.Tests.{all}
 use Rattle.coding.specs.declared.Rate.{Rate}

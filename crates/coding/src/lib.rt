@@ -1,250 +1,251 @@
+// The channel coder of section 9 and its inverse, by units: two bytes of a frame, and as many coded bytes as two bits have coded bits.
+// A unit's coded bits are read from a table of windows of eight bits; its own bits are parities of windows of coded bits.
 ghost use mathlib.Core.Path.{_≡_};
 ghost use Prim.Native.Nat.{ℕ, _+_, _*_, _/_, _%_, _^_, _<_, _≤_};
-ghost use lib.ListN.{length};
-ghost use lib.Bits.{bitAnd};
-ghost use lib.Dec.{eqb};
-ghost use lib.Count.{ones};
+ghost use lib.ListN.{length, take, getD};
 ghost use Rattle.bits.specs.Bits.{bitAt, number, packed};
-ghost use Rattle.bits.specs.Tests.{all};
-ghost use Rattle.coding.specs.Coder.{back, cells, coded, rate25, rate12};
-ghost use Rattle.coding.specs.Inverse.{uncoded, recipe25, recipe12};
-ghost use Rattle.coding.specs.Rates.{patternOf, recipeOf, codedLength, isCoded};
-ghost use Rattle.coding.specs.Buffers.{Cells, codedEach};
+ghost use Rattle.bits.specs.Tests.{lowest};
 ghost use Rattle.scrambling.specs.Scrambler.{scrambledEach};
-ghost use Rattle.coding.specs.Channel.{channel};
+ghost use Rattle.coding.specs.Coder.{back};
+ghost use Rattle.coding.specs.Channel.{channel, unchannel, noFrame};
+ghost use Rattle.coding.specs.Buffers.{Buffers, codedEach, uncodedEach};
+ghost use Rattle.coding.specs.Units.{groupSize, masksOf, masked, groupOf, Groups, unitCoded, unitBit, Within, around as «around-of»};
 
-// Up to sixteen bits of a frame that end at bit j, counted around it: bit j is the lowest.
-fn window(s: &[u8], j: usize) -> u16
-    requires { ⌜ j < 8 * length (now s) ⌝ }
-    ensures { λ r. ⌜ ((d : ℕ) → d ≤ 6 → r / 2 ^ d % 2 ≡ bitAt (now (s .entry)) (back (8 * length (now (s .entry))) j d)) ⌝ }
-{
-    let q = j / 8;
-    let p = (q + s.len() - 1) % s.len();
-    (((s[p] as u16) << 8) | (s[q] as u16)) >> (7 - j % 8)
-}
-
-// The modulo 2 sum of the bits of w where g has one.
-fn parity(w: u16, g: u16) -> u8
-    ensures { λ r. ⌜ r ≡ ones (bitAnd w g) % 2 ⌝ }
-{
-    (u16::count_ones(w & g) & 1) as u8
-}
-
-// Tables 9-1 and 9-2, the rate 2/5: for each cell of five, which of two bits it is made of, and the generator, its lowest digit for the newest bit.
-const COLUMNS25: [usize; 5] = [0, 0, 0, 1, 1];
-
-const GENERATORS25: [u16; 5] = [0o155, 0o117, 0o127, 0o155, 0o117];
-
-// Cell n of a coded frame.
-fn cell25(s: &[u8], n: usize) -> u8
-    requires { ⌜ n < cells rate25 (8 * length (now s)) ⌝ }
-    ensures { λ r. ⌜ r ≡ coded rate25 (8 * length (now (s .entry))) (bitAt (now (s .entry))) n ⌝ }
-{
-    let k = n % 5;
-    let j = n / 5 * 2 + COLUMNS25[k];
-    parity(window(s, j), GENERATORS25[k])
-}
-
-// The rate 1/2, with four cells.
-const COLUMNS12: [usize; 4] = [0, 0, 1, 1];
-
-const GENERATORS12: [u16; 4] = [0o155, 0o127, 0o155, 0o127];
-
-fn cell12(s: &[u8], n: usize) -> u8
-    requires { ⌜ n < cells rate12 (8 * length (now s)) ⌝ }
-    ensures { λ r. ⌜ r ≡ coded rate12 (8 * length (now (s .entry))) (bitAt (now (s .entry))) n ⌝ }
-{
-    let k = n % 4;
-    let j = n / 4 * 2 + COLUMNS12[k];
-    parity(window(s, j), GENERATORS12[k])
-}
-
+// The code rates 2/5 and 1/2 of Table 9-1.
 pub enum Rate {
     TwoFifths,
     Half,
 }
 
-// Cell n of a coded frame, at either rate.
-fn cell(rate: Rate, s: &[u8], n: usize) -> u8
-    requires { ⌜ n < cells (patternOf rate) (8 * length (now s)) ⌝ }
-    ensures { λ r. ⌜ r ≡ coded (patternOf rate) (8 * length (now (s .entry))) (bitAt (now (s .entry))) n ⌝ }
+// How many coded bits two bits of a frame have, and how many coded bytes two bytes.
+fn size(rate: Rate) -> usize
+    ensures { λ r. ⌜ (r ≡ groupSize rate) × (4 ≤ r) × (r ≤ 5) ⌝ }
 {
     match rate {
-        Rate::TwoFifths => cell25(s, n),
-        Rate::Half => cell12(s, n),
+        Rate::TwoFifths => 5,
+        Rate::Half => 4,
     }
 }
 
-// Byte m of a coded frame.
-fn coded_byte(rate: Rate, s: &[u8], m: usize) -> u8
-    requires { ⌜ 8 * m + 8 ≤ cells (patternOf rate) (8 * length (now s)) ⌝ }
-    requires { ⌜ m < 2 ^ 32 ⌝ }
-    ensures { λ r. ⌜ r ≡ number 8 (λ k. coded (patternOf rate) (8 * length (now (s .entry))) (bitAt (now (s .entry))) (8 * m + k)) ⌝ }
+// Tables 9-1 and 9-2: the masks of the coded bits, and then of the inverse, the lowest digit for the newest bit.
+const MASKS25: [u64; 7] = [0o332, 0o236, 0o256, 0o155, 0o117, 0o63450, 0o6551];
+
+const MASKS12: [u64; 6] = [0o332, 0o256, 0o155, 0o127, 0o1544, 0o331];
+
+// Mask k of a rate.
+fn mask(rate: Rate, k: usize) -> u64
+    requires { ⌜ k < groupSize rate + 2 ⌝ }
+    ensures { λ r. ⌜ r ≡ getD (masksOf rate) k 0 ⌝ }
 {
-    let mut byte: u8 = 0;
+    match rate {
+        Rate::TwoFifths => MASKS25[k],
+        Rate::Half => MASKS12[k],
+    }
+}
+
+// The modulo 2 sum of the bits of w under mask k.
+fn parity(rate: Rate, w: u64, k: usize) -> u64
+    requires { ⌜ k < groupSize rate + 2 ⌝ }
+    ensures { λ r. ⌜ r ≡ masked rate w k ⌝ }
+{
+    (u64::count_ones(w & mask(rate, k)) & 1) as u64
+}
+
+// The coded bits of two bits of a frame, from the eight that end with them.
+fn group(rate: Rate, w: u64) -> u8
+    ensures { λ r. ⌜ r ≡ groupOf rate w ⌝ }
+{
+    let l = size(rate);
+    let mut bits: u8 = 0;
     let mut k: usize = 0;
-    while k < 8 {
-        byte = (byte << 1) | cell(rate, s, 8 * m + k);
+    while k < l {
+        bits = (bits << 1) | (parity(rate, w, k) as u8);
         k += 1;
     }
-    byte
+    bits
 }
 
-// Codes a frame (section 9.3.4): five bytes for each two at the rate 2/5, two for each at 1/2.
-pub fn encode(rate: Rate, s: &[u8], out: &mut [u8])
-    requires { ⌜ 8 * length (now out) ≡ cells (patternOf rate) (8 * length (now s)) ⌝ }
-    requires { ⌜ length (now out) < 2 ^ 32 ⌝ }
-    ensures { λ r. ⌜ now (out .exit) ≡ packed (length (now (out .entry))) (coded (patternOf rate) (8 * length (now (s .entry))) (bitAt (now (s .entry)))) ⌝ }
+// The coded bits for each window of eight bits.
+fn groups(rate: Rate) -> [u8; 256]
+    ensures { λ r. ⌜ Groups rate r ⌝ }
 {
-    let mut m: usize = 0;
-    while m < out.len() {
-        out[m] = coded_byte(rate, s, m);
-        m += 1;
+    let mut table = [0u8; 256];
+    let mut w: usize = 0;
+    while w < 256 {
+        table[w] = group(rate, w as u64);
+        w += 1;
     }
+    table
 }
 
-// Of a coded frame of n bits: the cell of the first generator, or of the second, at d bits before bit j.
-fn term25(y: &[u8], n: usize, j: usize, d: usize, slot: usize) -> u8
-    requires { ⌜ Cells rate25 n (now y) × (j < n) × (d ≤ 6) × (slot ≤ 1) ⌝ }
-    ensures { λ r. ⌜ r ≡ bitAt (now (y .entry)) (back n j d / 2 * 5 + (back n j d % 2 * 3 + slot)) ⌝ }
+// The coded bits of a unit, by eight groups, from the byte before it and its two bytes.
+fn unit_coded(rate: Rate, table: &[u8; 256], x: u64) -> u64
+    requires { ⌜ Groups rate (now table) ⌝ }
+    ensures { λ r. ⌜ r ≡ number (8 * groupSize rate) (unitCoded rate x) ⌝ }
 {
-    let i = (j + n - d) % n;
-    bits::get(y, i / 2 * 5 + (i % 2 * 3 + slot))
-}
-
-fn term12(y: &[u8], n: usize, j: usize, d: usize, slot: usize) -> u8
-    requires { ⌜ Cells rate12 n (now y) × (j < n) × (d ≤ 6) × (slot ≤ 1) ⌝ }
-    ensures { λ r. ⌜ r ≡ bitAt (now (y .entry)) (back n j d / 2 * 4 + (back n j d % 2 * 2 + slot)) ⌝ }
-{
-    let i = (j + n - d) % n;
-    bits::get(y, i / 2 * 4 + (i % 2 * 2 + slot))
-}
-
-// Bit j of the frame that cells are the coding of.
-fn frame_bit(rate: Rate, y: &[u8], n: usize, j: usize) -> u8
-    requires { ⌜ Cells (patternOf rate) n (now y) × (j < n) ⌝ }
-    ensures { λ r. ⌜ r ≡ uncoded (patternOf rate) (recipeOf rate) n (bitAt (now (y .entry))) j ⌝ }
-{
-    match rate {
-        Rate::TwoFifths => frame_bit25(y, n, j),
-        Rate::Half => frame_bit12(y, n, j),
+    let l = size(rate);
+    let mut word: u64 = 0;
+    let mut q: usize = 0;
+    while q < 8 {
+        let w = ((x >> (14 - 2 * q)) % 256) as usize;
+        word = (word << l) | (table[w] as u64);
+        q += 1;
     }
+    word
 }
 
-fn frame_bit25(y: &[u8], n: usize, j: usize) -> u8
-    requires { ⌜ Cells rate25 n (now y) × (j < n) ⌝ }
-    ensures { λ r. ⌜ r ≡ uncoded rate25 recipe25 n (bitAt (now (y .entry))) j ⌝ }
+// The sixteen bits of a unit, from its coded bytes and the two before them.
+fn unit_bits(rate: Rate, x: u64) -> u64
+    ensures { λ r. ⌜ r ≡ number 16 (unitBit rate x) ⌝ }
 {
-    let a = term25(y, n, j, 2, 0) ^ term25(y, n, j, 4, 0) ^ term25(y, n, j, 0, 1);
-    let b = term25(y, n, j, 1, 1)
-        ^ term25(y, n, j, 2, 1)
-        ^ term25(y, n, j, 3, 1)
-        ^ term25(y, n, j, 4, 1);
-    (a ^ b) & 1
-}
-
-fn frame_bit12(y: &[u8], n: usize, j: usize) -> u8
-    requires { ⌜ Cells rate12 n (now y) × (j < n) ⌝ }
-    ensures { λ r. ⌜ r ≡ uncoded rate12 recipe12 n (bitAt (now (y .entry))) j ⌝ }
-{
-    let a = term12(y, n, j, 1, 0) ^ term12(y, n, j, 3, 0);
-    let b = term12(y, n, j, 0, 1) ^ term12(y, n, j, 2, 1) ^ term12(y, n, j, 3, 1);
-    (a ^ b) & 1
-}
-
-// Byte m of the frame.
-fn frame_byte(rate: Rate, y: &[u8], n: usize, m: usize) -> u8
-    requires { ⌜ Cells (patternOf rate) n (now y) × (8 * m + 8 ≤ n) ⌝ }
-    ensures { λ r. ⌜ r ≡ number 8 (λ k. uncoded (patternOf rate) (recipeOf rate) n (bitAt (now (y .entry))) (8 * m + k)) ⌝ }
-{
-    let mut byte: u8 = 0;
-    let mut k: usize = 0;
-    while k < 8 {
-        byte = (byte << 1) | frame_bit(rate, y, n, 8 * m + k);
-        k += 1;
-    }
-    byte
-}
-
-// The frame that cells are the coding of, by the inverse of the coder.
-pub fn decode(rate: Rate, y: &[u8], out: &mut [u8])
-    requires { ⌜ Cells (patternOf rate) (8 * length (now out)) (now y) ⌝ }
-    ensures { λ r. ⌜ now (out .exit) ≡ packed (length (now (out .entry))) (uncoded (patternOf rate) (recipeOf rate) (8 * length (now (out .entry))) (bitAt (now (y .entry)))) ⌝ }
-{
-    let n = 8 * out.len();
-    let mut m: usize = 0;
-    while m < out.len() {
-        out[m] = frame_byte(rate, y, n, m);
-        m += 1;
-    }
-}
-
-// How many cells the coding of n bytes has.
-fn count(rate: Rate, n: usize) -> usize
-    requires { ⌜ n < 2 ^ 32 ⌝ }
-    ensures { λ r. ⌜ r ≡ cells (patternOf rate) (8 * n) ⌝ }
-{
-    match rate {
-        Rate::TwoFifths => n * 20,
-        Rate::Half => n * 16,
-    }
-}
-
-// Whether cells are the coding of this frame.
-fn agrees(rate: Rate, y: &[u8], frame: &[u8]) -> bool
-    requires { ⌜ Cells (patternOf rate) (8 * length (now frame)) (now y) ⌝ }
-    ensures { λ r. ⌜ r ≡ all (cells (patternOf rate) (8 * length (now (frame .entry)))) (λ m. eqb (bitAt (now (y .entry)) m) (coded (patternOf rate) (8 * length (now (frame .entry))) (bitAt (now (frame .entry))) m)) ⌝ }
-{
-    let n = count(rate, frame.len());
+    let l = size(rate);
+    let mut word: u64 = 0;
     let mut i: usize = 0;
-    while i < n {
-        if cell(rate, frame, i) != bits::get(y, i) {
-            return false;
-        }
+    while i < 16 {
+        word = (word << 1) | parity(rate, x >> ((7 - i / 2) * l), l + i % 2);
         i += 1;
     }
-    true
+    word
 }
 
-// Whether cells are the coding of a frame, which is left in `frame`.
-pub fn is_coded(rate: Rate, y: &[u8], frame: &mut [u8]) -> bool
-    requires { ⌜ Cells (patternOf rate) (8 * length (now frame)) (now y) ⌝ }
-    ensures { λ r. ⌜ (r ≡ isCoded rate (8 * length (now (frame .entry))) (bitAt (now (y .entry)))) × (now (frame .exit) ≡ packed (length (now (frame .entry))) (uncoded (patternOf rate) (recipeOf rate) (8 * length (now (frame .entry))) (bitAt (now (y .entry))))) ⌝ }
+// The bits of m bytes from byte j on.
+fn load(bytes: &[u8], j: usize, m: usize) -> u64
+    requires { ⌜ (j + m ≤ length (now bytes)) × (m ≤ 8) ⌝ }
+    ensures { λ r. ⌜ r ≡ number (8 * m) (λ i. bitAt (now (bytes .entry)) (8 * j + i)) ⌝ }
 {
-    decode(rate, y, frame);
-    agrees(rate, y, frame)
-}
-
-// Codes frames of n bytes one after the other, each by itself, to c bytes each.
-pub fn encode_each(rate: Rate, n: usize, c: usize, count: usize, frames: &[u8], out: &mut [u8])
-    requires { ⌜ (8 * c ≡ codedLength rate (8 * n)) × (0 < n) × (0 < c) × (c < 2 ^ 32) ⌝ }
-    requires { ⌜ (length (now frames) ≡ count * n) × (length (now out) ≡ count * c) ⌝ }
-    ensures { λ r. ⌜ now (out .exit) ≡ packed (length (now (out .entry))) (codedEach rate (8 * n) (bitAt (now (frames .entry)))) ⌝ }
-{
-    let mut m: usize = 0;
-    while m < out.len() {
-        let start = m / c * n;
-        let end = start + n;
-        out[m] = coded_byte(rate, &frames[start..end], m % c);
-        m += 1;
+    let mut word: u64 = 0;
+    let mut k: usize = 0;
+    while k < m {
+        word = (word << 8) | (bytes[j + k] as u64);
+        k += 1;
     }
+    word
+}
+
+// Stores the m bytes of a word at byte j: after the first j bytes of a stream f, the next m.
+fn store(word: u64, m: usize, j: usize, out: &mut [u8])
+    requires { ⌜ (j + m ≤ length (now out)) × (m ≤ 8) ⌝ }
+    ensures { λ _. ⌜ ((f : ℕ → ℕ) → ((i : ℕ) → f i < 2) → word ≡ number (8 * m) (λ i. f (8 * j + i)) → take j (now (out .entry)) ≡ packed j f → take (j + m) (now (out .exit)) ≡ packed (j + m) f) ⌝ }
+{
+    let mut k: usize = 0;
+    while k < m {
+        out[j + k] = ((word >> (8 * (m - 1 - k))) % 256) as u8;
+        k += 1;
+    }
+}
+
+// The byte d places before byte j, counted around the end of its frame of n bytes.
+fn before(n: usize, j: usize, d: usize) -> usize
+    requires { ⌜ (0 < n) × (d ≤ n) × (j / n * n + n < 2 ^ 64) ⌝ }
+    ensures { λ r. ⌜ r ≡ j / n * n + back n (j % n) d ⌝ }
+{
+    if j % n < d {
+        return j + (n - d);
+    }
+    j - d
+}
+
+// Of frames of n bytes: the bits of m bytes from byte j on, and of the d before it, counted around the end of its frame.
+fn around(n: usize, j: usize, d: usize, m: usize, bytes: &[u8]) -> u64
+    requires { ⌜ Within n j d m (now bytes) ⌝ }
+    ensures { λ r. ⌜ r ≡ number (8 * d + 8 * m) («around-of» n j d (bitAt (now (bytes .entry)))) ⌝ }
+{
+    (load(bytes, before(n, j, d), d) << (8 * m)) | load(bytes, j, m)
+}
+
+// The coded bits of unit u of the frames.
+fn coded_unit(rate: Rate, table: &[u8; 256], n: usize, frames: &[u8], u: usize) -> u64
+    requires { ⌜ Groups rate (now table) × (12 ≤ 8 * n) × (n % 2 ≡ 0) × (u / (n / 2) * n + n ≤ length (now frames)) ⌝ }
+    ensures { λ r. ⌜ r ≡ number (8 * groupSize rate) (λ i. codedEach rate (8 * n) (bitAt (now (frames .entry))) (8 * (groupSize rate * u) + i)) ⌝ }
+{
+    unit_coded(rate, table, around(n, 2 * u, 1, 2, frames))
+}
+
+// The bits of unit u of the frames whose codings are `coded`.
+fn frame_unit(rate: Rate, n: usize, coded: &[u8], u: usize) -> u64
+    requires { ⌜ (12 ≤ 8 * n) × (n % 2 ≡ 0) × (u / (n / 2) * (n / 2 * groupSize rate) + n / 2 * groupSize rate ≤ length (now coded)) ⌝ }
+    ensures { λ r. ⌜ r ≡ number 16 (λ i. uncodedEach rate (8 * n) (bitAt (now (coded .entry))) (8 * (2 * u) + i)) ⌝ }
+{
+    let l = size(rate);
+    unit_bits(rate, around(n / 2 * l, l * u, 2, l, coded))
+}
+
+// Codes frames of n bytes (section 9.3), each by itself.
+pub fn encode(rate: Rate, n: usize, count: usize, frames: &[u8], out: &mut [u8])
+    requires { ⌜ Buffers rate n count (now frames) (now out) ⌝ }
+    ensures { λ _. ⌜ now (out .exit) ≡ packed (length (now (out .entry))) (codedEach rate (8 * n) (bitAt (now (frames .entry)))) ⌝ }
+{
+    let l = size(rate);
+    let table = groups(rate);
+    let mut u: usize = 0;
+    while u < frames.len() / 2 {
+        store(coded_unit(rate, &table, n, frames, u), l, l * u, out);
+        u += 1;
+    }
+}
+
+// The frames of n bytes whose codings are `coded`, by the inverse of the coder.
+pub fn decode(rate: Rate, n: usize, count: usize, coded: &[u8], out: &mut [u8])
+    requires { ⌜ Buffers rate n count (now out) (now coded) ⌝ }
+    ensures { λ _. ⌜ now (out .exit) ≡ packed (length (now (out .entry))) (uncodedEach rate (8 * n) (bitAt (now (coded .entry)))) ⌝ }
+{
+    let mut u: usize = 0;
+    while u < out.len() / 2 {
+        store(frame_unit(rate, n, coded, u), 2, 2 * u, out);
+        u += 1;
+    }
+}
+
+// The lowest frame whose part of `coded` is no coding, or `count`: `frames` is what `decode` found, and is coded again.
+pub fn first_bad(rate: Rate, n: usize, count: usize, coded: &[u8], frames: &[u8]) -> usize
+    requires { ⌜ Buffers rate n count (now frames) (now coded) ⌝ }
+    requires { ⌜ now frames ≡ packed (count * n) (uncodedEach rate (8 * n) (bitAt (now coded))) ⌝ }
+    ensures { λ r. ⌜ r ≡ lowest count (noFrame rate (8 * n) (bitAt (now (coded .entry)))) ⌝ }
+{
+    let l = size(rate);
+    let table = groups(rate);
+    let units = frames.len() / 2;
+    let mut u: usize = 0;
+    while u < units {
+        if coded_unit(rate, &table, n, frames, u) != load(coded, l * u, l) {
+            return u / (n / 2);
+        }
+        u += 1;
+    }
+    count
 }
 
 // A channel's coded bits (sections 8 and 9): transfer frames of n bytes, each scrambled and coded by itself; the scrambled frames are left in `between`.
 pub fn encode_channel(
     rate: Rate,
     n: usize,
-    c: usize,
     count: usize,
     frames: &[u8],
     between: &mut [u8],
     out: &mut [u8],
 )
-    requires { ⌜ (8 * c ≡ codedLength rate (8 * n)) × (0 < n) × (0 < c) × (c < 2 ^ 32) ⌝ }
-    requires { ⌜ (length (now frames) ≡ count * n) × (length (now between) ≡ count * n) × (length (now out) ≡ count * c) ⌝ }
-    ensures { λ r. ⌜ now (between .exit) ≡ packed (length (now (between .entry))) (scrambledEach (8 * n) (bitAt (now (frames .entry)))) ⌝ }
-    ensures { λ r. ⌜ now (out .exit) ≡ packed (length (now (out .entry))) (channel rate (8 * n) (bitAt (now (frames .entry)))) ⌝ }
+    requires { ⌜ Buffers rate n count (now frames) (now out) × (length (now between) ≡ length (now frames)) ⌝ }
+    ensures { λ _. ⌜ now (between .exit) ≡ packed (length (now (between .entry))) (scrambledEach (8 * n) (bitAt (now (frames .entry)))) ⌝ }
+    ensures { λ _. ⌜ now (out .exit) ≡ packed (length (now (out .entry))) (channel rate (8 * n) (bitAt (now (frames .entry)))) ⌝ }
 {
     scrambling::scramble_each(n, frames, between);
-    encode_each(rate, n, c, count, between, out);
+    encode(rate, n, count, between, out);
+}
+
+// The way back: leaves the scrambled transfer frames in `between`, and answers the lowest whose coded bits are no coding, or `count`.
+pub fn judge_channel(rate: Rate, n: usize, count: usize, coded: &[u8], between: &mut [u8]) -> usize
+    requires { ⌜ Buffers rate n count (now between) (now coded) ⌝ }
+    ensures { λ _. ⌜ now (between .exit) ≡ packed (length (now (between .entry))) (uncodedEach rate (8 * n) (bitAt (now (coded .entry)))) ⌝ }
+    ensures { λ r. ⌜ r ≡ lowest count (noFrame rate (8 * n) (bitAt (now (coded .entry)))) ⌝ }
+{
+    decode(rate, n, count, coded, between);
+    first_bad(rate, n, count, coded, between)
+}
+
+// Unscrambles what `judge_channel` left: the transfer frames of the channel's coded bits y.
+pub fn finish_channel(rate: Rate, n: usize, between: &[u8], frames: &mut [u8])
+    requires { ⌜ (length (now between) ≡ length (now frames)) × (0 < n) ⌝ }
+    ensures { λ _. ⌜ ((y : ℕ → ℕ) → now (between .entry) ≡ packed (length (now (frames .entry))) (uncodedEach rate (8 * n) y) → now (frames .exit) ≡ packed (length (now (frames .entry))) (unchannel rate (8 * n) y)) ⌝ }
+{
+    scrambling::scramble_each(n, between, frames);
 }

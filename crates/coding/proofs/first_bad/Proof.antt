@@ -1,0 +1,98 @@
+-- `coding::first_bad` meets its contract. The loop's invariant: u units agree. Assumes nothing.
+use mathlib.Core.Path.{sym, ap, _∙_}
+use Prim.Native.Nat.{ℕ, _+_, _-_, _*_, _/_}
+use native.Mathlib.Nat.{mul-zero}
+use native.Mathlib.Omega.{arith}
+use lib.ListN.{length}
+use borrow.Author.Needs.{needs}
+use Rattle.bits.specs.Bits.{bitAt, number}
+use Rattle.coding.specs.Channel.{Agree}
+use Rattle.coding.specs.Buffers.{codedEach}
+use Rattle.coding.specs.Units.{groupSize}
+use Rattle.coding.proofs.Frames.{frame-there, coded-unit-there}
+use Rattle.coding.proofs.Judged.{stops, goes-on, ends}
+use Rattle.coding.proofs.first_bad.Statement.{statement}
+use Rattle.coding.proofs.first_bad.Tie as tie
+
+abbrev Inv-loop : tie.InvT-loop
+Inv-loop rate n count coded frames l table units u₀ u = Agree (8 * (groupSize rate * u)) (bitAt coded) (codedEach rate (8 * n) (bitAt frames))
+
+abbrev μ-loop : tie.MeasureT-loop
+μ-loop rate n count coded frames l table units u₀ u = length frames / 2 - u
+
+size-requires : tie.Need-size-requires Inv-loop μ-loop
+size-requires c κs = search needs
+
+groups-requires : tie.Need-groups-requires Inv-loop μ-loop
+groups-requires c κs = search needs
+
+loop-holds : tie.Need-loop-holds Inv-loop μ-loop
+loop-holds c = λ i h. absurd (omega (arith, mul-zero (groupSize (c .before .before .before .before .args .rate))))
+
+coded-unit-requires : tie.Need-coded-unit-requires Inv-loop μ-loop
+coded-unit-requires c κs =
+    let pre = c .before .before .before .before .before .before .before .pre .0 in
+    (c .before .before .before .groups .ensures, pre .enough, pre .even, frame-there pre (c .before .before .loop .u) (omega arith))
+
+mul-load : tie.Need-mul-load Inv-loop μ-loop
+mul-load c =
+    let there = coded-unit-there (c .before .before .before .before .before .before .before .before .pre .0) (c .before .before .before .loop .u) (omega arith) (c .before .before .before .before .before .size .ensures .0) in
+    omega arith
+
+load-requires : tie.Need-load-requires Inv-loop μ-loop
+load-requires c κs =
+    (coded-unit-there (c .before .before .before .before .before .before .before .before .pre .0) (c .before .before .before .loop .u) (omega arith) (c .before .before .before .before .before .size .ensures .0), omega arith)
+
+div-result : tie.Need-div-result Inv-loop μ-loop
+div-result c = omega arith
+
+returns : tie.Need-returns Inv-loop μ-loop
+returns c =
+    let start = c .before .before .before .before .before .before .before .before .before .before in
+    let a = start .args in
+    let loop = c .before .before .before .before .before .loop in
+    let u = loop .u in
+    let size = c .before .before .before .before .before .before .before .size .ensures .0 in
+    let word = c .before .load .ensures ∙ ap (λ (l : ℕ). number (8 * l) (λ i. bitAt (a .coded .now) (8 * (l * u) + i))) size in
+    stops (start .pre .0) (start .pre .1) u (loop .inv) (omega arith) (λ e. c .if1 .taken (c .before .before .coded-unit .ensures ∙ e ∙ sym word))
+
+add-u : tie.Need-add-u Inv-loop μ-loop
+add-u c = search needs
+
+loop-less : tie.Need-loop-less Inv-loop μ-loop
+loop-less c = search needs
+
+loop-again : tie.Need-loop-again Inv-loop μ-loop
+loop-again c =
+    let start = c .before .before .before .before .before .before .before .before .before .before in
+    let a = start .args in
+    let loop = c .before .before .before .before .before .loop in
+    let u = loop .u in
+    let size = c .before .before .before .before .before .before .before .size .ensures .0 in
+    let word = c .before .load .ensures ∙ ap (λ (l : ℕ). number (8 * l) (λ i. bitAt (a .coded .now) (8 * (l * u) + i))) size in
+    goes-on (start .pre .0) (start .pre .1) u (loop .inv) (sym (c .before .before .coded-unit .ensures) ∙ c .if1 .left ∙ word)
+
+returns-2 : tie.Need-returns-2 Inv-loop μ-loop
+returns-2 c =
+    let start = c .before .before .before .before .before .before in
+    let loop = c .before .loop in
+    ends (start .pre .0) (start .pre .1) (loop .u) (loop .inv) (omega arith)
+
+pub first-bad-spec : {M : Type 1} → statement M
+first-bad-spec =
+    tie.close
+    (tie.spec
+    Inv-loop
+    μ-loop
+    size-requires
+    groups-requires
+    loop-holds
+    coded-unit-requires
+    mul-load
+    load-requires
+    div-result
+    returns
+    add-u
+    loop-less
+    loop-again
+    returns-2)
