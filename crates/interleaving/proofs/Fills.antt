@@ -1,5 +1,6 @@
 -- An interleaver as an assignment of a partition, a block and a k to each bit, with the bit that each (partition, block, k) is met by.
 -- `Fills a N J B lo up`: its N bits meet each (partition, block, k) with partition < J, block < B and lo ≤ k < up once.
+-- Where that is all of the k, each cell is met once. Assumes nothing.
 use mathlib.Core.Path.{_≡_}
 use Prim.Native.Nat.{ℕ, _*_, _≤_, _<_, zero-le}
 use native.Mathlib.Omega.{arith}
@@ -77,10 +78,10 @@ module _ (a : Assignment) (N J B g h lo up : ℕ) (hJ : 0 < J) (g-divides : g * 
 unfoldable pub sourceBy : Assignment → (J g x : ℕ) → ℕ
 sourceBy a J g x = a .index (partitionOf J (9 * g) x) (blockOf J (9 * g) x) (kOfCell J g x)
 
-pub once : (a : Assignment) (J B g h : ℕ) → 0 < J → (g-divides : g * h ≡ 32) → Fills a (32 * B * (J * (9 * g))) J B 0 (32 * (9 * g))
+pub fills-each-once : (a : Assignment) (J B g h : ℕ) → 0 < J → (g-divides : g * h ≡ 32) → Fills a (32 * B * (J * (9 * g))) J B 0 (32 * (9 * g))
     → EachOnce (Below (32 * B * (J * (9 * g)))) (32 * B * (J * (9 * g))) (placeBy a J (9 * g)) (sourceBy a J g)
 unfolding sourceBy
-once a J B g h hJ d fill =
+fills-each-once a J B g h hJ d fill =
     let N : ℕ = 32 * B * (J * (9 * g)) in
     let up : ℕ = 32 * (9 * g) in
     record {

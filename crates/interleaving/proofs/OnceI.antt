@@ -1,47 +1,29 @@
--- Interleavers I (with M = 1) and II together, in one matrix: the PM, SM and SB interleaving processes. Conditions: C = 9 * g with g * h ≡ 32, v names each
--- partition once, b = J * d, I₀ = J * B * K and K + d ≡ 32 * C.
-use mathlib.Core.Path.{_≡_, refl}
+-- Interleaver I alone fills a matrix of C = 9 * g columns to a partition, where g * h ≡ 32 and v names each partition once: each cell is met once.
+-- For M = 1, and for M = 2 or 4 (in the proof any M but 1) with B = M, as the tables have it. Assumes nothing.
+use mathlib.Core.Path.{_≡_}
+use mathlib.Core.Logic.{_≢_}
 use mathlib.Core.List.{List}
-use Prim.Native.Nat.{ℕ, _+_, _*_, _<_}
+use Prim.Native.Nat.{ℕ, _*_, _<_}
 use native.Mathlib.Omega.{arith}
-use Rattle.bits.specs.Once.{EachOnce}
-use Rattle.interleaving.specs.Source.{Source, first, second, at, Either}
-use Rattle.interleaving.proofs.Permutation.{Permutes}
+use Rattle.bits.specs.Once.{EachOnce, Below}
 use Rattle.interleaving.specs.EquationsI as I
-use Rattle.interleaving.specs.EquationsII as II
 use Rattle.interleaving.specs.InverseI.{spot}
-use Rattle.interleaving.proofs.Fills.{placeBy}
-use Rattle.interleaving.proofs.LawsI as LI
-use Rattle.interleaving.proofs.LawsII as LII
-use Rattle.interleaving.proofs.Shared as S
+use Rattle.interleaving.proofs.Permutation.{Permutes}
+use Rattle.interleaving.proofs.Fills.{placeBy, sourceBy, fills-each-once}
+use Rattle.interleaving.proofs.FillsI as One
+use Rattle.interleaving.proofs.FillsIM as More
 
--- the cell of a bit: `first i` is the bit i of Interleaver I and `second i` of Interleaver II
-abbrev pub place : (J B C b I₀ : ℕ) → List ℕ → Source → ℕ
-place J B C b I₀ v = at (I.place J B C 1 v) (II.place J B C b I₀ v)
+module _ (J g h : ℕ) (v w : List ℕ) (hJ : 0 < J) (g-divides : g * h ≡ 32) (perm : Permutes J v w) where
+  pub each-once-I : (B : ℕ) → 0 < B
+      → EachOnce (Below (32 * B * (J * (9 * g)))) (32 * B * (J * (9 * g))) (I.place J B (9 * g) 1 v) (sourceBy (One.assignment J B (9 * g) v w) J g)
+  unfolding placeBy spot I.place One.assignment
+  each-once-I B hB =
+      let all : J * B * (32 * (9 * g)) ≡ 32 * B * (J * (9 * g)) = omega arith in
+      fills-each-once (One.assignment J B (9 * g) v w) J B g h hJ g-divides (rw all at (One.fills J B (9 * g) v w hJ hB perm (32 * (9 * g))))
 
--- the bit of a cell
-unfoldable pub source : (J B g d K : ℕ) (v w : List ℕ) → ℕ → Source
-source J B g d K v w x = S.source (LI.assignment J B (9 * g) v w) (LII.assignment J B (9 * g) d K v w) J g K x
-
-module _ (J B g h d K : ℕ) (v w : List ℕ) (hJ : 0 < J) (hB : 0 < B) (hd : 0 < d) (g-divides : g * h ≡ 32) (all : K + d ≡ 32 * (9 * g))
-    (perm : Permutes J v w) where
-  same : (s : Source) → place J B (9 * g) (J * d) (J * B * K) v s ≡ S.place (LI.assignment J B (9 * g) v w) (LII.assignment J B (9 * g) d K v w) J (9 * g) s
-  unfolding S.place placeBy spot I.place II.place LI.assignment LII.assignment
-  same (first i) = refl
-  same (second i) = refl
-
-  shared : EachOnce (Either (J * B * K) (J * d * B)) (32 * B * (J * (9 * g)))
-      (S.place (LI.assignment J B (9 * g) v w) (LII.assignment J B (9 * g) d K v w) J (9 * g)) (source J B g d K v w)
-  unfolding source
-  shared =
-      S.once (LI.assignment J B (9 * g) v w) (LII.assignment J B (9 * g) d K v w) (J * B * K) (J * d * B) J B g h K hJ g-divides (omega arith)
-      (LI.fills J B (9 * g) v w hJ hB perm K) (rw all at (LII.fills J B (9 * g) d K v w hJ hB hd perm))
-
-  pub once : EachOnce (Either (J * B * K) (J * d * B)) (32 * B * (J * (9 * g))) (place J B (9 * g) (J * d) (J * B * K) v) (source J B g d K v w)
-  once =
-      record {
-        there = λ s h. rw same (shared .there s h);
-        back = shared .back;
-        there-back = λ s h. rw same (shared .there-back s h);
-        back-there = λ c h. rw same (shared .back-there c h);
-      }
+  pub each-once-I-runs : (M : ℕ) → 0 < M → M ≢ 1
+      → EachOnce (Below (32 * M * (J * (9 * g)))) (32 * M * (J * (9 * g))) (I.place J M (9 * g) M v) (sourceBy (More.assignment J (9 * g) M v w) J g)
+  unfolding placeBy spot I.place More.assignment
+  each-once-I-runs M hM plural =
+      let all : J * M * (32 * (9 * g)) ≡ 32 * M * (J * (9 * g)) = omega arith in
+      fills-each-once (More.assignment J (9 * g) M v w) J M g h hJ g-divides (rw all at (More.fills J (9 * g) M v w hJ hM plural perm (32 * (9 * g))))

@@ -1,5 +1,5 @@
--- Interleaver IV meets each cell of the internal matrix once, over its N = 32 * B * (J * C) bits. Conditions: v names each partition once; M divides the
--- cells of a partition, M * T ≡ B * (32 * C); and 11 has an inverse e modulo 32 * C, 11 * e ≡ 32 * C * f + 1.
+-- Interleaver IV meets each cell of the internal matrix once, over its N = 32 * B * (J * C) bits. Conditions: v names each partition once; M
+-- divides the cells of a partition, M * T ≡ B * (32 * C); and 11 has an inverse e modulo 32 * C, 11 * e ≡ 32 * C * f + 1. Assumes nothing.
 use mathlib.Core.Path.{_≡_, ap}
 use mathlib.Core.List.{List}
 use Prim.Native.Nat.{ℕ, _+_, _*_, _<_}
@@ -14,7 +14,7 @@ use Rattle.interleaving.specs.EquationsIV as IV
 use Rattle.interleaving.specs.InverseIV as Inv
 use Rattle.interleaving.proofs.BlockIV as P
 use Rattle.interleaving.proofs.Counter as K
-use Rattle.interleaving.proofs.LawsIV as L
+use Rattle.interleaving.proofs.SlotsIV as L
 use Rattle.interleaving.specs.InverseIV.{source}
 
 module _ (J B C M T e f : ℕ) (v w : List ℕ)
@@ -101,5 +101,5 @@ module _ (J B C M T e f : ℕ) (v w : List ℕ)
           P.column-count J B C M e f v hB hC invertible q _ _ _ hb hr hc,
         ) (cell-is J C x width)
 
-  pub once : EachOnce (Below (32 * B * (J * C))) (32 * B * (J * C)) (IV.place J B C M v) (source J B C M e w)
-  once = record { there = λ i _. place-lt i; back = source-lt; there-back = source-place; back-there = place-source }
+  pub each-once-IV : EachOnce (Below (32 * B * (J * C))) (32 * B * (J * C)) (IV.place J B C M v) (source J B C M e w)
+  each-once-IV = record { there = λ i _. place-lt i; back = source-lt; there-back = source-place; back-there = place-source }

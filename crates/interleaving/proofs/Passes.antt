@@ -1,14 +1,14 @@
--- The PM matrix: what the two passes leave, whatever stood there, and that both streams come back out of it. Assumes nothing.
-use mathlib.Core.Path.{_≡_, sym, ap, _∙_}
+-- The PM matrix: what the two passes leave, whatever stood there, and that interleaving goes there and back. Assumes nothing.
+use mathlib.Core.Path.{_≡_, refl, sym, ap, _∙_}
 use Prim.Native.Nat.{ℕ, _<_}
 use native.Mathlib.Omega.{arith}
 use Rattle.bits.specs.Bits.{bitAt, packed, written}
 use Rattle.bits.proofs.Written.{written-lt, written-mem}
 use Rattle.bits.proofs.Packed.{bitAt-packed, packed-cong}
-use Rattle.interleaving.specs.Source.{Source, first, second, at}
-use Rattle.interleaving.specs.Source.{Either}
+use Rattle.interleaving.specs.Source.{Source, first, second, at, Either}
 use Rattle.interleaving.specs.PM.{p1Place, pidsPlace, matrix}
-use Rattle.interleaving.proofs.OncePM.{place, once, filled}
+use Rattle.interleaving.specs.FinderPM.{source}
+use Rattle.interleaving.proofs.OncePM.{place, pm-each-once, filled}
 
 -- the second pass over what the first left in the buffer
 pub both-passes : (p1 pids m : ℕ → ℕ) → ((i : ℕ) → p1 i < 2) → ((c : ℕ) → m c < 2)
@@ -20,6 +20,15 @@ both-passes p1 pids m hp hm =
     ∙ filled p1 pids m c h
     ∙ sym (filled p1 pids (λ c. 0) c h))
 
+-- a matrix whose bits were read, each at its cell, is written again
+pub matrix-again : (x : ℕ → ℕ) (c : ℕ) → c < 368640 → matrix (λ i. x (p1Place i)) (λ i. x (pidsPlace i)) c ≡ x c
+unfolding matrix
+matrix-again x c h = filled _ _ (λ c. 0) c h ∙ each (source c) ∙ ap x (pm-each-once .back-there c h)
+  where
+    each : (s : Source) → at (λ i. x (p1Place i)) (λ i. x (pidsPlace i)) s ≡ x (place s)
+    each (first i) = refl
+    each (second i) = refl
+
 -- ---- and back
 
 module _ (p1 pids : ℕ → ℕ) (hp : (i : ℕ) → p1 i < 2) (hq : (i : ℕ) → pids i < 2) where
@@ -30,9 +39,9 @@ module _ (p1 pids : ℕ → ℕ) (hp : (i : ℕ) → p1 i < 2) (hq : (i : ℕ) �
   in-cell : (s : Source) → Either 365440 3200 s → bitAt (packed 46080 (matrix p1 pids)) (place s) ≡ at p1 pids s
   unfolding matrix
   in-cell s h =
-      bitAt-packed 46080 (matrix p1 pids) (λ c l. matrix-lt c) (place s) (once .there s h)
-      ∙ filled p1 pids (λ c. 0) (place s) (once .there s h)
-      ∙ ap (at p1 pids) (once .there-back s h)
+      bitAt-packed 46080 (matrix p1 pids) (λ c l. matrix-lt c) (place s) (pm-each-once .there s h)
+      ∙ filled p1 pids (λ c. 0) (place s) (pm-each-once .there s h)
+      ∙ ap (at p1 pids) (pm-each-once .there-back s h)
 
   -- what is read at the cells of the P1 bits are the P1 bits
   pub p1-back : packed 45680 (λ i. bitAt (packed 46080 (matrix p1 pids)) (p1Place i)) ≡ packed 45680 p1

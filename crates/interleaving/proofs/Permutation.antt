@@ -1,4 +1,5 @@
 -- `Permutes J v w`: the vector v names each of the J partitions once, and w is its inverse. `permutes` has it from one computed test.
+-- Assumes nothing.
 use mathlib.Core.Path.{_≡_}
 use mathlib.Core.Bool.{Bool, _&&_}
 use mathlib.Core.List.{List}

@@ -1,5 +1,5 @@
--- A matrix that two interleavers share: the first fills k < K in each block of each partition, and the second the holes K ≤ k < 32 * C that it leaves.
--- Each cell is met by one bit of one of the two: `source` says which.
+-- A matrix that two interleavers share: the first fills k < K in each block of each partition, and the second the holes K ≤ k < 32 * C that it
+-- leaves. Each cell is met by one bit of one of the two: `source` says which. Assumes nothing.
 use mathlib.Core.Path.{_≡_, ap, _∙_}
 use mathlib.Core.Bool.{cond}
 use Prim.Native.Nat.{ℕ, _*_, _≤_, _<_, zero-le}
@@ -65,5 +65,5 @@ module _ (a a′ : Assignment) (N N′ J B g h K : ℕ) (hJ : 0 < J) (g-divides 
             )
       ]
 
-  pub once : EachOnce (Either N N′) (32 * B * (J * (9 * g))) (place a a′ J (9 * g)) (source a a′ J g K)
-  once = record { there = there; back = λ x hx. found x hx .0; there-back = there-back; back-there = λ x hx. found x hx .1 }
+  pub shared-each-once : EachOnce (Either N N′) (32 * B * (J * (9 * g))) (place a a′ J (9 * g)) (source a a′ J g K)
+  shared-each-once = record { there = there; back = λ x hx. found x hx .0; there-back = there-back; back-there = λ x hx. found x hx .1 }

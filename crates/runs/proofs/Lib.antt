@@ -1,4 +1,3 @@
-pub mod Conv
 pub mod Rows
 pub mod PX
 pub mod PM

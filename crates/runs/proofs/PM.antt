@@ -41,11 +41,11 @@ module _ (a b : Buffer) where
 
   p1-at : (i : ℕ) → i < 365440 → bitAt (pmOf a b) (p1Place i) ≡ p1-coded i
   unfolding matrix
-  p1-at i h = cell-is (p1Place i) (pm.once .there (first i) h) ∙ pm.stands p1-coded pids-coded (λ c. 0) (first i) h
+  p1-at i h = cell-is (p1Place i) (pm.pm-each-once .there (first i) h) ∙ pm.stands p1-coded pids-coded (λ c. 0) (first i) h
 
   pids-at : (i : ℕ) → i < 3200 → bitAt (pmOf a b) (pidsPlace i) ≡ pids-coded i
   unfolding matrix
-  pids-at i h = cell-is (pidsPlace i) (pm.once .there (second i) h) ∙ pm.stands p1-coded pids-coded (λ c. 0) (second i) h
+  pids-at i h = cell-is (pidsPlace i) (pm.pm-each-once .there (second i) h) ∙ pm.stands p1-coded pids-coded (λ c. 0) (second i) h
 
   pub p1-back : length a ≡ p1Len → Bytes a → p1Of (pmOf a b) ≡ a
   unfolding p1Of p1Len

@@ -20,7 +20,7 @@ use Rattle.interleaving.specs.FinderPX.{source}
 use Rattle.runs.specs.declared.Kind.{Kind}
 use Rattle.runs.specs.Lengths.{frameBits, tableRow, frameLen, matrixLen, senderLen}
 use Rattle.runs.specs.Chain.{Buffer, codedOf, pxOf, memOf, gathered, framesOf, frameBad, fillBad}
-use Rattle.runs.proofs.Conv.{base, memAt, outAt, back, fill}
+use Rattle.interleaving.proofs.Conv.{base, memAt, outAt, back, fill}
 use Rattle.runs.proofs.Rows.{bitsOf, decoded, in-half, inRow, inside, matrix-bits, memory-bits, none-bad, three-bits, undo, window}
 
 module _ (k : Kind) where

@@ -12,7 +12,7 @@ use Rattle.interleaving.specs.InverseIV.{missed}
 use Rattle.interleaving.specs.PM.{v, p1Place, pidsPlace}
 use Rattle.interleaving.specs.PX.{v4, partitions, runs, order, place}
 use Rattle.interleaving.proofs.Counter.{pt-is}
-use Rattle.interleaving.proofs.OncePX.{perm4}
+use Rattle.interleaving.proofs.PXKinds.{perm4}
 use Rattle.control.specs.Control.{sequence, field, sum, parity, rsid, assembled, stored, encoded}
 use Rattle.runs.specs.Probes.{Hold, pointsBy, points}
 

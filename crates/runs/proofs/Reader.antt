@@ -13,7 +13,6 @@ use Rattle.control.proofs.Sent as control
 use Rattle.runs.specs.declared.Extended.{Extended}
 use Rattle.runs.specs.declared.Extended.the-variants.{P3, P4}
 use Rattle.runs.specs.Lengths.{kindOf, matrixLen, readerLen}
-use Rattle.runs.specs.Answers.{numberOf, placeOf}
 use Rattle.runs.specs.Lent.{Frames, Signal, Lent, Memory, frameOf, memoryOf, signalOf, memoryNext}
 use Rattle.runs.specs.Causes.{wrong}
 use Rattle.runs.specs.Starting.{memorySizes}

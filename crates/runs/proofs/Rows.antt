@@ -14,7 +14,7 @@ use Rattle.coding.specs.Channel.{channel, unchannel, noFrame}
 use Rattle.coding.proofs.Channel.{unchannel-is, frame-there, frame-passes, empty-passes}
 use Rattle.interleaving.specs.PX.{codedBytes, codedBits, place}
 use Rattle.interleaving.specs.FinderPX.{source}
-use Rattle.interleaving.proofs.OncePX.{once}
+use Rattle.interleaving.proofs.OncePX.{px-each-once}
 use Rattle.runs.specs.declared.Kind.{Kind}
 use Rattle.runs.specs.declared.Kind.the-variants.{Unused, Narrow, Wide}
 use Rattle.runs.specs.Lengths.{frameBits, tableRow, frameLen, matrixLen, senderLen}
@@ -43,14 +43,14 @@ memory-bits Wide = refl
 pub inside : (k : Kind) (i : ℕ) → i < 2 * bitsOf k → place (tableRow k) i < 2 * bitsOf k
 unfolding codedBytes
 inside Unused i h = absurd (not-suc-le-zero h)
-inside Narrow i h = once 0 (omega arith) .there i h
-inside Wide i h = once 1 (omega arith) .there i h
+inside Narrow i h = px-each-once 0 (omega arith) .there i h
+inside Wide i h = px-each-once 1 (omega arith) .there i h
 
 pub undo : (k : Kind) (i : ℕ) → i < 2 * bitsOf k → source (tableRow k) (place (tableRow k) i) ≡ i
 unfolding codedBytes
 undo Unused i h = absurd (not-suc-le-zero h)
-undo Narrow i h = once 0 (omega arith) .there-back i h
-undo Wide i h = once 1 (omega arith) .there-back i h
+undo Narrow i h = px-each-once 0 (omega arith) .there-back i h
+undo Wide i h = px-each-once 1 (omega arith) .there-back i h
 
 -- ---- the code
 
