@@ -1,0 +1,53 @@
+-- `pm::k_at` meets its contract: it is `kAt` as it stands. Assumes nothing.
+use mathlib.Core.Path.{refl}
+use native.Mathlib.Omega.{arith}
+use Rattle.interleaving.specs.InverseI.{kAt, turn}
+use borrow.Author.Needs.{needs}
+use Rattle.pm.proofs.k_at.Statement.{statement}
+use Rattle.pm.proofs.k_at.Tie as tie
+
+add-q : tie.Need-add-q
+add-q c = search needs
+
+sub-q : tie.Need-sub-q
+sub-q c = search needs
+
+mul-result : tie.Need-mul-result
+mul-result c = search needs
+
+mul-result-2 : tie.Need-mul-result-2
+mul-result-2 c = search needs
+
+mul-result-3 : tie.Need-mul-result-3
+mul-result-3 c = search needs
+
+add-result : tie.Need-add-result
+add-result c = search needs
+
+mul-result-4 : tie.Need-mul-result-4
+mul-result-4 c = search needs
+
+add-result-2 : tie.Need-add-result-2
+add-result-2 c = search needs
+
+add-result-3 : tie.Need-add-result-3
+add-result-3 c = search needs
+
+returns : tie.Need-returns
+unfolding kAt turn
+returns c = (refl, omega arith)
+
+pub k-at-spec : {M : Type 1} → statement M
+k-at-spec =
+    tie.close
+    (tie.spec
+    add-q
+    sub-q
+    mul-result
+    mul-result-2
+    mul-result-3
+    add-result
+    mul-result-4
+    add-result-2
+    add-result-3
+    returns)

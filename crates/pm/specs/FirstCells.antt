@@ -1,0 +1,16 @@
+-- How the code finds the cells of P1 without a division for each bit: the 320 bits of one k lie as those of k = 0 do, all moved on by one distance.
+-- Only the code needs this.
+use mathlib.Core.Path.{_≡_}
+use mathlib.Core.List.{List}
+use Prim.Native.Nat.{ℕ, _+_, _*_, _<_}
+use lib.ListN.{getD}
+use Rattle.interleaving.specs.EquationsI.{row, column}
+use Rattle.interleaving.specs.PM.{p1Place}
+
+-- the cells of the first 320 P1 bits, whose k is 0
+abbrev pub FirstCells : List ℕ → Type 0
+FirstCells cells = (t : ℕ) → t < 320 → getD cells t 0 ≡ p1Place t
+
+-- how far on the cells of k lie
+unfoldable pub shiftOf : ℕ → ℕ
+shiftOf k = row k * 720 + column 36 k

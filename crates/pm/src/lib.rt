@@ -1,0 +1,250 @@
+// The PM interleaving process (section 10.4.1): P1 by Interleaver I, PIDS by Interleaver II, into one matrix of 368640 cells.
+ghost use mathlib.Core.Path.{_≡_};
+ghost use Prim.Native.Nat.{ℕ, _+_, _*_, _<_};
+ghost use lib.ListN.{length, getD};
+ghost use Rattle.bits.specs.Bits.{bitAt, packed, written, byteOf};
+ghost use Rattle.interleaving.specs.InverseI.{spot as «spot-of», kAt};
+ghost use Rattle.interleaving.specs.Source.{at};
+ghost use Rattle.interleaving.specs.PM.{v, p1Place, pidsPlace, matrix};
+ghost use Rattle.interleaving.specs.FinderPM.{w, source};
+ghost use Rattle.pm.specs.FirstCells.{FirstCells, shiftOf};
+
+// Tables 10-12 and 10-13: the partition whose turn is s, and the turn of the partition p.
+const ORDER: [usize; 20] = [
+    10,
+    2,
+    18,
+    6,
+    14,
+    8,
+    16,
+    0,
+    12,
+    4,
+    11,
+    3,
+    19,
+    7,
+    15,
+    9,
+    17,
+    1,
+    13,
+    5,
+];
+
+const TURN: [usize; 20] = [
+    7,
+    17,
+    1,
+    11,
+    9,
+    19,
+    3,
+    13,
+    5,
+    15,
+    0,
+    10,
+    8,
+    18,
+    4,
+    14,
+    6,
+    16,
+    2,
+    12,
+];
+
+// The partition whose turn is s.
+fn partition(s: usize) -> usize
+    requires { ⌜ s < 20 ⌝ }
+    ensures { λ r. ⌜ (r ≡ getD v s 0) × (r < 20) ⌝ }
+{
+    ORDER[s]
+}
+
+// The turn of the partition p.
+fn turn(p: usize) -> usize
+    requires { ⌜ p < 20 ⌝ }
+    ensures { λ r. ⌜ (r ≡ getD w p 0) × (r < 20) ⌝ }
+{
+    TURN[p]
+}
+
+// 10.2.3.3: the cell of a partition, a block and a k.
+fn spot(p: usize, b: usize, k: usize) -> usize
+    requires { ⌜ (p < 20) × (b < 16) × (k < 1152) ⌝ }
+    ensures { λ r. ⌜ r ≡ «spot-of» 20 36 p b k ⌝ }
+{
+    (32 * b + k * 11 % 32) * 720 + (36 * p + (k * 11 + k / 288) % 36)
+}
+
+// 10.2.3: the cell of the P1 bit i.
+pub fn p1_cell(i: usize) -> usize
+    requires { ⌜ i < 365440 ⌝ }
+    ensures { λ r. ⌜ r ≡ p1Place i ⌝ }
+{
+    let p = partition(i % 20);
+    spot(p, (i / 20 + p * 7) % 16, i / 320)
+}
+
+// 10.2.4: the cell of the PIDS bit i.
+pub fn pids_cell(i: usize) -> usize
+    requires { ⌜ i < 3200 ⌝ }
+    ensures { λ r. ⌜ r ≡ pidsPlace i ⌝ }
+{
+    let p = partition(i % 20);
+    spot(p, i / 200, i / 20 % 10 + 1142)
+}
+
+// A bit of the coded P1 frame, or of the sixteen coded PIDS frames laid end to end.
+pub enum Bit {
+    P1(usize),
+    Pids(usize),
+}
+
+// 10.2.3.3 turned round: the k of the row r and the column c of an interleaver block.
+fn k_at(r: usize, c: usize) -> usize
+    requires { ⌜ (r < 32) × (c < 36) ⌝ }
+    ensures { λ x. ⌜ (x ≡ kAt 4 r c) × (x < 1152) ⌝ }
+{
+    let q = (c + 32 - r) % 4;
+    288 * q + (99 * r + 32 * c + 256 * q) % 288
+}
+
+// 10.4.1 turned round: the bit that stands in the cell c.
+pub fn find(c: usize) -> Bit
+    requires { ⌜ c < 368640 ⌝ }
+    ensures { λ r. ⌜ r ≡ at Bit.P1 Bit.Pids (source c) ⌝ }
+{
+    let p = c % 720 / 36;
+    let b = c / 720 / 32;
+    let k = k_at(c / 720 % 32, c % 720 % 36);
+    let s = turn(p);
+    if k < 1142 {
+        return Bit::P1((k * 16 + (b + (16 - p * 7 % 16)) % 16) * 20 + s);
+    }
+    Bit::Pids((b * 10 + (k - 1142)) * 20 + s)
+}
+
+// The cells of the first 320 P1 bits, whose k is 0.
+fn first_cells() -> [usize; 320]
+    ensures { λ r. ⌜ FirstCells r ⌝ }
+{
+    let mut cells = [0; 320];
+    let mut t = 0;
+    while t < 320 {
+        cells[t] = p1_cell(t);
+        t += 1;
+    }
+    cells
+}
+
+// How far on the cells of k lie from those of 0.
+fn shift(k: usize) -> usize
+    requires { ⌜ k < 1152 ⌝ }
+    ensures { λ r. ⌜ (r ≡ shiftOf k) × (r < 23040) ⌝ }
+{
+    k * 11 % 32 * 720 + (k * 11 + k / 288) % 36
+}
+
+// The cell of the bit u of the byte j of the coded P1 frame.
+fn cell_in_byte(cells: &[usize; 320], j: usize, u: usize) -> usize
+    requires { ⌜ (j < 45680) × (u < 8) × FirstCells (now cells) ⌝ }
+    ensures { λ r. ⌜ r ≡ p1Place (8 * j + u) ⌝ }
+{
+    cells[j % 40 * 8 + u] + shift(j / 40)
+}
+
+// Writes the byte j of the coded P1 frame into the matrix.
+fn scatter_byte(coded: &[u8], cells: &[usize; 320], j: usize, pm: &mut [u8])
+    requires { ⌜ (length (now coded) ≡ 45680) × (length (now pm) ≡ 46080) × (j < 45680) × FirstCells (now cells) ⌝ }
+    ensures { λ _. ⌜ ((m : ℕ → ℕ) → bitAt (now (pm .entry)) ≡ written p1Place (bitAt (now (coded .entry))) (8 * j) m → bitAt (now (pm .exit)) ≡ written p1Place (bitAt (now (coded .entry))) (8 * j + 8) m) ⌝ }
+{
+    let mut u = 0;
+    while u < 8 {
+        let b = bits::get(coded, 8 * j + u);
+        let c = cell_in_byte(cells, j, u);
+        bits::put(pm, c, b);
+        u += 1;
+    }
+}
+
+// Writes the coded P1 bits into the matrix, by Interleaver I.
+fn scatter_p1(coded: &[u8], pm: &mut [u8])
+    requires { ⌜ (length (now coded) ≡ 45680) × (length (now pm) ≡ 46080) ⌝ }
+    ensures { λ _. ⌜ now (pm .exit) ≡ packed 46080 (written p1Place (bitAt (now (coded .entry))) 365440 (bitAt (now (pm .entry)))) ⌝ }
+{
+    let cells = first_cells();
+    let mut j = 0;
+    while j < 45680 {
+        scatter_byte(coded, &cells, j, pm);
+        j += 1;
+    }
+}
+
+// Writes the coded PIDS bits into the matrix, by Interleaver II.
+fn scatter_pids(coded: &[u8], pm: &mut [u8])
+    requires { ⌜ (length (now coded) ≡ 400) × (length (now pm) ≡ 46080) ⌝ }
+    ensures { λ _. ⌜ now (pm .exit) ≡ packed 46080 (written pidsPlace (bitAt (now (coded .entry))) 3200 (bitAt (now (pm .entry)))) ⌝ }
+{
+    let mut i = 0;
+    while i < 3200 {
+        let b = bits::get(coded, i);
+        let c = pids_cell(i);
+        bits::put(pm, c, b);
+        i += 1;
+    }
+}
+
+// 10.4.1: the PM matrix of an L1 frame, whatever the buffer held before.
+pub fn interleave(p1: &[u8], pids: &[u8], pm: &mut [u8])
+    requires { ⌜ (length (now p1) ≡ 45680) × (length (now pids) ≡ 400) × (length (now pm) ≡ 46080) ⌝ }
+    ensures { λ _. ⌜ now (pm .exit) ≡ packed 46080 (matrix (bitAt (now (p1 .entry))) (bitAt (now (pids .entry)))) ⌝ }
+{
+    scatter_p1(p1, pm);
+    scatter_pids(pids, pm);
+}
+
+// The byte j of the coded P1 frame, read out of the matrix.
+fn gather_byte(pm: &[u8], cells: &[usize; 320], j: usize) -> u8
+    requires { ⌜ (length (now pm) ≡ 46080) × (j < 45680) × FirstCells (now cells) ⌝ }
+    ensures { λ r. ⌜ r ≡ byteOf (λ i. bitAt (now (pm .entry)) (p1Place i)) j ⌝ }
+{
+    let mut a: u8 = 0;
+    let mut u = 0;
+    while u < 8 {
+        let c = cell_in_byte(cells, j, u);
+        a = (a << 1) | bits::get(pm, c);
+        u += 1;
+    }
+    a
+}
+
+// Reads the coded P1 bits out of the matrix.
+pub fn gather_p1(pm: &[u8], coded: &mut [u8])
+    requires { ⌜ (length (now pm) ≡ 46080) × (length (now coded) ≡ 45680) ⌝ }
+    ensures { λ _. ⌜ now (coded .exit) ≡ packed 45680 (λ i. bitAt (now (pm .entry)) (p1Place i)) ⌝ }
+{
+    let cells = first_cells();
+    let mut j = 0;
+    while j < coded.len() {
+        coded[j] = gather_byte(pm, &cells, j);
+        j += 1;
+    }
+}
+
+// Reads the coded PIDS bits out of the matrix.
+pub fn gather_pids(pm: &[u8], coded: &mut [u8])
+    requires { ⌜ (length (now pm) ≡ 46080) × (length (now coded) ≡ 400) ⌝ }
+    ensures { λ _. ⌜ now (coded .exit) ≡ packed 400 (λ i. bitAt (now (pm .entry)) (pidsPlace i)) ⌝ }
+{
+    let mut i = 0;
+    while i < 3200 {
+        let c = pids_cell(i);
+        let b = bits::get(pm, c);
+        bits::put(coded, i, b);
+        i += 1;
+    }
+}

@@ -1,0 +1,46 @@
+-- The bits of an L1 frame, as the code goes through them: where a coded bit is read, and whether a bit shows only the zero fill. Assumes nothing.
+use mathlib.Core.Path.{_≡_, _∙_}
+use mathlib.Core.Bool.{Bool, false}
+use Prim.Native.Nat.{ℕ, _+_, _-_, _≤_, _<_}
+use native.Mathlib.Nat.{mod-eq-of-lt}
+use native.Mathlib.Decide.{decLt}
+use native.Mathlib.Omega.{arith}
+use lib.Dec.{eqb, ltb}
+use borrow.Author.Tests.{lt-ltb, le-ltb}
+use Rattle.interleaving.specs.PX.{cells, stepOf, place, later, unreached, isFill}
+use Rattle.interleaving.specs.FinderPX.{source}
+use Rattle.interleaving.proofs.Mod.{mod-of}
+use Rattle.interleaving.proofs.Steps.{unreached-is}
+
+-- the distance from a step to its cell, counted around the matrix
+module _ (kind half j i c : ℕ) (i-is : i ≡ stepOf kind half j) (c-is : c ≡ place kind i) (hi : i < cells kind) (hc : c < cells kind) where
+  pub later-around : c < i → j + (c + cells kind - i) ≡ later kind half j
+  unfolding later
+  later-around h = rw (← i-is, ← c-is, mod-eq-of-lt (let l : c + cells kind - i < cells kind = omega arith in l))
+
+  pub later-ahead : i ≤ c → j + (c - i) ≡ later kind half j
+  unfolding later
+  later-ahead h =
+      rw (← i-is, ← c-is, mod-of (cells kind) 1 (c - i) (c + cells kind - i) (omega arith) (omega arith))
+
+-- i is the bit's step, and s the step that writes its cell
+module _ (kind half : ℕ) (px : ℕ → ℕ) (j : ℕ) (hk : kind < 2)
+    (i s : ℕ) (i-is : i ≡ stepOf kind half j) (hi : i < cells kind) (s-is : s ≡ source kind i) where
+  test-is : unreached kind (stepOf kind half j) ≡ ltb i s
+  test-is = rw (← i-is) (unreached-is kind i hk hi ∙ rw s-is)
+
+  pub fill-if : (b : ℕ) → b ≡ px j → i < s → eqb b 1 ≡ isFill kind half px j
+  unfolding isFill
+  fill-if b b-is h = rw (test-is, b-is, lt-ltb i s h)
+
+  pub fill-not : s ≤ i → false ≡ isFill kind half px j
+  unfolding isFill
+  fill-not h = rw (test-is, le-ltb i s h)
+
+-- belongs in bits: a test that fails below j and at j
+pub none-more : (p : ℕ → Bool) (j : ℕ) → ((i : ℕ) → i < j → p i ≡ false) → p j ≡ false → (i : ℕ) → i < j + 1 → p i ≡ false
+none-more p j below here i h =
+    elim (decLt i j) [
+      | yes l ↦ below i l
+      | no f ↦ let e : i ≡ j = omega arith in rw e here
+    ]

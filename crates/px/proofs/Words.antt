@@ -1,0 +1,48 @@
+-- What the code's shifts, masks and products are, over the two kinds. Assumes nothing.
+use mathlib.Core.Path.{_≡_, refl}
+use mathlib.Core.List.{[], _∷_}
+use Prim.Native.Nat.{ℕ, zero, suc, _+_, _-_, _*_, _/_, _%_, _^_, _≤_, _<_}
+use native.Mathlib.Nat.{mul-le-mul, div-le-self, le-trans, div-add-mod'}
+use native.Mathlib.Omega.{arith}
+use lib.ListN.{getD}
+use lib.Bits.{bitAnd, and-mask}
+use Rattle.interleaving.specs.PX.{partitions, runs}
+use Rattle.interleaving.proofs.PXKinds.{kind-is}
+
+-- M is a power of two
+pub bits-of-M : (kind : ℕ) → kind < 2 → (2 ^ getD (2 ∷ 1 ∷ []) kind 0 ≡ runs kind) × (getD (2 ∷ 1 ∷ []) kind 0 < 3)
+unfolding runs
+bits-of-M zero h = (refl, omega arith)
+bits-of-M (suc zero) h = (refl, omega arith)
+bits-of-M (suc (suc kind)) h = absurd (omega arith)
+
+pub mask-of-M : (kind : ℕ) → kind < 2 → (x : ℕ) → bitAnd x (runs kind - 1) ≡ x % runs kind
+mask-of-M kind h x =
+    let k : ℕ = getD (2 ∷ 1 ∷ []) kind 0 in
+    rw (bits-of-M kind h .0) at (and-mask x k)
+
+-- 36 * J columns are 72 or 144
+pub row-of-is : (kind : ℕ) → kind < 2 → (c : ℕ) → c / 72 / 2 ^ kind ≡ c / (partitions kind * 36)
+unfolding partitions
+row-of-is zero h c = omega arith
+row-of-is (suc zero) h c = omega arith
+row-of-is (suc (suc kind)) h c = omega arith
+
+-- the column of a cell, y its row
+pub column-is : (kind c y j : ℕ) → y ≡ c / (partitions kind * 36) → j ≡ partitions kind → c - y * (j * 36) ≡ c % (partitions kind * 36)
+column-is kind c y j y-is j-is = rw (y-is, j-is) (omega (arith, div-add-mod' c (partitions kind * 36)))
+
+-- the products of `step` fit
+pub step-fits : (kind : ℕ) → kind < 2 → (p x : ℕ) → p < partitions kind → x ≤ 36866
+    → (x / runs kind * partitions kind ≤ 147464) × ((x / runs kind * partitions kind + p) * runs kind ≤ 589872)
+step-fits kind hk p x hp hx =
+    let K = kind-is kind hk in
+    let q : ℕ = x / runs kind * partitions kind in
+    let a : q ≤ 36866 * 4 = mul-le-mul (le-trans (div-le-self x (runs kind)) hx) (K .J-le) in
+    let s : q + p ≤ 147468 = omega (arith, K .J-le) in
+    let b : (q + p) * runs kind ≤ 147468 * 4 = mul-le-mul s (K .M-le) in
+    (omega arith, omega arith)
+
+-- the product of `entry` fits
+pub entry-fits : (r j : ℕ) → r < 1024 → j ≤ 4 → r * (j * 36) < 147456
+entry-fits r j hr hj = let h : r * (j * 36) ≤ 1023 * 144 = mul-le-mul {n₂ = 1023} {m₂ = 144} (omega arith) (omega arith) in omega arith

@@ -1,0 +1,232 @@
+// The PX interleaving process (section 10.4.2): Interleaver IV over an internal matrix that takes the coded bits of two L1 frames.
+ghost use mathlib.Core.Path.{_≡_};
+ghost use Prim.Native.Nat.{_+_, _*_, _/_, _%_, _<_, _≤_};
+ghost use lib.ListN.{length};
+ghost use Rattle.bits.specs.Bits.{bitAt, packed, put};
+ghost use Rattle.interleaving.specs.InverseIV.{missed as «missed-of», count, index};
+ghost use Rattle.interleaving.specs.PX.{partitions as «partitions-of», runs as «runs-of», codedBytes, codedBits, cells};
+ghost use Rattle.interleaving.specs.PX.{place as «place-of», stepOf, after, read, later as «later-of», isFill, firstFill};
+ghost use Rattle.interleaving.specs.FinderPX.{source as «source-of»};
+ghost use Rattle.px.specs.Entries.{entry as «entry-of»};
+
+// Tables 10-15 and 10-16: J, M and its digits, and the bytes of an L1 frame's coded bits. Kind 0 is MP2, and kind 1 is MP3 and MP11.
+const J: [usize; 2] = [2, 4];
+
+const M: [usize; 2] = [4, 2];
+
+const M_BITS: [usize; 2] = [2, 1];
+
+const BYTES: [usize; 2] = [4608, 9216];
+
+// J, the number of partitions.
+fn partitions(kind: usize) -> usize
+    requires { ⌜ kind < 2 ⌝ }
+    ensures { λ r. ⌜ (r ≡ «partitions-of» kind) × (0 < r) × (r ≤ 4) ⌝ }
+{
+    J[kind]
+}
+
+// M, the length of a run of bits that go to one partition.
+fn runs(kind: usize) -> usize
+    requires { ⌜ kind < 2 ⌝ }
+    ensures { λ r. ⌜ (r ≡ «runs-of» kind) × (0 < r) × (r ≤ 4) ⌝ }
+{
+    M[kind]
+}
+
+// The coded bits of an L1 frame.
+fn coded_bits(kind: usize) -> usize
+    requires { ⌜ kind < 2 ⌝ }
+    ensures { λ r. ⌜ (r ≡ codedBits kind) × (r ≤ 73728) ⌝ }
+{
+    8 * BYTES[kind]
+}
+
+// x / M, by a shift.
+fn whole_runs(kind: usize, x: usize) -> usize
+    requires { ⌜ kind < 2 ⌝ }
+    ensures { λ r. ⌜ r ≡ x / «runs-of» kind ⌝ }
+{
+    x >> M_BITS[kind]
+}
+
+// x % M, by a mask.
+fn rest_of_run(kind: usize, x: usize) -> usize
+    requires { ⌜ kind < 2 ⌝ }
+    ensures { λ r. ⌜ (r ≡ x % «runs-of» kind) × (r < 4) ⌝ }
+{
+    x & (runs(kind) - 1)
+}
+
+// The steps that the partition p misses at the start: with the offset of 10.2.6.1, partition 0 begins within a run.
+fn missed(m: usize, p: usize) -> usize
+    requires { ⌜ m ≤ 4 ⌝ }
+    ensures { λ r. ⌜ (r ≡ «missed-of» m p) × (r ≤ 2) ⌝ }
+{
+    if p == 0 {
+        return 2 * (m / 4);
+    }
+    0
+}
+
+// 10.2.6.1: the counter that the step x, with the offset, fetches for its partition p.
+fn counter(kind: usize, p: usize, x: usize) -> usize
+    requires { ⌜ (kind < 2) × (x < 147460) × («missed-of» («runs-of» kind) p ≤ x / 8 * «runs-of» kind + x % «runs-of» kind) ⌝ }
+    ensures { λ r. ⌜ r + «missed-of» («runs-of» kind) p ≡ x / 8 * «runs-of» kind + x % «runs-of» kind ⌝ }
+{
+    let m = runs(kind);
+    x / 8 * m + rest_of_run(kind, x) - missed(m, p)
+}
+
+// 10.2.6.2 to 10.2.6.4: the cell of the entry n of the partition p.
+fn entry(kind: usize, p: usize, n: usize) -> usize
+    requires { ⌜ (kind < 2) × (p < 4) × (n < 36864) ⌝ }
+    ensures { λ r. ⌜ r ≡ «entry-of» kind p n ⌝ }
+{
+    let j = partitions(kind);
+    let b = (n / 1152 + (n % 1152 + p * 7)) % 32;
+    let y = 11 * n % 1152;
+    (32 * b + y / 36) * (j * 36) + (36 * p + y % 36)
+}
+
+// 10.2.6: the cell that the step i writes.
+pub fn place(kind: usize, i: usize) -> usize
+    requires { ⌜ (kind < 2) × (i < cells kind) ⌝ }
+    ensures { λ r. ⌜ r ≡ «place-of» kind i ⌝ }
+{
+    let x = i + 2 * (runs(kind) / 4);
+    let p = whole_runs(kind, x % 8);
+    entry(kind, p, counter(kind, p, x))
+}
+
+// 10.2.6.2 to 10.2.6.4 turned round: the entry of the partition p that stands at a block, a row and a column.
+fn entry_at(p: usize, b: usize, r: usize, c: usize) -> usize
+    requires { ⌜ (p < 4) × (b < 32) × (r < 32) × (c < 36) ⌝ }
+    ensures { λ n. ⌜ (n ≡ count 32 36 5027 p b r c) × (n < 36864) ⌝ }
+{
+    let y = 5027 * (r * 36 + c) % 1152;
+    (b + (32 - (y + p * 7) % 32)) % 32 * 1152 + y
+}
+
+// 10.2.6.1 turned round: the step that writes the entry n of the partition p.
+fn step(kind: usize, p: usize, n: usize) -> usize
+    requires { ⌜ (kind < 2) × (p < «partitions-of» kind) × (n < 36864) ⌝ }
+    ensures { λ r. ⌜ r ≡ index («partitions-of» kind) («runs-of» kind) p n ⌝ }
+{
+    let m = runs(kind);
+    let x = n + missed(m, p);
+    let q = whole_runs(kind, x);
+    (q * partitions(kind) + p) * m + rest_of_run(kind, x) - 2 * (m / 4)
+}
+
+// The row of the internal matrix that the cell c stands in: it has 36 * J columns, 72 or 144.
+fn row_of(kind: usize, c: usize) -> usize
+    requires { ⌜ kind < 2 ⌝ }
+    ensures { λ r. ⌜ r ≡ c / («partitions-of» kind * 36) ⌝ }
+{
+    (c / 72) >> kind
+}
+
+// 10.2.6 turned round: the step that writes the cell c.
+pub fn source(kind: usize, c: usize) -> usize
+    requires { ⌜ (kind < 2) × (c < cells kind) ⌝ }
+    ensures { λ r. ⌜ r ≡ «source-of» kind c ⌝ }
+{
+    let y = row_of(kind, c);
+    let x = c - y * (partitions(kind) * 36);
+    let p = x / 36;
+    step(kind, p, entry_at(p, y / 32, y % 32, x % 36))
+}
+
+// The step of the bit j of an L1 frame.
+fn step_of(kind: usize, half: usize, j: usize) -> usize
+    requires { ⌜ (kind < 2) × (half < 2) × (j < codedBits kind) ⌝ }
+    ensures { λ r. ⌜ (r ≡ stepOf kind half j) × (r < cells kind) ⌝ }
+{
+    half * coded_bits(kind) + j
+}
+
+// 10.2.2.2, the step i of the internal matrix: writes the bit b to its cell, and then reads the cell i.
+fn exchange(kind: usize, i: usize, b: u8, memory: &mut [u8]) -> u8
+    requires { ⌜ (kind < 2) × (i < cells kind) × (b < 2) × (length (now memory) ≡ 2 * codedBytes kind) ⌝ }
+    ensures { λ _. ⌜ bitAt (now (memory .exit)) ≡ put («place-of» kind i) b (bitAt (now (memory .entry))) ⌝ }
+    ensures { λ r. ⌜ (r ≡ put («place-of» kind i) b (bitAt (now (memory .entry))) i) × (r < 2) ⌝ }
+{
+    let c = place(kind, i);
+    bits::put(memory, c, b);
+    bits::get(memory, i)
+}
+
+// 10.2.2.2, one L1 frame through the internal matrix: each step writes a coded bit and then reads one.
+pub fn pass(kind: usize, half: usize, coded: &[u8], memory: &mut [u8], px: &mut [u8])
+    requires { ⌜ (kind < 2) × (half < 2) ⌝ }
+    requires { ⌜ (length (now coded) ≡ codedBytes kind) × (length (now memory) ≡ 2 * codedBytes kind) × (length (now px) ≡ codedBytes kind) ⌝ }
+    ensures { λ _. ⌜ now (memory .exit) ≡ packed (2 * codedBytes kind) (after kind half (bitAt (now (coded .entry))) (bitAt (now (memory .entry))) (codedBits kind)) ⌝ }
+    ensures { λ _. ⌜ now (px .exit) ≡ packed (codedBytes kind) (read kind half (bitAt (now (coded .entry))) (bitAt (now (memory .entry)))) ⌝ }
+{
+    let n = coded_bits(kind);
+    let mut j = 0;
+    while j < n {
+        let step = step_of(kind, half, j);
+        let bit = bits::get(coded, j);
+        let read = exchange(kind, step, bit, memory);
+        bits::put(px, j, read);
+        j += 1;
+    }
+}
+
+// Where the coded bit j of an L1 frame stands in its matrix and the two that follow, laid end to end.
+fn later(kind: usize, half: usize, j: usize) -> usize
+    requires { ⌜ (kind < 2) × (half < 2) × (j < codedBits kind) ⌝ }
+    ensures { λ r. ⌜ (r ≡ «later-of» kind half j) × (r < 3 * codedBits kind) ⌝ }
+{
+    let i = step_of(kind, half, j);
+    let c = place(kind, i);
+    if c < i {
+        return j + (c + 2 * coded_bits(kind) - i);
+    }
+    j + (c - i)
+}
+
+// The coded bits of an L1 frame out of its matrix and the two that follow, laid end to end.
+pub fn gather(kind: usize, half: usize, three: &[u8], coded: &mut [u8])
+    requires { ⌜ (kind < 2) × (half < 2) × (length (now three) ≡ 3 * codedBytes kind) × (length (now coded) ≡ codedBytes kind) ⌝ }
+    ensures { λ _. ⌜ now (coded .exit) ≡ packed (codedBytes kind) (λ j. bitAt (now (three .entry)) («later-of» kind half j)) ⌝ }
+{
+    let n = coded_bits(kind);
+    let mut j = 0;
+    while j < n {
+        let p = later(kind, half, j);
+        let b = bits::get(three, p);
+        bits::put(coded, j, b);
+        j += 1;
+    }
+}
+
+// Whether the bit j of an L1 frame's matrix is 1 though it is read before its cell is written.
+fn is_fill(kind: usize, half: usize, px: &[u8], j: usize) -> bool
+    requires { ⌜ (kind < 2) × (half < 2) × (length (now px) ≡ codedBytes kind) × (j < codedBits kind) ⌝ }
+    ensures { λ r. ⌜ r ≡ isFill kind half (bitAt (now (px .entry))) j ⌝ }
+{
+    let i = step_of(kind, half, j);
+    if i < source(kind, i) {
+        return bits::get(px, j) == 1;
+    }
+    false
+}
+
+// The lowest bit of an L1 frame's matrix that is 1 though it is read before its cell is written; their number where there is none.
+pub fn first_fill(kind: usize, half: usize, px: &[u8]) -> usize
+    requires { ⌜ (kind < 2) × (half < 2) × (length (now px) ≡ codedBytes kind) ⌝ }
+    ensures { λ r. ⌜ r ≡ firstFill kind half (bitAt (now (px .entry))) ⌝ }
+{
+    let n = coded_bits(kind);
+    let mut j = 0;
+    while j < n {
+        if is_fill(kind, half, px, j) {
+            return j;
+        }
+        j += 1;
+    }
+    n
+}
