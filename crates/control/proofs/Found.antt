@@ -100,3 +100,7 @@ module _ (block : List ℕ) (m c : ℕ) (hm : m ≡ number 6 (λ i. decoded bloc
 -- The lookup of the block of a covered mode and a count finds them.
 pub looked-up-block : (m c : ℕ) → covered m ≡ true → c < 16 → lookedUp (blockOf m c 0) ≡ Found m c
 looked-up-block m c cov hc = looked-up-found (blockOf m c 0) m c cov hc refl
+
+-- A block of no covered mode and count is found as none.
+pub looked-up-no-block : (block : List ℕ) → ((m c : ℕ) → covered m ≡ true → c < 16 → block ≡ blockOf m c 0 → ⊥) → lookedUp block ≡ NotABlock
+looked-up-no-block block h = looked-up-none block (λ n l e. h (modeOf n) (countOf n) (pair-covered n l) (count-lt n) e)

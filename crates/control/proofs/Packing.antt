@@ -43,7 +43,7 @@ rowBit-lt m c z row column = go (ltb column 61)
 
 blockBit-lt : (m c z n : ℕ) → blockBit m c z n < 2
 unfolding blockBit
-blockBit-lt m c z n = rowBit-lt m c z (n / 64) (n % 64)
+blockBit-lt m c z n = rowBit-lt m c z _ _
 
 -- ---- one column
 
