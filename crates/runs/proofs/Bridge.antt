@@ -34,13 +34,13 @@ pm-from a b p1 pids e d =
 
 -- ---- PX
 
-matrix-bytes : (k : Kind) → codedBytes (tableRow k) ≡ matrixLen k
+pub matrix-bytes : (k : Kind) → codedBytes (tableRow k) ≡ matrixLen k
 unfolding codedBytes
 matrix-bytes Unused = refl
 matrix-bytes Narrow = refl
 matrix-bytes Wide = refl
 
-memory-bytes : (k : Kind) → 2 * codedBytes (tableRow k) ≡ senderLen k
+pub memory-bytes : (k : Kind) → 2 * codedBytes (tableRow k) ≡ senderLen k
 unfolding codedBytes
 memory-bytes Unused = refl
 memory-bytes Narrow = refl

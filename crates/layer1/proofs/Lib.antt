@@ -1,0 +1,6 @@
+mod Parts
+mod Places
+mod StartCases
+mod SendCases
+mod Extends
+mod Stands

@@ -1,0 +1,5 @@
+pub mod Rows
+pub mod Called
+pub mod Finder
+pub mod Lookup
+pub mod Sizes

@@ -1,0 +1,36 @@
+// Document 01, the table of causes: the number and the place of an answer.
+use runs::Answer;
+ghost use mathlib.Core.Path.{_≡_};
+ghost use Rattle.runs.specs.Answers.{numberOf, placeOf};
+
+pub fn number(answer: Answer) -> u8
+    ensures { λ r. ⌜ r ≡ numberOf answer ⌝ }
+{
+    match answer {
+        Answer::Success => 0,
+        Answer::ModeNotCovered => 1,
+        Answer::StateNotValid => 2,
+        Answer::WrongLength(_) => 3,
+        Answer::WrongControl(_) => 4,
+        Answer::P1NotCoded => 5,
+        Answer::PidsNotCoded(_) => 6,
+        Answer::FillNotZero(_) => 7,
+        Answer::ExtendedNotCoded(_) => 8,
+    }
+}
+
+pub fn place(answer: Answer) -> usize
+    ensures { λ r. ⌜ r ≡ placeOf answer ⌝ }
+{
+    match answer {
+        Answer::Success => 0,
+        Answer::ModeNotCovered => 0,
+        Answer::StateNotValid => 0,
+        Answer::WrongLength(place) => place,
+        Answer::WrongControl(block) => block,
+        Answer::P1NotCoded => 0,
+        Answer::PidsNotCoded(frame) => frame,
+        Answer::FillNotZero(cell) => cell,
+        Answer::ExtendedNotCoded(frame) => frame,
+    }
+}
