@@ -2,5 +2,4 @@ mod Parts
 mod Places
 mod StartCases
 mod SendCases
-mod Extends
 mod Stands

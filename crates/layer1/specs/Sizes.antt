@@ -1,14 +1,12 @@
 -- For the code alone: lengths compared as two lists, and a place as a number.
-use mathlib.Core.Path.{_≡_}
 use mathlib.Core.Bool.{cond}
 use mathlib.Core.Option.{Option, none, some}
 use mathlib.Core.List.{List, [], _∷_}
-use Prim.Native.Nat.{ℕ, _<_}
+use Prim.Native.Nat.{ℕ}
 use lib.Dec.{ltb}
 use lib.ListN.{length}
-use Rattle.runs.specs.declared.Kind.{Kind}
 use Rattle.runs.specs.declared.Extended.the-variants.{P3, P4}
-use Rattle.runs.specs.Lengths.{kindOf, frameLen, matrixLen, p1Len, pidsLen, pmLen, controlLen, tableRow}
+use Rattle.runs.specs.Lengths.{kindOf, frameLen, matrixLen, p1Len, pidsLen, pmLen, controlLen}
 use Rattle.runs.specs.Causes.{Size, size}
 use Rattle.runs.specs.Lent.{Lent, Memory}
 
@@ -35,10 +33,3 @@ lengthsOf l m =
     length (l .frames .p1) ∷ length (l .frames .pids) ∷ length (l .frames .p3) ∷ length (l .frames .p4)
     ∷ length (l .signal .matrices .pm) ∷ length (l .signal .matrices .px1) ∷ length (l .signal .matrices .px2) ∷ length (l .signal .control)
     ∷ length (m .for3) ∷ length (m .for4) ∷ []
-
--- buffers for the eight frames of an extended channel that a mode uses: the frames, the frames scrambled, and their coded bits
-pub record Room (kind : Kind) (frames scrambled coded : List ℕ) : Type 0 where
-  pub used : tableRow kind < 2
-  pub plain : length frames ≡ frameLen kind
-  pub between : length scrambled ≡ frameLen kind
-  pub long : length coded ≡ matrixLen kind

@@ -3,7 +3,7 @@ use runs::Extended;
 use runs::Kind;
 ghost use mathlib.Core.Path.{_≡_};
 ghost use Rattle.runs.specs.Causes.{wrong};
-ghost use Rattle.runs.specs.Lengths.{frameLen, kindOf, matrixLen, readerLen, senderLen, tableRow};
+ghost use Rattle.runs.specs.Lengths.{frameLen, kindOf, matrixLen, readerLen, senderLen};
 ghost use lib.ListN.{length};
 ghost use Rattle.layer1.specs.Sizes.{placed, sizes, wanted};
 
@@ -27,17 +27,6 @@ pub fn kind_of(mode: u8, channel: Extended) -> Kind
             }
             Kind::Unused
         }
-    }
-}
-
-// Its row of Tables 10-15 and 10-16.
-pub fn table_row(kind: Kind) -> usize
-    ensures { λ r. ⌜ r ≡ tableRow kind ⌝ }
-{
-    match kind {
-        Kind::Narrow => 0,
-        Kind::Wide => 1,
-        Kind::Unused => 2,
     }
 }
 

@@ -4,24 +4,18 @@ use crate::lengths::first_wrong;
 use crate::lengths::kind_of;
 use crate::lengths::lengths;
 use crate::lengths::sender_len;
-use crate::lengths::table_row;
 use crate::states::Outcome;
 use crate::states::is_valid;
 use crate::states::next_of;
-use coding::Rate;
 use runs::Answer;
 use runs::Extended;
-use runs::Kind;
 use runs::State;
 ghost use mathlib.Core.Path.{_≡_};
-ghost use Prim.Native.Nat.{_<_};
 ghost use lib.ListN.{length};
-ghost use Rattle.runs.specs.Chain.{memOf, pmOf, pxOf};
-ghost use Rattle.runs.specs.Lengths.{frameLen, matrixLen, senderLen};
 ghost use Rattle.runs.specs.Lent.{Lent, Memory};
 ghost use Rattle.runs.specs.Sending.{sendAnswer, sendStep};
 ghost use Rattle.layer1.specs.Called.{gave, lent, memory};
-ghost use Rattle.layer1.specs.Sizes.{Room, lengthsOf};
+ghost use Rattle.layer1.specs.Sizes.{lengthsOf};
 
 // The answer of a sending, from the state and the lengths lent.
 fn send_answer(state: State, have: &[usize]) -> Answer
@@ -39,64 +33,6 @@ fn send_answer(state: State, have: &[usize]) -> Answer
         return Answer::WrongLength(place);
     }
     Answer::Success
-}
-
-// Writes PM: P1 and PIDS scrambled, coded and interleaved (section 10.4.1).
-fn write_pm(p1: &[u8], pids: &[u8], pm: &mut [u8])
-    requires { ⌜ (length (now p1) ≡ 18272) × (length (now pids) ≡ 160) × (length (now pm) ≡ 46080) ⌝ }
-    ensures { λ _. ⌜ now (pm .exit) ≡ pmOf (now (p1 .entry)) (now (pids .entry)) ⌝ }
-{
-    let mut scrambled = [0u8; 18272];
-    let mut coded = [0u8; 45680];
-    coding::encode_channel(Rate::TwoFifths, 18272, 1, p1, &mut scrambled, &mut coded);
-    let mut scrambled_pids = [0u8; 160];
-    let mut coded_pids = [0u8; 400];
-    coding::encode_channel(
-        Rate::TwoFifths,
-        10,
-        16,
-        pids,
-        &mut scrambled_pids,
-        &mut coded_pids,
-    );
-    pm::interleave(&coded, &coded_pids, pm);
-}
-
-// Writes the matrices of an extended channel that the mode uses, upon its memory (section 10.4.2); `scrambled` and `coded` are for the work between.
-fn interleave_px(
-    kind: Kind,
-    half: u8,
-    frames: &[u8],
-    scrambled: &mut [u8],
-    coded: &mut [u8],
-    px: &mut [u8],
-    memory: &mut [u8],
-)
-    requires { ⌜ (half < 2) × Room kind (now frames) (now scrambled) (now coded) × (length (now px) ≡ matrixLen kind) × (length (now memory) ≡ senderLen kind) ⌝ }
-    ensures { λ _. ⌜ (now (px .exit) ≡ pxOf kind half (now (memory .entry)) (now (frames .entry))) × (now (memory .exit) ≡ memOf kind half (now (memory .entry)) (now (frames .entry))) ⌝ }
-{
-    coding::encode_channel(Rate::Half, frames.len() / 8, 8, frames, scrambled, coded);
-    px::pass(table_row(kind), half as usize, coded, memory, px);
-}
-
-// Writes the matrices of an extended channel, if the mode uses it.
-fn write_px(kind: Kind, half: u8, frames: &[u8], px: &mut [u8], memory: &mut [u8])
-    requires { ⌜ (half < 2) × (length (now frames) ≡ frameLen kind) × (length (now px) ≡ matrixLen kind) × (length (now memory) ≡ senderLen kind) ⌝ }
-    ensures { λ _. ⌜ (now (px .exit) ≡ pxOf kind half (now (memory .entry)) (now (frames .entry))) × (now (memory .exit) ≡ memOf kind half (now (memory .entry)) (now (frames .entry))) ⌝ }
-{
-    match kind {
-        Kind::Unused => {}
-        Kind::Narrow => {
-            let mut scrambled = [0u8; 2304];
-            let mut coded = [0u8; 4608];
-            interleave_px(kind, half, frames, &mut scrambled, &mut coded, px, memory);
-        }
-        Kind::Wide => {
-            let mut scrambled = [0u8; 4608];
-            let mut coded = [0u8; 9216];
-            interleave_px(kind, half, frames, &mut scrambled, &mut coded, px, memory);
-        }
-    }
 }
 
 // Sends an L1 frame: writes its matrices and control sequences from the transfer frames lent, and the sender's memory.
@@ -135,9 +71,9 @@ pub fn send(
         return Outcome { answer, state };
     }
     let half = state.half;
-    write_pm(p1, pids, pm);
-    write_px(kind_of(state.mode, Extended::P3), half, p3, px1, memory3);
-    write_px(kind_of(state.mode, Extended::P4), half, p4, px2, memory4);
+    chain::write_pm(p1, pids, pm);
+    chain::write_px(kind_of(state.mode, Extended::P3), half, p3, px1, memory3);
+    chain::write_px(kind_of(state.mode, Extended::P4), half, p4, px2, memory4);
     control::fill_control(state.mode, 0, control);
     Outcome {
         answer,

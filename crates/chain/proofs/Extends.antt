@@ -12,11 +12,10 @@ use Rattle.coding.specs.Channel.{channel}
 use Rattle.interleaving.specs.PX.{after, codedBits, codedBytes, read}
 use Rattle.runs.specs.declared.Kind.{Kind}
 use Rattle.runs.specs.declared.Kind.the-variants.{Unused, Narrow, Wide}
-use Rattle.runs.specs.Chain.{codedOf, memOf, pxOf}
+use Rattle.runs.specs.Chain.{Buffer, codedOf, memOf, pxOf}
 use Rattle.runs.specs.Lengths.{frameBits, frameLen, matrixLen, senderLen, tableRow}
 use Rattle.runs.proofs.Bridge.{matrix-bytes, mem-from, px-from}
-use Rattle.layer1.specs.Called.{Buffer}
-use Rattle.layer1.specs.Sizes.{Room}
+use Rattle.chain.specs.Rooms.{Room}
 
 module _ (k : Kind) (frames scrambled coded : Buffer) (room : Room k frames scrambled coded) where
   buffers-by : (k : Kind) → tableRow k < 2 → length frames ≡ frameLen k → length coded ≡ matrixLen k → Buffers Half (length frames / 8) 8 frames coded

@@ -4,10 +4,10 @@ use Prim.Native.Nat.{ℕ, _*_}
 use denote.Ref.{now}
 use Rattle.interleaving.specs.PX.{codedBytes}
 use Rattle.runs.proofs.Bridge.{matrix-bytes, memory-bytes}
-use Rattle.layer1.proofs.Extends.{buffers, coded-length, passed}
+use Rattle.chain.proofs.Extends.{buffers, coded-length, passed}
 use borrow.Author.Needs.{needs}
-use Rattle.layer1.proofs.sending.interleave_px.Statement.{statement}
-use Rattle.layer1.proofs.sending.interleave_px.Tie as tie
+use Rattle.chain.proofs.interleave_px.Statement.{statement}
+use Rattle.chain.proofs.interleave_px.Tie as tie
 
 encode-channel-requires : tie.Need-encode-channel-requires
 encode-channel-requires c κs =

@@ -1,10 +1,10 @@
 -- `write_px` meets its contract: nothing is to be written where the channel is not used. Assumes nothing.
 use native.Mathlib.Omega.{arith}
 use denote.Ref.{now}
-use Rattle.layer1.proofs.Extends.{room-of, unused}
+use Rattle.chain.proofs.Extends.{room-of, unused}
 use borrow.Author.Needs.{needs}
-use Rattle.layer1.proofs.sending.write_px.Statement.{statement}
-use Rattle.layer1.proofs.sending.write_px.Tie as tie
+use Rattle.chain.proofs.write_px.Statement.{statement}
+use Rattle.chain.proofs.write_px.Tie as tie
 
 enum-told : tie.Need-enum-told
 enum-told c = search needs

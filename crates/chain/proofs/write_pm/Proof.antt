@@ -3,8 +3,8 @@ use mathlib.Core.Path.{_∙_}
 use denote.Ref.{now}
 use Rattle.runs.proofs.Bridge.{pm-from}
 use borrow.Author.Needs.{needs}
-use Rattle.layer1.proofs.sending.write_pm.Statement.{statement}
-use Rattle.layer1.proofs.sending.write_pm.Tie as tie
+use Rattle.chain.proofs.write_pm.Statement.{statement}
+use Rattle.chain.proofs.write_pm.Tie as tie
 
 slice-aggregate-encode-channel : tie.Need-slice-aggregate-encode-channel
 slice-aggregate-encode-channel c = search needs
