@@ -1,5 +1,5 @@
-# `make test` is the gate.
-.PHONY: test
+# `make sheet` is the main job on a sample, `make test` the gate.
+.PHONY: sheet test
 
 test:
 	.ci/run
