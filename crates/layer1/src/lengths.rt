@@ -5,6 +5,7 @@ ghost use mathlib.Core.Path.{_≡_};
 ghost use Rattle.runs.specs.Causes.{wrong};
 ghost use Rattle.runs.specs.Lengths.{frameLen, kindOf, matrixLen, readerLen, senderLen};
 ghost use lib.ListN.{length};
+ghost use Rattle.runs.specs.declared.Extended.the-variants.{P3, P4};
 ghost use Rattle.layer1.specs.Sizes.{placed, sizes, wanted};
 
 // How a mode sends an extended channel.
@@ -70,8 +71,8 @@ pub fn reader_len(kind: Kind) -> usize
     3 * matrix_len(kind)
 }
 
-// Every length of a sending or a reading, in the table's order.
-pub fn lengths(mode: u8, memory3: usize, memory4: usize) -> [usize; 10]
+// Every length of a sending or a reading, in the table's order, with those of the side's memory.
+fn lengths(mode: u8, memory3: usize, memory4: usize) -> [usize; 10]
     ensures { λ r. ⌜ r ≡ wanted mode memory3 memory4 ⌝ }
 {
     let k3 = kind_of(mode, Extended::P3);
@@ -88,6 +89,15 @@ pub fn lengths(mode: u8, memory3: usize, memory4: usize) -> [usize; 10]
         memory3,
         memory4,
     ]
+}
+
+// Every length of a sending in this mode, in the order P1, PIDS, P3, P4, PM, PX1, PX2, control, memory for P3, memory for P4.
+pub fn sender_lengths(mode: u8) -> [usize; 10]
+    ensures { λ r. ⌜ r ≡ wanted mode (senderLen (kindOf mode P3)) (senderLen (kindOf mode P4)) ⌝ }
+{
+    let memory3 = sender_len(kind_of(mode, Extended::P3));
+    let memory4 = sender_len(kind_of(mode, Extended::P4));
+    lengths(mode, memory3, memory4)
 }
 
 // The first place at which a length is wrong, or their number.

@@ -12,6 +12,7 @@ pub use answers::number;
 pub use answers::place;
 pub use blocks::lookup;
 pub use finder::find;
+pub use lengths::sender_lengths;
 pub use rows::pm_row;
 pub use rows::px_row;
 pub use sending::send;

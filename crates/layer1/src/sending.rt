@@ -2,8 +2,7 @@
 use crate::answers::number;
 use crate::lengths::first_wrong;
 use crate::lengths::kind_of;
-use crate::lengths::lengths;
-use crate::lengths::sender_len;
+use crate::lengths::sender_lengths;
 use crate::states::Outcome;
 use crate::states::is_valid;
 use crate::states::next_of;
@@ -25,9 +24,7 @@ fn send_answer(state: State, have: &[usize]) -> Answer
     if !is_valid(state) {
         return Answer::StateNotValid;
     }
-    let memory3 = sender_len(kind_of(state.mode, Extended::P3));
-    let memory4 = sender_len(kind_of(state.mode, Extended::P4));
-    let want = lengths(state.mode, memory3, memory4);
+    let want = sender_lengths(state.mode);
     let place = first_wrong(have, &want);
     if place < 10 {
         return Answer::WrongLength(place);

@@ -1,7 +1,5 @@
 -- `send_answer` meets its contract: the case that the tests chose. Assumes nothing.
-use mathlib.Core.Path.{sym, ap, ap₂, _∙_}
-use Rattle.runs.specs.Lengths.{senderLen}
-use Rattle.layer1.specs.Sizes.{wanted}
+use mathlib.Core.Path.{sym, _∙_}
 use Rattle.layer1.proofs.Places.{not-true, not-false}
 use Rattle.layer1.proofs.SendCases.{state-refused, length-refused, accepted}
 use borrow.Author.Needs.{needs}
@@ -14,20 +12,8 @@ is-valid-requires c κs = search needs
 returns : tie.Need-returns
 returns c l m e = state-refused _ m l (sym (c .before .is-valid .ensures) ∙ not-true _ (c .if1 .taken))
 
-kind-of-requires : tie.Need-kind-of-requires
-kind-of-requires c κs = search needs
-
-sender-len-requires : tie.Need-sender-len-requires
-sender-len-requires c κs = search needs
-
-kind-of-requires-2 : tie.Need-kind-of-requires-2
-kind-of-requires-2 c κs = search needs
-
-sender-len-requires-2 : tie.Need-sender-len-requires-2
-sender-len-requires-2 c κs = search needs
-
-lengths-requires : tie.Need-lengths-requires
-lengths-requires c κs = search needs
+sender-lengths-requires : tie.Need-sender-lengths-requires
+sender-lengths-requires c κs = search needs
 
 slice-aggregate-first-wrong : tie.Need-slice-aggregate-first-wrong
 slice-aggregate-first-wrong c = search needs
@@ -37,22 +23,14 @@ first-wrong-requires c κs = search needs
 
 returns-2 : tie.Need-returns-2
 returns-2 c l m e =
-    let n = c .before .before .before in
-    let k = n .before in
-    let v = k .before .before .before .before in
-    length-refused _ m l _ _ _ (sym (v .before .is-valid .ensures) ∙ not-false _ (v .if1 .left)) e
-    (n .lengths .ensures
-    ∙ ap₂ (wanted _) (k .before .before .sender-len .ensures ∙ ap senderLen (k .before .before .before .kind-of .ensures)) (k .sender-len2 .ensures ∙ ap senderLen (k .before .kind-of2 .ensures)))
+    let w = c .before .before .before in
+    length-refused _ m l _ _ _ (sym (w .before .before .is-valid .ensures) ∙ not-false _ (w .before .if1 .left)) e (w .sender-lengths .ensures)
     (c .before .first-wrong .ensures) (c .if2 .taken)
 
 returns-3 : tie.Need-returns-3
 returns-3 c l m e =
-    let n = c .before .before .before in
-    let k = n .before in
-    let v = k .before .before .before .before in
-    accepted _ m l _ _ _ (sym (v .before .is-valid .ensures) ∙ not-false _ (v .if1 .left)) e
-    (n .lengths .ensures
-    ∙ ap₂ (wanted _) (k .before .before .sender-len .ensures ∙ ap senderLen (k .before .before .before .kind-of .ensures)) (k .sender-len2 .ensures ∙ ap senderLen (k .before .kind-of2 .ensures)))
+    let w = c .before .before .before in
+    accepted _ m l _ _ _ (sym (w .before .before .is-valid .ensures) ∙ not-false _ (w .before .if1 .left)) e (w .sender-lengths .ensures)
     (c .before .first-wrong .ensures) (c .if2 .left)
 
 pub send-answer-spec : {M : Type 1} → statement M
@@ -61,11 +39,7 @@ send-answer-spec =
     (tie.spec
     is-valid-requires
     returns
-    kind-of-requires
-    sender-len-requires
-    kind-of-requires-2
-    sender-len-requires-2
-    lengths-requires
+    sender-lengths-requires
     slice-aggregate-first-wrong
     first-wrong-requires
     returns-2
