@@ -24,6 +24,11 @@ pub written-more : (place bits : ℕ → ℕ) (n : ℕ) (m : ℕ → ℕ) → wr
 unfolding written
 written-more place bits n m = rw add-one
 
+-- the step of such a loop: what is put next is the next bit, at its place
+pub written-next : (place bits : ℕ → ℕ) (n : ℕ) (m f g : ℕ → ℕ) {c b : ℕ} → f ≡ written place bits n m → c ≡ place n → b ≡ bits n → g ≡ put c b f
+    → g ≡ written place bits (n + 1) m
+written-next place bits n m f g e p q h = rw written-more (cc (e, p, q, h))
+
 pub written-other : (place bits : ℕ → ℕ) (n : ℕ) (m : ℕ → ℕ) (c : ℕ) → ((i : ℕ) → i < n → c ≡ place i → ⊥) → written place bits n m c ≡ m c
 unfolding written
 written-other place bits zero m c h = refl

@@ -1,60 +1,66 @@
 -- The coded bits of a unit, by masks over windows of eight bits, are those of the coder. Assumes nothing.
 use mathlib.Core.Path.{_≡_, sym, ap, ap₂, _∙_}
-use mathlib.Core.Bool.{Bool, _&&_}
-use Prim.Native.Nat.{ℕ, _+_, _-_, _*_, _/_, _%_, _^_, _<_, _≤_}
+use Prim.Native.Nat.{ℕ, zero, suc, _+_, _-_, _*_, _/_, _%_, _^_, _<_, _≤_}
 use native.Mathlib.Nat.{mod-lt, div-lt-iff-lt-mul}
 use native.Mathlib.Omega.{arith}
 use lib.Arith.{digits-div, digits-mod}
-use lib.Dec.{T, eqb, leb, eqb→eq, lit<, lit≤}
-use lib.Count.{ones}
-use Rattle.bits.specs.Tests.{all}
+use lib.Dec.{lit<, lit≤}
+use lib.ListN.{getD}
 use Rattle.bits.specs.Bits.{number}
-use Rattle.bits.proofs.Tests.{both, all-at}
 use Rattle.coding.specs.declared.Rate.{Rate}
 use Rattle.coding.specs.declared.Rate.the-variants.{TwoFifths, Half}
 use Rattle.coding.specs.Coder.{back, tapped, output, kept, coded}
 use Rattle.coding.specs.Rates.{patternOf}
 use Rattle.coding.specs.Channel.{part}
 use Rattle.coding.specs.Buffers.{codedEach}
-use Rattle.coding.specs.Units.{groupSize, masked, unitCoded, around}
+use Rattle.coding.specs.Units.{groupSize, masksOf, masked, unitCoded, around}
 use Rattle.coding.proofs.Coder.{tapped-same}
 use Rattle.coding.proofs.Slices.{number-shifted}
-use Rattle.coding.proofs.Windows.{digit-low}
+use Rattle.coding.proofs.Windows.{dots, mask-dots, digit-low}
 use Rattle.coding.proofs.Turns.{back-shift}
 use Rattle.coding.proofs.Places as places
 
--- the modulo 2 sum under mask k of a window whose digit e is for the bit e places back from the later of two bits
-right : Rate → ℕ → ℕ → Bool
-unfolding masked ones
-right rate w k =
-    let c = kept (patternOf rate) k .0 in
-    leb c 1 && eqb (masked rate w k) (tapped (kept (patternOf rate) k .1) (λ d. w / 2 ^ (d + (1 - c)) % 2) % 2)
+-- the mask of coded bit k of two bits has a digit for each tap of its generator, from the bit that it is the output for on
+record Mask (rate : Rate) (k : ℕ) : Type 0 where
+  low : kept (patternOf rate) k .0 ≤ 1
+  small : getD (masksOf rate) k 0 < 2 ^ 8
+  right : (x : ℕ → ℕ) → dots 8 0 (getD (masksOf rate) k 0) x
+      ≡ tapped (kept (patternOf rate) k .1) (λ d. x (d + (1 - kept (patternOf rate) k .0)))
 
--- tried for each window and each mask
-all-right : (rate : Rate) (w k : ℕ) → w < 256 → k < groupSize rate → T (right rate w k)
-unfolding all masked ones right
-all-right TwoFifths w k h l = all-at (groupSize TwoFifths) (right TwoFifths w) (all-at 256 (λ w. all (groupSize TwoFifths) (right TwoFifths w)) tt w h) k l
-all-right Half w k h l = all-at (groupSize Half) (right Half w) (all-at 256 (λ w. all (groupSize Half) (right Half w)) tt w h) k l
+mask-right : (rate : Rate) (k : ℕ) → k < groupSize rate → Mask rate k
+mask-right TwoFifths zero h = record { low = lit≤ tt; small = lit< tt; right = λ x. omega arith }
+mask-right TwoFifths (suc zero) h = record { low = lit≤ tt; small = lit< tt; right = λ x. omega arith }
+mask-right TwoFifths (suc (suc zero)) h = record { low = lit≤ tt; small = lit< tt; right = λ x. omega arith }
+mask-right TwoFifths (suc (suc (suc zero))) h = record { low = lit≤ tt; small = lit< tt; right = λ x. omega arith }
+mask-right TwoFifths (suc (suc (suc (suc zero)))) h = record { low = lit≤ tt; small = lit< tt; right = λ x. omega arith }
+mask-right TwoFifths (suc (suc (suc (suc (suc k))))) h = absurd (omega arith)
+mask-right Half zero h = record { low = lit≤ tt; small = lit< tt; right = λ x. omega arith }
+mask-right Half (suc zero) h = record { low = lit≤ tt; small = lit< tt; right = λ x. omega arith }
+mask-right Half (suc (suc zero)) h = record { low = lit≤ tt; small = lit< tt; right = λ x. omega arith }
+mask-right Half (suc (suc (suc zero))) h = record { low = lit≤ tt; small = lit< tt; right = λ x. omega arith }
+mask-right Half (suc (suc (suc (suc k)))) h = absurd (omega arith)
 
 pub size-pos : (rate : Rate) → 0 < groupSize rate
 size-pos TwoFifths = lit< tt
 size-pos Half = lit< tt
 
 -- a window that ends with bits 2 g and 2 g + 1 of a frame gives group g of its coding
-group-coded : (rate : Rate) (N : ℕ) (s : ℕ → ℕ) (g k w : ℕ) → w < 256 → k < groupSize rate
+group-coded : (rate : Rate) (N : ℕ) (s : ℕ → ℕ) (g k w : ℕ) → k < groupSize rate
     → ((e : ℕ) → e < 8 → w / 2 ^ e % 2 ≡ s (back N (2 * g + 1) e)) → masked rate w k ≡ coded (patternOf rate) N s (g * groupSize rate + k)
-unfolding coded output right
-group-coded rate N s g k w small h v =
+unfolding coded output masked
+group-coded rate N s g k w h v =
+    let m = mask-right rate k h in
     let c : ℕ = kept (patternOf rate) k .0 in
-    let test = both (leb c 1) _ (all-right rate w k small h) in
-    let low : c ≤ 1 = lit≤ (test .0) in
+    let low : c ≤ 1 = m .low in
+    let t : ℕ → ℕ = λ e. s (back N (2 * g + 1) e) in
     rw (digits-div g h, digits-mod g h)
-    (eqb→eq _ _ (test .1)
-    ∙ ap (λ (n : ℕ). n % 2)
-    (tapped-same (kept (patternOf rate) k .1) _ _
+    (ap (λ (n : ℕ). n % 2)
+    (mask-dots 8 w (getD (masksOf rate) k 0) t (m .small) v
+    ∙ m .right t
+    ∙ tapped-same (kept (patternOf rate) k .1) (λ d. t (d + (1 - c))) (λ d. s (back N (2 * g + c) d))
     (λ d l.
     let e : 2 * g + 1 ≡ 2 * g + c + (1 - c) = omega arith in
-    v (d + (1 - c)) (omega arith) ∙ ap s (ap (λ (j : ℕ). back N j (d + (1 - c))) e ∙ back-shift N (2 * g + c) d (1 - c)))))
+    ap s (ap (λ (j : ℕ). back N j (d + (1 - c))) e ∙ back-shift N (2 * g + c) d (1 - c)))))
 
 module _ (rate : Rate) (n u : ℕ) (f : ℕ → ℕ) (long : 12 ≤ 8 * n) (even : n % 2 ≡ 0) (d : (i : ℕ) → f i < 2) where
   -- digit e of window q of a unit
@@ -78,6 +84,6 @@ module _ (rate : Rate) (n u : ℕ) (f : ℕ → ℕ) (long : 12 ≤ 8 * n) (even
   unit-coded i h =
       let l : ℕ = groupSize rate in
       let q : i / l < 8 = div-lt-iff-lt-mul (size-pos rate) .1 h in
-      group-coded rate (8 * n) (part (8 * n) (u / (n / 2)) f) (8 * (u % (n / 2)) + i / l) (i % l) _ (mod-lt _ (lit< tt)) (mod-lt i (size-pos rate)) (λ e. window (i / l) e q)
+      group-coded rate (8 * n) (part (8 * n) (u / (n / 2)) f) (8 * (u % (n / 2)) + i / l) (i % l) _ (mod-lt i (size-pos rate)) (λ e. window (i / l) e q)
       ∙ ap₂ (λ (k m : ℕ). coded (patternOf rate) (8 * n) (part (8 * n) k f) m)
       (sym (places.frame-coded-bit n u long even l (size-pos rate) i h)) (sym (places.unit-coded-bit n u long even l (size-pos rate) i h))

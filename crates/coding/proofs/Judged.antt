@@ -89,29 +89,33 @@ module _ {rate : Rate} {n count : ℕ} {frames cells : List ℕ} (b : Buffers ra
         let z : k * size + m < suc k * size = digits-lt (omega arith) j in
         e (k * size + m) (omega (arith, places.coded-frames n (groupSize rate) (suc k) (b .even), mul-le-mul-left (groupSize rate) l)))
 
-    -- the next unit differs
-    pub stops : u < length frames / 2
-        → (number (8 * groupSize rate) (λ i. again (8 * (groupSize rate * u) + i)) ≡ number (8 * groupSize rate) (λ i. y (8 * (groupSize rate * u) + i)) → ⊥)
-        → u / (n / 2) ≡ lowest count (noFrame rate (8 * n) y)
-    stops h differ =
-        let k : ℕ = u / (n / 2) in
-        let hk : k < count = unit-frame b u h in
-        sym (lowest-at count k (noFrame rate (8 * n) y) hk
-        (λ j l. covered j (omega arith) (omega (arith, mul-le-mul-right (n / 2) l, places.unit-whole n u (b .enough) (b .even))))
-        (frame-bad k hk
-        (λ same. differ (number-cong (8 * groupSize rate) _ _
-        (λ i l.
-        let at = places.coded-bit n u (b .enough) (b .even) (groupSize rate) (size-pos rate) i l in
-        ap again at ∙ sym (same _ (places.coded-bit-inside n u (b .enough) (b .even) (groupSize rate) (size-pos rate) i l)) ∙ ap y (sym at))))))
+    -- the next unit: x is how it is coded again, and z the cells
+    module _ (l x z : ℕ) (l-is : l ≡ groupSize rate)
+        (x-is : x ≡ number (8 * groupSize rate) (λ i. again (8 * (groupSize rate * u) + i)))
+        (z-is : z ≡ number (8 * l) (λ i. y (8 * (l * u) + i))) where
+      cells-are : z ≡ number (8 * groupSize rate) (λ i. y (8 * (groupSize rate * u) + i))
+      cells-are = z-is ∙ ap (λ (k : ℕ). number (8 * k) (λ i. y (8 * (k * u) + i))) l-is
 
-    -- the next unit agrees
-    pub goes-on : number (8 * groupSize rate) (λ i. again (8 * (groupSize rate * u) + i)) ≡ number (8 * groupSize rate) (λ i. y (8 * (groupSize rate * u) + i))
-        → Agree (8 * (groupSize rate * (u + 1))) y again
-    goes-on w =
-        let s : 8 * (groupSize rate * u) + 8 * groupSize rate ≡ 8 * (groupSize rate * (u + 1)) = omega (arith, mul-add (groupSize rate) u 1) in
-        rw s at
-        (agree-more (8 * (groupSize rate * u)) (8 * groupSize rate) y again e
-        (λ i l. sym (number-same (8 * groupSize rate) _ _ (λ j. codedEach-bit _ _ _ _) (λ j. bitAt-lt cells _) w i l)))
+      pub stops : u < length frames / 2 → (x ≡ z → ⊥) → u / (n / 2) ≡ lowest count (noFrame rate (8 * n) y)
+      stops h differ =
+          let k : ℕ = u / (n / 2) in
+          let hk : k < count = unit-frame b u h in
+          sym (lowest-at count k (noFrame rate (8 * n) y) hk
+          (λ j l. covered j (omega arith) (omega (arith, mul-le-mul-right (n / 2) l, places.unit-whole n u (b .enough) (b .even))))
+          (frame-bad k hk
+          (λ same. differ (x-is
+          ∙ number-cong (8 * groupSize rate) _ _
+          (λ i l.
+          let at = places.coded-bit n u (b .enough) (b .even) (groupSize rate) (size-pos rate) i l in
+          ap again at ∙ sym (same _ (places.coded-bit-inside n u (b .enough) (b .even) (groupSize rate) (size-pos rate) i l)) ∙ ap y (sym at))
+          ∙ sym cells-are))))
+
+      pub goes-on : x ≡ z → Agree (8 * (groupSize rate * (u + 1))) y again
+      goes-on w =
+          let s : 8 * (groupSize rate * u) + 8 * groupSize rate ≡ 8 * (groupSize rate * (u + 1)) = omega (arith, mul-add (groupSize rate) u 1) in
+          rw s at
+          (agree-more (8 * (groupSize rate * u)) (8 * groupSize rate) y again e
+          (λ i l. sym (number-same (8 * groupSize rate) _ _ (λ j. codedEach-bit _ _ _ _) (λ j. bitAt-lt cells _) (sym x-is ∙ w ∙ cells-are) i l)))
 
     -- no unit is left
     pub ends : length frames / 2 ≤ u → count ≡ lowest count (noFrame rate (8 * n) y)

@@ -7,10 +7,19 @@ use native.Mathlib.Decide.{decLt}
 use native.Mathlib.Omega.{arith}
 use lib.Dec.{eqb, ltb}
 use borrow.Author.Tests.{lt-ltb, le-ltb}
-use Rattle.interleaving.specs.PX.{cells, stepOf, place, later, unreached, isFill}
+use Rattle.bits.specs.Bits.{put}
+use Rattle.interleaving.specs.PX.{cells, stepOf, place, after, read, later, unreached, isFill}
 use Rattle.interleaving.specs.FinderPX.{source}
 use Rattle.interleaving.proofs.Mod.{mod-of}
-use Rattle.interleaving.proofs.Steps.{unreached-is}
+use Rattle.interleaving.proofs.Steps.{after-more, read-is, unreached-is}
+
+-- the step i of bit j of an L1 frame, upon the matrix g that the steps before it left: what it writes, and what it reads
+module _ (kind half : ℕ) (f m g : ℕ → ℕ) (j i b : ℕ) (g-is : g ≡ after kind half f m j) (i-is : i ≡ stepOf kind half j) (b-is : b ≡ f j) where
+  pub after-next : {h : ℕ → ℕ} → h ≡ put (place kind i) b g → h ≡ after kind half f m (j + 1)
+  after-next e = rw after-more (cc (e, g-is, i-is, b-is))
+
+  pub read-next : {r : ℕ} → r ≡ put (place kind i) b g i → r ≡ read kind half f m j
+  read-next e = rw read-is (cc (e, g-is, i-is, b-is))
 
 -- the distance from a step to its cell, counted around the matrix
 module _ (kind half j i c : ℕ) (i-is : i ≡ stepOf kind half j) (c-is : c ≡ place kind i) (hi : i < cells kind) (hc : c < cells kind) where

@@ -33,16 +33,15 @@ pub column-is : (kind c y j : ℕ) → y ≡ c / (partitions kind * 36) → j �
 column-is kind c y j y-is j-is = rw (y-is, j-is) (omega (arith, div-add-mod' c (partitions kind * 36)))
 
 -- the products of `step` fit
-pub step-fits : (kind : ℕ) → kind < 2 → (p x : ℕ) → p < partitions kind → x ≤ 36866
-    → (x / runs kind * partitions kind ≤ 147464) × ((x / runs kind * partitions kind + p) * runs kind ≤ 589872)
-step-fits kind hk p x hp hx =
+pub step-fits : (kind : ℕ) → kind < 2 → (p x q j m : ℕ) → p < partitions kind → x ≤ 36866 → q ≡ x / runs kind → j ≡ partitions kind → m ≡ runs kind
+    → (q * j ≤ 147464) × ((q * j + p) * m ≤ 589872)
+step-fits kind hk p x q j m hp hx q-is j-is m-is =
     let K = kind-is kind hk in
-    let q : ℕ = x / runs kind * partitions kind in
-    let a : q ≤ 36866 * 4 = mul-le-mul (le-trans (div-le-self x (runs kind)) hx) (K .J-le) in
-    let s : q + p ≤ 147468 = omega (arith, K .J-le) in
-    let b : (q + p) * runs kind ≤ 147468 * 4 = mul-le-mul s (K .M-le) in
-    (omega arith, omega arith)
+    let a : q * j ≤ 36866 * 4 = rw (q-is, j-is) (mul-le-mul (le-trans (div-le-self x (runs kind)) hx) (K .J-le)) in
+    let s : q * j + p ≤ 147468 = omega (arith, K .J-le) in
+    let b : (q * j + p) * m ≤ 147468 * 4 = rw m-is (mul-le-mul s (K .M-le)) in
+    (a, b)
 
 -- the product of `entry` fits
-pub entry-fits : (r j : ℕ) → r < 1024 → j ≤ 4 → r * (j * 36) < 147456
-entry-fits r j hr hj = let h : r * (j * 36) ≤ 1023 * 144 = mul-le-mul {n₂ = 1023} {m₂ = 144} (omega arith) (omega arith) in omega arith
+pub entry-fits : (p n j : ℕ) → j ≤ 4 → (32 * ((n / 1152 + (n % 1152 + p * 7)) % 32) + 11 * n % 1152 / 36) * (j * 36) ≤ 1023 * 144
+entry-fits p n j h = mul-le-mul {n₂ = 1023} {m₂ = 144} (omega arith) (omega arith)

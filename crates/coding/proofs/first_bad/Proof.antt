@@ -1,11 +1,10 @@
 -- `coding::first_bad` meets its contract. The loop's invariant: u units agree. Assumes nothing.
-use mathlib.Core.Path.{sym, ap, _∙_}
-use Prim.Native.Nat.{ℕ, _+_, _-_, _*_, _/_}
+use Prim.Native.Nat.{_-_, _*_, _/_}
 use native.Mathlib.Nat.{mul-zero}
 use native.Mathlib.Omega.{arith}
 use lib.ListN.{length}
 use borrow.Author.Needs.{needs}
-use Rattle.bits.specs.Bits.{bitAt, number}
+use Rattle.bits.specs.Bits.{bitAt}
 use Rattle.coding.specs.Channel.{Agree}
 use Rattle.coding.specs.Buffers.{codedEach}
 use Rattle.coding.specs.Units.{groupSize}
@@ -49,12 +48,10 @@ div-result c = omega arith
 returns : tie.Need-returns Inv-loop μ-loop
 returns c =
     let start = c .before .before .before .before .before .before .before .before .before .before in
-    let a = start .args in
     let loop = c .before .before .before .before .before .loop in
-    let u = loop .u in
     let size = c .before .before .before .before .before .before .before .size .ensures .0 in
-    let word = c .before .load .ensures ∙ ap (λ (l : ℕ). number (8 * l) (λ i. bitAt (a .coded .now) (8 * (l * u) + i))) size in
-    stops (start .pre .0) (start .pre .1) u (loop .inv) (omega arith) (λ e. c .if1 .taken (c .before .before .coded-unit .ensures ∙ e ∙ sym word))
+    stops (start .pre .0) (start .pre .1) (loop .u) (loop .inv) _ _ _ size (c .before .before .coded-unit .ensures) (c .before .load .ensures)
+    (omega arith) (c .if1 .taken)
 
 add-u : tie.Need-add-u Inv-loop μ-loop
 add-u c = search needs
@@ -65,12 +62,9 @@ loop-less c = search needs
 loop-again : tie.Need-loop-again Inv-loop μ-loop
 loop-again c =
     let start = c .before .before .before .before .before .before .before .before .before .before in
-    let a = start .args in
     let loop = c .before .before .before .before .before .loop in
-    let u = loop .u in
     let size = c .before .before .before .before .before .before .before .size .ensures .0 in
-    let word = c .before .load .ensures ∙ ap (λ (l : ℕ). number (8 * l) (λ i. bitAt (a .coded .now) (8 * (l * u) + i))) size in
-    goes-on (start .pre .0) (start .pre .1) u (loop .inv) (sym (c .before .before .coded-unit .ensures) ∙ c .if1 .left ∙ word)
+    goes-on (start .pre .0) (start .pre .1) (loop .u) (loop .inv) _ _ _ size (c .before .before .coded-unit .ensures) (c .before .load .ensures) (c .if1 .left)
 
 returns-2 : tie.Need-returns-2 Inv-loop μ-loop
 returns-2 c =

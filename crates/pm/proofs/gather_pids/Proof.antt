@@ -1,11 +1,11 @@
 -- `pm::gather_pids` meets its contract. The loop's invariant: the first i bits are read. Assumes nothing.
-use mathlib.Core.Path.{_≡_}
+use mathlib.Core.Path.{_≡_, refl, ap, _∙_}
 use Prim.Native.Nat.{_≤_, _-_}
 use native.Mathlib.Omega.{arith}
 use lib.ListN.{length}
 use borrow.Author.Needs.{needs}
 use Rattle.bits.specs.Bits.{Bytes, bitAt, written}
-use Rattle.bits.proofs.Written.{written-more}
+use Rattle.bits.proofs.Written.{written-next}
 use Rattle.bits.proofs.Packed.{bitAt-lt, packed-in-order}
 use Rattle.interleaving.specs.PM.{pidsPlace}
 use Rattle.interleaving.proofs.OncePM.{pidsPlace-lt}
@@ -41,7 +41,15 @@ loop-less : tie.Need-loop-less Inv-loop μ-loop
 loop-less c = search needs
 
 loop-again : tie.Need-loop-again Inv-loop μ-loop
-loop-again c = (search needs, search needs, λ j. omega (arith, c .slice-known2 .given j), rw written-more (cc))
+loop-again c =
+    let pm = c .before .before .before .before .before .before .before .before .before .before .args .pm .now in
+    let loop = c .before .before .before .before .before .before .before .loop in
+    let bit = c .before .before .before .before .get .ensures ∙ ap (bitAt pm) (c .before .before .before .before .before .pids-cell .ensures) in (
+      search needs,
+      search needs,
+      λ j. omega (arith, c .slice-known2 .given j),
+      written-next (λ i. i) _ (loop .i) _ _ _ (loop .inv .3) refl bit (c .before .before .put .ensures),
+    )
 
 same-length : tie.Need-same-length Inv-loop μ-loop
 same-length c = search needs

@@ -5,7 +5,7 @@ use native.Mathlib.Nat.{add-zero}
 use native.Mathlib.Omega.{arith}
 use lib.ListN.{length}
 use Rattle.bits.specs.Bits.{bitAt, written}
-use Rattle.bits.proofs.Written.{written-more}
+use Rattle.bits.proofs.Written.{written-next}
 use Rattle.bits.proofs.Packed.{bitAt-lt}
 use Rattle.interleaving.specs.PM.{p1Place}
 use Rattle.interleaving.proofs.OncePM.{p1Place-lt}
@@ -52,8 +52,11 @@ loop-again : tie.Need-loop-again Inv-loop μ-loop
 loop-again c =
     let loop = c .before .before .before .before .before .before .before .loop in
     let j = c .before .before .before .before .before .before .before .before .before .before .args .j in
-    let next : 8 * j + (loop .u + 1) ≡ 8 * j + loop .u + 1 = omega arith in
-    (search needs, search needs, λ m e. rw (next, written-more) (cc (loop .inv .2 m e)))
+    let n : ℕ = 8 * j + loop .u in
+    let cell = c .before .before .before .before .cell-in-byte .ensures in
+    let bit = c .before .before .before .before .before .get .ensures in
+    let next : 8 * j + (loop .u + 1) ≡ n + 1 = omega arith in
+    (search needs, search needs, λ m e. rw next (written-next p1Place _ n m _ _ (loop .inv .2 m e) cell bit (c .before .before .put .ensures)))
 
 same-length : tie.Need-same-length Inv-loop μ-loop
 same-length c = search needs

@@ -5,7 +5,7 @@ use native.Mathlib.Omega.{arith}
 use lib.ListN.{length}
 use borrow.Author.Needs.{needs}
 use Rattle.bits.specs.Bits.{Bytes, bitAt, written}
-use Rattle.bits.proofs.Written.{written-more}
+use Rattle.bits.proofs.Written.{written-next}
 use Rattle.bits.proofs.Packed.{bitAt-lt, packed-as}
 use Rattle.interleaving.specs.PM.{pidsPlace}
 use Rattle.interleaving.proofs.OncePM.{pidsPlace-lt}
@@ -42,7 +42,15 @@ loop-less : tie.Need-loop-less Inv-loop μ-loop
 loop-less c = search needs
 
 loop-again : tie.Need-loop-again Inv-loop μ-loop
-loop-again c = (search needs, search needs, λ j. omega (arith, c .slice-known2 .given j), rw written-more (cc))
+loop-again c =
+    let loop = c .before .before .before .before .before .before .before .loop in
+    let cell = c .before .before .before .before .pids-cell .ensures in
+    let bit = c .before .before .before .before .before .get .ensures in (
+      search needs,
+      search needs,
+      λ j. omega (arith, c .slice-known2 .given j),
+      written-next pidsPlace _ (loop .i) _ _ _ (loop .inv .3) cell bit (c .before .before .put .ensures),
+    )
 
 same-length : tie.Need-same-length Inv-loop μ-loop
 same-length c = search needs

@@ -1,5 +1,4 @@
 -- `px::entry` meets its contract: the law `entry-is`. Assumes nothing.
-use Prim.Native.Nat.{_+_, _*_, _/_, _%_}
 use native.Mathlib.Omega.{arith}
 use Rattle.px.proofs.Words.{entry-fits}
 use Rattle.px.proofs.Entries.{entry-is}
@@ -32,11 +31,7 @@ mul-result-2 : tie.Need-mul-result-2
 mul-result-2 c = search needs
 
 mul-result-3 : tie.Need-mul-result-3
-mul-result-3 c =
-    let j = c .partitions .result in
-    let n = c .before .args .n in
-    let r = 32 * ((n / 1152 + (n % 1152 + c .before .args .p * 7)) % 32) + 11 * n % 1152 / 36 in
-    omega (arith, entry-fits r j (omega arith) (omega arith))
+mul-result-3 c = omega (arith, entry-fits (c .before .args .p) (c .before .args .n) _ (c .partitions .ensures .2))
 
 mul-result-4 : tie.Need-mul-result-4
 mul-result-4 c = search needs
@@ -45,11 +40,7 @@ add-result-2 : tie.Need-add-result-2
 add-result-2 c = search needs
 
 add-result-3 : tie.Need-add-result-3
-add-result-3 c =
-    let j = c .partitions .result in
-    let n = c .before .args .n in
-    let r = 32 * ((n / 1152 + (n % 1152 + c .before .args .p * 7)) % 32) + 11 * n % 1152 / 36 in
-    omega (arith, entry-fits r j (omega arith) (omega arith))
+add-result-3 c = omega (arith, entry-fits (c .before .args .p) (c .before .args .n) _ (c .partitions .ensures .2))
 
 returns : tie.Need-returns
 returns c = rw (c .partitions .ensures .0) (entry-is (c .before .args .kind) (c .before .args .p) (c .before .args .n))

@@ -1,10 +1,10 @@
 -- `px::gather` meets its contract. The loop's invariant: the first j bits are read. Assumes nothing.
-use mathlib.Core.Path.{_≡_}
+use mathlib.Core.Path.{_≡_, refl, ap, _∙_}
 use Prim.Native.Nat.{_≤_, _-_}
 use native.Mathlib.Omega.{arith}
 use lib.ListN.{length}
 use Rattle.bits.specs.Bits.{Bytes, bitAt, written}
-use Rattle.bits.proofs.Written.{written-more}
+use Rattle.bits.proofs.Written.{written-next}
 use Rattle.bits.proofs.Packed.{bitAt-lt, packed-in-order}
 use Rattle.interleaving.specs.PX.{codedBytes, later}
 use borrow.Author.Needs.{needs}
@@ -44,7 +44,15 @@ loop-less : tie.Need-loop-less Inv-loop μ-loop
 loop-less c = search needs
 
 loop-again : tie.Need-loop-again Inv-loop μ-loop
-loop-again c = (search needs, search needs, λ j. omega (arith, c .slice-known2 .given j), rw written-more (cc))
+loop-again c =
+    let three = c .before .before .before .before .before .before .before .before .before .before .before .args .three .now in
+    let loop = c .before .before .before .before .before .before .before .loop in
+    let bit = c .before .before .before .before .get .ensures ∙ ap (bitAt three) (c .before .before .before .before .before .later .ensures .0) in (
+      search needs,
+      search needs,
+      λ j. omega (arith, c .slice-known2 .given j),
+      written-next (λ i. i) _ (loop .j) _ _ _ (loop .inv .3) refl bit (c .before .before .put .ensures),
+    )
 
 same-length : tie.Need-same-length Inv-loop μ-loop
 same-length c = search needs

@@ -1,13 +1,14 @@
 -- `px::pass` meets its contract. The loop's invariant: the first j steps are taken. Assumes nothing.
-use mathlib.Core.Path.{_≡_}
+use mathlib.Core.Path.{_≡_, refl}
 use Prim.Native.Nat.{_≤_, _-_, _*_}
 use native.Mathlib.Omega.{arith}
 use lib.ListN.{length}
 use Rattle.bits.specs.Bits.{Bytes, bitAt, written}
-use Rattle.bits.proofs.Written.{written-more}
+use Rattle.bits.proofs.Written.{written-next}
 use Rattle.bits.proofs.Packed.{bitAt-lt, packed-as, packed-in-order}
 use Rattle.interleaving.specs.PX.{codedBytes, codedBits, after, read}
-use Rattle.interleaving.proofs.Steps.{after-none, after-more, read-is}
+use Rattle.interleaving.proofs.Steps.{after-none}
+use Rattle.px.proofs.Frames.{after-next, read-next}
 use borrow.Author.Needs.{needs}
 use Rattle.px.proofs.pass.Statement.{statement}
 use Rattle.px.proofs.pass.Tie as tie
@@ -58,17 +59,21 @@ loop-less c = search needs
 
 loop-again : tie.Need-loop-again Inv-loop μ-loop
 loop-again c =
+    let a = c .before .before .before .before .before .before .before .before .before .before .before .before .before .before .before .before .args in
+    let loop = c .before .before .before .before .before .before .before .before .before .before .before .loop in
+    let inv = loop .inv in
     let step = c .before .before .before .before .before .before .before .before .before .step-of .ensures .0 in
     let bit = c .before .before .before .before .before .before .before .before .get .ensures in
     let exchange = c .before .before .before .before .before .before .exchange .ensures in
-    let inv = c .before .before .before .before .before .before .before .before .before .before .before .loop .inv in (
+    let next = after-next (a .kind) (a .half) (bitAt (a .coded .now)) (bitAt (a .memory .now)) _ (loop .j) _ _ (inv .5) step bit (exchange .0) in
+    let read = read-next (a .kind) (a .half) (bitAt (a .coded .now)) (bitAt (a .memory .now)) _ (loop .j) _ _ (inv .5) step bit (exchange .1 .0) in (
       search needs,
       search needs,
       search needs,
       λ j. omega (arith, c .before .before .before .before .slice-known3 .given j),
       λ j. omega (arith, c .slice-known4 .given j),
-      rw after-more (rw (step, bit, inv .5) at (exchange .0)),
-      rw (written-more, read-is) (rw (exchange .1 .0, step, bit, inv .5, inv .6) at (c .before .before .put .ensures)),
+      next,
+      written-next (λ i. i) _ (loop .j) _ _ _ (inv .6) refl read (c .before .before .put .ensures),
     )
 
 same-length : tie.Need-same-length Inv-loop μ-loop

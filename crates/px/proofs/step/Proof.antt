@@ -1,5 +1,5 @@
 -- `px::step` meets its contract: it is `index` as it stands. Assumes nothing.
-use Prim.Native.Nat.{_+_}
+use Prim.Native.Nat.{_+_, _*_, _≤_}
 use native.Mathlib.Omega.{arith}
 use Rattle.interleaving.specs.InverseIV.{index}
 use Rattle.interleaving.specs.PX.{partitions, runs}
@@ -25,40 +25,30 @@ whole-runs-requires c κs = search needs
 partitions-requires : tie.Need-partitions-requires
 partitions-requires c κs = search needs
 
-mul-result : tie.Need-mul-result
-mul-result c =
+-- the products are small
+fits : (c : tie.After-partitions)
+    → (c .before .whole-runs .result * c .partitions .result ≤ 147464)
+    × ((c .before .whole-runs .result * c .partitions .result + c .before .before .before .before .args .p) * c .before .before .before .runs .result ≤ 589872)
+fits c =
     let entry = c .before .before .before .before in
     let a = entry .args in
-    let x = a .n + c .before .before .missed .result in
-    rw (c .before .whole-runs .ensures, c .partitions .ensures .0)
-    (omega (arith, step-fits (a .kind) (entry .pre .0) (a .p) x (entry .pre .1) (omega arith)))
+    step-fits (a .kind) (entry .pre .0) (a .p) (a .n + c .before .before .missed .result) _ _ _ (entry .pre .1) (omega arith)
+    (c .before .whole-runs .ensures) (c .partitions .ensures .0) (c .before .before .before .runs .ensures .0)
+
+mul-result : tie.Need-mul-result
+mul-result c = omega (arith, fits c)
 
 add-result : tie.Need-add-result
-add-result c =
-    let entry = c .before .before .before .before in
-    let a = entry .args in
-    let x = a .n + c .before .before .missed .result in
-    rw (c .before .whole-runs .ensures, c .partitions .ensures .0)
-    (omega (arith, step-fits (a .kind) (entry .pre .0) (a .p) x (entry .pre .1) (omega arith)))
+add-result c = omega (arith, fits c)
 
 mul-result-2 : tie.Need-mul-result-2
-mul-result-2 c =
-    let entry = c .before .before .before .before in
-    let a = entry .args in
-    let x = a .n + c .before .before .missed .result in
-    rw (c .before .whole-runs .ensures, c .partitions .ensures .0, c .before .before .before .runs .ensures .0)
-    (omega (arith, step-fits (a .kind) (entry .pre .0) (a .p) x (entry .pre .1) (omega arith)))
+mul-result-2 c = omega (arith, fits c)
 
 rest-of-run-requires : tie.Need-rest-of-run-requires
 rest-of-run-requires c κs = search needs
 
 add-result-2 : tie.Need-add-result-2
-add-result-2 c =
-    let entry = c .before .before .before .before .before in
-    let a = entry .args in
-    let x = a .n + c .before .before .before .missed .result in
-    rw (c .before .before .whole-runs .ensures, c .before .partitions .ensures .0, c .before .before .before .before .runs .ensures .0)
-    (omega (arith, step-fits (a .kind) (entry .pre .0) (a .p) x (entry .pre .1) (omega arith)))
+add-result-2 c = omega (arith, fits (c .before))
 
 mul-result-3 : tie.Need-mul-result-3
 mul-result-3 c = search needs
