@@ -10,7 +10,9 @@ mod states;
 
 pub use answers::number;
 pub use answers::place;
+pub use blocks::LookedUp;
 pub use blocks::lookup;
+pub use finder::Found;
 pub use finder::find;
 pub use lengths::sender_lengths;
 pub use rows::pm_row;
@@ -18,3 +20,4 @@ pub use rows::px_row;
 pub use sending::send;
 pub use starting::start_reader;
 pub use starting::start_sender;
+pub use states::Outcome;

@@ -1,0 +1,76 @@
+// Document 01's cell list program: reads lines of a row and a column, and prints whose coded bit stands in each cell of PM.
+use libc::STDIN_FILENO;
+use libc::STDOUT_FILENO;
+use listing::Progress;
+ghost use mathlib.Core.Path.{_≡_};
+ghost use Prim.Native.Nat.{_+_, _^_, _≤_, _<_};
+ghost use lib.ListN.{length};
+
+// Where the input's lines have been listed to, and whether there may be more.
+struct Turn {
+    at: Progress,
+    more: bool,
+}
+
+// Room for what is printed for a block of 4,096 bytes: at most 92 bytes for each.
+fn room() -> [u8; 376832]
+    ensures { λ r. ⌜ 376832 ≡ length r ⌝ }
+{
+    [0; 376832]
+}
+
+// Reads a block of the input, and writes what is printed for the lines that end in it.
+fn list_block(at: Progress, out: &mut [u8]) -> Turn
+    requires { ⌜ (length (now out) ≡ 376832) × (at .number + 4096 < 2 ^ 64) ⌝ }
+    ensures { λ r. ⌜ (length (now (out .exit)) ≡ 376832) × (r .at .number ≤ at .number + 4096) ⌝ }
+{
+    let mut block = io::buffer();
+    let got = libc::read(STDIN_FILENO, &mut block);
+    if got < 0 {
+        os::fail(b"read");
+    }
+    let n = io::count(got, &block);
+    let next = listing::list(at, &block[..n], out);
+    let end = next.end;
+    let written = io::write_all(STDOUT_FILENO, &out[..end]);
+    if n == 0 {
+        return Turn {
+            at: next,
+            more: false,
+        };
+    }
+    Turn {
+        at: next,
+        more: written,
+    }
+}
+
+// Lists the input from block to block. A proved loop has to end, so it counts its turns down, from a number that no run uses up.
+fn list_all(at: Progress, out: &mut [u8]) -> Progress
+    requires { ⌜ (length (now out) ≡ 376832) × (at .number ≡ 1) ⌝ }
+    ensures { λ _. ⌜ length (now (out .exit)) ≡ 376832 ⌝ }
+{
+    let mut at = at;
+    let mut turns: u64 = 281474976710656;
+    let mut more = true;
+    while more {
+        if turns == 0 {
+            return at;
+        }
+        turns -= 1;
+        let t = list_block(at, out);
+        at = t.at;
+        more = t.more;
+    }
+    at
+}
+
+fn main() {
+    let mut out = room();
+    let at = listing::start(&mut out);
+    let end = at.end;
+    io::write_all(STDOUT_FILENO, &out[..end]);
+    let last = list_all(at, &mut out);
+    let end = listing::finish(last, &mut out);
+    io::write_all(STDOUT_FILENO, &out[..end]);
+}

@@ -1,0 +1,7 @@
+mod Spelling
+mod Pushed
+mod Cuts
+mod Meaning
+mod Stored
+mod Going
+mod Examples

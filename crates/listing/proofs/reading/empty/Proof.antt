@@ -1,0 +1,14 @@
+-- `listing::empty` meets its contract, by computing. Assumes nothing.
+use mathlib.Core.Path.{refl}
+use Rattle.listing.specs.Numbers.{digitsAlone, value}
+use Rattle.listing.specs.Lines.{before, after}
+use Rattle.listing.specs.Running.{begun, contains, partOf, lineOf}
+use Rattle.listing.proofs.reading.empty.Statement.{statement}
+use Rattle.listing.proofs.reading.empty.Tie as tie
+
+returns : tie.Need-returns
+unfolding digitsAlone value before after begun contains partOf lineOf
+returns c = refl
+
+pub empty-spec : {M : Type 1} → statement M
+empty-spec = tie.close (tie.spec returns)

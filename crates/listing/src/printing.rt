@@ -1,0 +1,96 @@
+// Text put behind what a buffer holds: each function answers where the text ends.
+use crate::reading::Line;
+use crate::reading::Part;
+use layer1::Found;
+ghost use mathlib.Core.Path.{_≡_};
+ghost use Prim.Native.Nat.{ℕ, _+_, _≤_};
+ghost use mathlib.Core.List.{List, [], _∷_, _++_};
+ghost use lib.ListN.{length, take};
+ghost use Rattle.listing.specs.Numbers.{decimal};
+ghost use Rattle.listing.specs.Printed.{cell as «cell-of», refused, space, printed};
+ghost use Rattle.listing.specs.Running.{lineOf, known, shown, Put};
+
+// Puts a text at `at`.
+pub fn put(out: &mut [u8], at: usize, text: &[u8]) -> usize
+    requires { ⌜ at + length (now text) ≤ length (now out) ⌝ }
+    ensures { λ r. ⌜ Put (now (out .entry)) (now (out .exit)) at r (length (now (text .entry))) (now (text .entry)) ⌝ }
+{
+    let mut i: usize = 0;
+    while i < text.len() {
+        out[at + i] = text[i];
+        i += 1;
+    }
+    at + i
+}
+
+// Puts a number in decimal, and the byte that ends it.
+fn field(out: &mut [u8], at: usize, n: u64, end: u8) -> usize
+    requires { ⌜ at + 21 ≤ length (now out) ⌝ }
+    ensures { λ r. ⌜ Put (now (out .entry)) (now (out .exit)) at r 21 (decimal n ++ (end ∷ [])) ⌝ }
+{
+    let mut text = [0u8; 20];
+    let k = io::decimal(n, &mut text);
+    let m = put(out, at, &text[..k]);
+    out[m] = end;
+    m + 1
+}
+
+// Puts two numbers with a space between, and the byte that ends them.
+fn pair(out: &mut [u8], at: usize, a: usize, b: usize, end: u8) -> usize
+    requires { ⌜ at + 42 ≤ length (now out) ⌝ }
+    ensures { λ r. ⌜ Put (now (out .entry)) (now (out .exit)) at r 42 (decimal a ++ space ++ (decimal b ++ (end ∷ []))) ⌝ }
+{
+    let m = field(out, at, a as u64, 32);
+    field(out, m, b as u64, end)
+}
+
+// Puts a cell's line; the channel's name comes with the space after it.
+fn cell(
+    out: &mut [u8],
+    at: usize,
+    row: usize,
+    column: usize,
+    channel: &[u8],
+    frame: usize,
+    bit: usize,
+) -> usize
+    requires { ⌜ (at + 92 ≤ length (now out)) × (length (now channel) ≤ 8) ⌝ }
+    ensures { λ r. ⌜ ((name : List ℕ) → now (channel .entry) ≡ name ++ space → Put (now (out .entry)) (now (out .exit)) at r 92 («cell-of» row column name frame bit)) ⌝ }
+{
+    let m = pair(out, at, row, column, 32);
+    let n = put(out, m, channel);
+    pair(out, n, frame, bit, 10)
+}
+
+// Puts a refused line.
+fn refuse(out: &mut [u8], at: usize, number: u64) -> usize
+    requires { ⌜ at + 92 ≤ length (now out) ⌝ }
+    ensures { λ r. ⌜ Put (now (out .entry)) (now (out .exit)) at r 92 (refused number) ⌝ }
+{
+    let m = put(out, at, b"REFUSED ");
+    field(out, m, number, 10)
+}
+
+// A part's number, or 1000 where there is none.
+fn number_of(part: Part) -> usize
+    ensures { λ r. ⌜ r ≡ known part ⌝ }
+{
+    if part.begun { part.number } else { 1000 }
+}
+
+// Puts what a line means.
+pub fn print(out: &mut [u8], at: usize, line: Line, number: u64) -> usize
+    requires { ⌜ at + 92 ≤ length (now out) ⌝ }
+    ensures { λ r. ⌜ Put (now (out .entry)) (now (out .exit)) at r 92 (shown number line) ⌝ }
+    ensures { λ r. ⌜ ((bytes : List ℕ) → line ≡ lineOf bytes → shown number line ≡ printed number bytes) ⌝ }
+{
+    let first = line.row;
+    let second = line.column;
+    let row = number_of(first);
+    let column = number_of(second);
+    match layer1::find(row, column) {
+        Found::P1 { bit } => cell(out, at, row, column, b"P1 ", 0, bit),
+        Found::Pids { frame, bit } => cell(out, at, row, column, b"PIDS ", frame, bit),
+        Found::Refused { answer: _ } => refuse(out, at, number),
+    }
+}
