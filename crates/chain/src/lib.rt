@@ -27,16 +27,9 @@ pub fn write_pm(p1: &[u8], pids: &[u8], pm: &mut [u8])
     let mut scrambled = [0u8; 18272];
     let mut coded = [0u8; 45680];
     coding::encode_channel(Rate::TwoFifths, 18272, 1, p1, &mut scrambled, &mut coded);
-    let mut scrambled16 = [0u8; 160];
+    let mut mixed16 = [0u8; 160];
     let mut coded16 = [0u8; 400];
-    coding::encode_channel(
-        Rate::TwoFifths,
-        10,
-        16,
-        pids,
-        &mut scrambled16,
-        &mut coded16,
-    );
+    coding::encode_channel(Rate::TwoFifths, 10, 16, pids, &mut mixed16, &mut coded16);
     pm::interleave(&coded, &coded16, pm);
 }
 
