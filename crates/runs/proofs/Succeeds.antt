@@ -4,6 +4,7 @@ use mathlib.Core.Path.{_≡_}
 use mathlib.Core.Bool.{true, false, cond}
 use mathlib.Core.Option.{none}
 use mathlib.Core.List.{_++_}
+use native.Mathlib.Omega.{arith}
 use lib.Dec.{ltb}
 use borrow.Author.Tests.{lt-ltb}
 use Rattle.control.specs.Modes.{covered}
@@ -47,9 +48,12 @@ pub read-succeeds : (s : State) (m : Memory) (l : Lent) → Clear s m l → read
 unfolding readStep readAnswer judge onSuccess
 read-succeeds s m l c = rw (c .state, c .lengths, c .control, c .p1, c .pids, c .fill, c .extended)
 
+chosen : {A : Type 0} (x y : A) (a n : ℕ) → a < n → cond (ltb a n) x y ≡ x
+chosen x y a n h = rw (lt-ltb a n h)
+
 -- before the third L1 frame the buffers for P3 and P4 keep their contents
 pub early-kept : (s : State) (m : Memory) (l : Lent) → s .age < 2 → (e : Extended)
     → frameOf (received s m l .lent .frames) e ≡ frameOf (l .frames) e
 unfolding received
-early-kept s m l h P3 = rw (lt-ltb (s .age) 2 h)
-early-kept s m l h P4 = rw (lt-ltb (s .age) 2 h)
+early-kept s m l h P3 = chosen _ _ (s .age) _ (omega arith)
+early-kept s m l h P4 = chosen _ _ (s .age) _ (omega arith)
