@@ -1,23 +1,13 @@
 // The matrices of an L1 frame from its transfer frames: sections 8, 9 and 10 one after the other.
+use calls::table_row;
 use coding::Rate;
 use runs::Kind;
 ghost use mathlib.Core.Path.{_≡_};
 ghost use Prim.Native.Nat.{_<_};
 ghost use lib.ListN.{length};
 ghost use Rattle.runs.specs.Chain.{memOf, pmOf, pxOf};
-ghost use Rattle.runs.specs.Lengths.{frameLen, matrixLen, senderLen, tableRow};
+ghost use Rattle.runs.specs.Lengths.{frameLen, matrixLen, senderLen};
 ghost use Rattle.chain.specs.Rooms.{Room};
-
-// The row of a kind in Tables 10-15 and 10-16.
-fn table_row(kind: Kind) -> usize
-    ensures { λ r. ⌜ r ≡ tableRow kind ⌝ }
-{
-    match kind {
-        Kind::Narrow => 0,
-        Kind::Wide => 1,
-        Kind::Unused => 2,
-    }
-}
 
 // Writes PM: P1 and PIDS scrambled, coded and interleaved (section 10.4.1).
 pub fn write_pm(p1: &[u8], pids: &[u8], pm: &mut [u8])

@@ -7,9 +7,9 @@ use mathlib.Core.Bool.{Bool, true, false, cond, _&&_}
 use mathlib.Core.List.{List, [], _∷_}
 use borrow.Author.Tests.{le-ltb, ltb-true, ltb-false}
 use lib.Dec.{ltb}
-use Rattle.layer1.specs.Finder.{found}
-use Rattle.layer1.specs.declared.finder.Found.{Found}
-use Rattle.layer1.specs.declared.finder.Found.the-variants.{Refused}
+use Rattle.queries.specs.Finder.{found}
+use Rattle.queries.specs.declared.finder.Found.{Found}
+use Rattle.queries.specs.declared.finder.Found.the-variants.{Refused}
 use Rattle.runs.specs.declared.Answer.the-variants.{WrongLength}
 use Rattle.listing.specs.Numbers.{isNumber, value}
 use Rattle.listing.specs.Lines.{before, after}

@@ -2,9 +2,9 @@
 use Prim.Native.Nat.{ℕ, _+_}
 use mathlib.Core.Bool.{cond, _&&_}
 use mathlib.Core.List.{List, [], _∷_, _++_}
-use Rattle.layer1.specs.Finder.{found}
-use Rattle.layer1.specs.declared.finder.Found.{Found}
-use Rattle.layer1.specs.declared.finder.Found.the-variants.{P1, Pids, Refused}
+use Rattle.queries.specs.Finder.{found}
+use Rattle.queries.specs.declared.finder.Found.{Found}
+use Rattle.queries.specs.declared.finder.Found.the-variants.{P1, Pids, Refused}
 use Rattle.listing.specs.Numbers.{isNumber, value, decimal}
 use Rattle.listing.specs.Lines.{before, after, lines}
 

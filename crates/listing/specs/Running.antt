@@ -5,7 +5,7 @@ use mathlib.Core.Bool.{Bool, true, false, cond, _||_}
 use mathlib.Core.List.{List, [], _∷_, _++_}
 use lib.ListN.{length, take}
 use lib.Dec.{eqb}
-use Rattle.layer1.specs.Finder.{found}
+use Rattle.queries.specs.Finder.{found}
 use Rattle.listing.specs.Numbers.{digitsAlone, value}
 use Rattle.listing.specs.Lines.{before, after, lines}
 use Rattle.listing.specs.Printed.{told, listed, output}

@@ -1,0 +1,4 @@
+pub mod Called
+pub mod Sizes
+pub mod Admitted
+pub mod Fits

@@ -1,0 +1,18 @@
+// Document 01, "Operations of a run": answers, states and lent lengths, what every call looks at first, and the starts.
+mod admission;
+mod answers;
+mod lengths;
+mod starting;
+mod states;
+
+pub use admission::admit;
+pub use answers::number;
+pub use answers::place;
+pub use lengths::kind_of;
+pub use lengths::reader_lengths;
+pub use lengths::sender_lengths;
+pub use lengths::table_row;
+pub use starting::start_reader;
+pub use starting::start_sender;
+pub use states::Outcome;
+pub use states::next_of;

@@ -1,5 +1,0 @@
-mod Parts
-mod Places
-mod StartCases
-mod SendCases
-mod Stands

@@ -1,0 +1,27 @@
+// Document 01: a control block alone is looked up for its mode and block count.
+use runs::Answer;
+ghost use mathlib.Core.Path.{_≡_};
+ghost use Rattle.queries.specs.Lookup.{lookupOf};
+
+// What a lookup tells.
+pub enum LookedUp {
+    Found { mode: u8, count: u8 },
+    Refused { answer: Answer },
+}
+
+// Looks up the mode and the block count of one control block.
+pub fn lookup(block: &[u8]) -> LookedUp
+    ensures { λ r. ⌜ r ≡ lookupOf (now (block .entry)) ⌝ }
+{
+    if block.len() != 256 {
+        return LookedUp::Refused {
+            answer: Answer::WrongLength(0),
+        };
+    }
+    match control::lookup(block) {
+        control::Looked::Found { mode, count } => LookedUp::Found { mode, count },
+        control::Looked::NotABlock => LookedUp::Refused {
+            answer: Answer::WrongControl(0),
+        },
+    }
+}

@@ -1,0 +1,35 @@
+// Document 01: the cell finder.
+use pm::Bit;
+use runs::Answer;
+ghost use mathlib.Core.Path.{_≡_};
+ghost use Rattle.queries.specs.Finder.{found};
+
+// Whose coded bit stands in a cell of PM.
+pub enum Found {
+    P1 { bit: usize },
+    Pids { frame: usize, bit: usize },
+    Refused { answer: Answer },
+}
+
+// Finds the channel, the transfer frame and the coded bit in it of a cell of PM.
+pub fn find(row: usize, column: usize) -> Found
+    ensures { λ r. ⌜ r ≡ found row column ⌝ }
+{
+    if row >= 512 {
+        return Found::Refused {
+            answer: Answer::WrongLength(0),
+        };
+    }
+    if column >= 720 {
+        return Found::Refused {
+            answer: Answer::WrongLength(1),
+        };
+    }
+    match pm::find(row * 720 + column) {
+        Bit::P1(i) => Found::P1 { bit: i },
+        Bit::Pids(i) => Found::Pids {
+            frame: i / 200,
+            bit: i % 200,
+        },
+    }
+}
