@@ -1,1 +1,3 @@
 mod Channels
+mod Moves
+mod Extended
