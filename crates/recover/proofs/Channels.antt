@@ -1,26 +1,21 @@
 -- A channel's transfer frames and its bad frames are read from the coded bits alone. Assumes nothing.
-use mathlib.Core.Path.{_≡_, refl, sym, ap, ap₂, _∙_}
+use mathlib.Core.Path.{_≡_, refl, sym, ap, _∙_}
 use mathlib.Core.Bool.{Bool, true, false, cond}
 use mathlib.Core.List.{List}
-use Prim.Native.Nat.{ℕ, zero, suc, _*_, _/_, _%_, _<_}
+use Prim.Native.Nat.{ℕ, _*_, _/_, _<_}
 use native.Mathlib.Nat.{mul-assoc, mul-left-comm}
 use native.Mathlib.Omega.{arith}
 use lib.Dec.{ltb}
 use lib.ListN.{length}
 use Rattle.bits.specs.Bits.{bitAt, packed}
 use Rattle.bits.specs.Tests.{lowest}
+use Rattle.bits.proofs.Tests.{lowest-cong}
 use Rattle.bits.proofs.Packed.{bitAt-packed, length-packed, packed-cong}
 use Rattle.coding.specs.declared.Rate.{Rate}
 use Rattle.coding.specs.Buffers.{Buffers, Long}
 use Rattle.coding.specs.Rates.{codedLength, patternOf}
 use Rattle.coding.specs.Channel.{Agree, noFrame, unchannel}
 use Rattle.coding.proofs.Channel.{no-frame-same, unchannel-same}
-
-lowest-cong : (n : ℕ) (p q : ℕ → Bool) → ((i : ℕ) → i < n → p i ≡ q i) → lowest n p ≡ lowest n q
-unfolding lowest
-lowest-cong zero p q h = refl
-lowest-cong (suc n) p q h =
-    ap₂ (λ (t : Bool) (k : ℕ). cond t 0 (suc k)) (h 0 (omega arith)) (lowest-cong n _ _ (λ i l. h (suc i) (omega arith)))
 
 -- of one number
 pub only-one : (p : ℕ → Bool) → ltb (lowest 1 p) 1 ≡ p 0
