@@ -20,7 +20,7 @@ first-fill-requires : tie.Need-first-fill-requires
 first-fill-requires c κs =
     let s = c .before .before .before in
     let t = c .before .table-row .ensures in
-    (used (s .args .kind) _ t (c .if1 .left), s .pre .0, s .pre .1 ∙ sym (matrix-bytes (s .args .kind)) ∙ ap codedBytes (sym t))
+    (used (s .args .kind) _ t (c .if1 .left), search needs, s .pre .1 ∙ sym (matrix-bytes (s .args .kind)) ∙ ap codedBytes (sym t))
 
 returns-2 : tie.Need-returns-2
 returns-2 c =
