@@ -63,6 +63,12 @@ lowest-none (suc n) p h =
     ap (λ (t : Bool). cond t 0 (suc (lowest n (λ i. p (suc i))))) (h 0 (omega arith))
     ∙ ap suc (lowest-none n (λ i. p (suc i)) (λ i m. h (suc i) (omega arith)))
 
+pub lowest-cong : (n : ℕ) (p q : ℕ → Bool) → ((i : ℕ) → i < n → p i ≡ q i) → lowest n p ≡ lowest n q
+unfolding lowest
+lowest-cong zero p q h = refl
+lowest-cong (suc n) p q h =
+    ap₂ (λ (t : Bool) (k : ℕ). cond t 0 (suc k)) (h 0 (omega arith)) (lowest-cong n _ _ (λ i l. h (suc i) (omega arith)))
+
 -- below it the test fails, and at it, where it is below n, the test passes
 pub lowest-below : (n : ℕ) (p : ℕ → Bool) (i : ℕ) → i < lowest n p → p i ≡ false
 unfolding lowest

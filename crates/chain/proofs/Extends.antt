@@ -11,29 +11,15 @@ use Rattle.coding.specs.Buffers.{Buffers}
 use Rattle.coding.specs.Channel.{channel}
 use Rattle.interleaving.specs.PX.{after, codedBits, codedBytes, read}
 use Rattle.runs.specs.declared.Kind.{Kind}
-use Rattle.runs.specs.declared.Kind.the-variants.{Unused, Narrow, Wide}
+use Rattle.runs.specs.declared.Kind.the-variants.{Unused}
 use Rattle.runs.specs.Chain.{Buffer, codedOf, memOf, pxOf}
-use Rattle.runs.specs.Lengths.{frameBits, frameLen, matrixLen, senderLen, tableRow}
-use Rattle.runs.proofs.Bridge.{matrix-bytes, mem-from, px-from}
+use Rattle.runs.specs.Lengths.{frameLen, matrixLen, senderLen, tableRow}
+use Rattle.runs.proofs.Bridge.{frame-bits, matrix-bytes, mem-from, px-from, used-buffers}
 use Rattle.chain.specs.Rooms.{Room}
 
 module _ (k : Kind) (frames scrambled coded : Buffer) (room : Room k frames scrambled coded) where
-  buffers-by : (k : Kind) → tableRow k < 2 → length frames ≡ frameLen k → length coded ≡ matrixLen k → Buffers Half (length frames / 8) 8 frames coded
-  buffers-by Unused u p l = absurd (omega arith)
-  buffers-by Narrow u p l =
-      let n : length frames / 8 ≡ 288 = ap (λ (x : ℕ). x / 8) p in
-      record { enough = rw n (omega arith); even = rw n; plain = rw n p; long = rw n l }
-  buffers-by Wide u p l =
-      let n : length frames / 8 ≡ 576 = ap (λ (x : ℕ). x / 8) p in
-      record { enough = rw n (omega arith); even = rw n; plain = rw n p; long = rw n l }
-
   pub buffers : Buffers Half (length frames / 8) 8 frames coded × (length scrambled ≡ length frames)
-  buffers = (buffers-by k (room .used) (room .plain) (room .long), room .between ∙ sym (room .plain))
-
-  bits-by : (k : Kind) → 8 * (frameLen k / 8) ≡ frameBits k
-  bits-by Unused = refl
-  bits-by Narrow = refl
-  bits-by Wide = refl
+  buffers = (used-buffers k frames coded (room .used) (room .plain) (room .long), room .between ∙ sym (room .plain))
 
   -- what `encode_channel` leaves
   module _ (out : Buffer) (is : out ≡ packed (length coded) (channel Half (8 * (length frames / 8)) (bitAt frames))) where
@@ -42,7 +28,7 @@ module _ (k : Kind) (frames scrambled coded : Buffer) (room : Room k frames scra
     coded-is =
         is
         ∙ ap₂ (λ (n b : ℕ). packed n (channel Half b (bitAt frames))) (room .long ∙ sym (matrix-bytes k))
-        (ap (λ (x : ℕ). 8 * (x / 8)) (room .plain) ∙ bits-by k)
+        (ap (λ (x : ℕ). 8 * (x / 8)) (room .plain) ∙ frame-bits k)
 
     pub coded-length : length out ≡ codedBytes (tableRow k)
     coded-length = ap length coded-is ∙ length-packed _ _

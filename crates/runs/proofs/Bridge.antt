@@ -1,18 +1,20 @@
 -- From what the passes over coded buffers leave to the definitions of `Chain`: the passes read the coded bits alone. Assumes nothing.
-use Prim.Native.Nat.{ℕ, suc, _*_, _<_, _≤_}
+use Prim.Native.Nat.{ℕ, suc, _*_, _/_, _<_, _≤_}
 use mathlib.Core.Path.{_≡_, refl, ap, _∙_}
 use native.Mathlib.Omega.{arith}
+use lib.ListN.{length}
 use Rattle.bits.specs.Bits.{bitAt, packed, written}
 use Rattle.bits.proofs.Written.{written-cong}
 use Rattle.bits.proofs.Packed.{bitAt-packed, packed-cong}
 use Rattle.coding.specs.declared.Rate.the-variants.{TwoFifths, Half}
+use Rattle.coding.specs.Buffers.{Buffers}
 use Rattle.coding.specs.Channel.{channel}
 use Rattle.coding.proofs.Channel.{channel-bit}
 use Rattle.interleaving.specs.PM.{p1Place, pidsPlace, matrix}
 use Rattle.interleaving.specs.PX.{codedBytes, codedBits, stepOf, after, read}
 use Rattle.runs.specs.declared.Kind.{Kind}
 use Rattle.runs.specs.declared.Kind.the-variants.{Unused, Narrow, Wide}
-use Rattle.runs.specs.Lengths.{frameBits, tableRow, matrixLen, senderLen, pmLen}
+use Rattle.runs.specs.Lengths.{frameBits, frameLen, tableRow, matrixLen, senderLen, pmLen}
 use Rattle.runs.specs.Chain.{Buffer, pmOf, codedOf, pxOf, memOf}
 
 -- ---- PM
@@ -45,6 +47,22 @@ unfolding codedBytes
 memory-bytes Unused = refl
 memory-bytes Narrow = refl
 memory-bytes Wide = refl
+
+pub frame-bits : (k : Kind) → 8 * (frameLen k / 8) ≡ frameBits k
+frame-bits Unused = refl
+frame-bits Narrow = refl
+frame-bits Wide = refl
+
+-- the eight frames of a channel that the mode uses, and their coded bits
+pub used-buffers : (k : Kind) (frames coded : Buffer) → tableRow k < 2 → length frames ≡ frameLen k → length coded ≡ matrixLen k
+    → Buffers Half (length frames / 8) 8 frames coded
+used-buffers Unused frames coded u p l = absurd (omega arith)
+used-buffers Narrow frames coded u p l =
+    let n : length frames / 8 ≡ 288 = ap (λ (x : ℕ). x / 8) p in
+    record { enough = rw n (omega arith); even = rw n; plain = rw n p; long = rw n l }
+used-buffers Wide frames coded u p l =
+    let n : length frames / 8 ≡ 576 = ap (λ (x : ℕ). x / 8) p in
+    record { enough = rw n (omega arith); even = rw n; plain = rw n p; long = rw n l }
 
 module _ (k : Kind) (half : ℕ) (m a coded : Buffer) (e : coded ≡ packed (codedBytes (tableRow k)) (codedOf k a)) where
   code-is : (i : ℕ) → i < codedBits (tableRow k) → bitAt coded i ≡ codedOf k a i

@@ -6,6 +6,7 @@ pub mod Refusals
 pub mod Lists
 pub mod Answered
 pub mod Passing
+pub mod Beside
 pub mod States
 pub mod Succeeds
 pub mod Sender

@@ -1,0 +1,38 @@
+-- `decode_channel` meets its contract: what `judge_channel` leaves is what `finish_channel` unscrambles. Assumes nothing.
+use mathlib.Core.Path.{ap, _∙_}
+use Prim.Native.Nat.{ℕ, _*_}
+use denote.Ref.{now}
+use Rattle.bits.specs.Bits.{bitAt, packed}
+use Rattle.coding.specs.Buffers.{uncodedEach}
+use Rattle.recover.proofs.Channels.{recovered}
+use borrow.Author.Needs.{needs}
+use Rattle.recover.proofs.decode_channel.Statement.{statement}
+use Rattle.recover.proofs.decode_channel.Tie as tie
+
+judge-channel-requires : tie.Need-judge-channel-requires
+judge-channel-requires c κs = search needs
+
+finish-channel-requires : tie.Need-finish-channel-requires
+finish-channel-requires c κs = search needs
+
+same-length : tie.Need-same-length
+same-length c = search needs
+
+same-length-2 : tie.Need-same-length-2
+same-length-2 c = search needs
+
+returns : tie.Need-returns
+returns c =
+    let f = c .before .before .finish-channel in
+    let j = c .before .before .before .before .before .before .before .judge-channel in
+    let s = c .before .before .before .before .before .before .before .before .before .before .before .before in
+    let a = s .args in
+    let y₀ = bitAt (now (a .coded)) in
+    λ y bits e.
+    recovered (s .pre .0) y bits e _ _ (j .ensures .1)
+    (f .ensures y₀ (j .ensures .0 ∙ ap (λ (k : ℕ). packed k (uncodedEach (a .rate) (8 * a .n) y₀)) (s .pre .1)))
+
+pub decode-channel-spec : {M : Type 1} → statement M
+decode-channel-spec =
+    tie.close
+    (tie.spec judge-channel-requires finish-channel-requires same-length same-length-2 returns)
