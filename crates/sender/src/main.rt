@@ -1,35 +1,11 @@
 // sender MODE COUNT: reads the transfer frames of COUNT L1 frames, each P1, PIDS, P3, P4, and writes for each its PM, PX1, PX2 and control.
-use libc::STDERR_FILENO;
 use libc::STDIN_FILENO;
 use libc::STDOUT_FILENO;
-use operands::Operand;
-use runs::Answer;
+use programs::Arguments;
 use runs::State;
 ghost use Prim.Native.Nat.{_≤_, _<_};
 ghost use lib.ListN.{length};
-
-// The state after a sending, and whether to go on.
-struct Step {
-    state: State,
-    go_on: bool,
-}
-
-fn at_most(n: usize, most: usize) -> usize
-    ensures { λ r. ⌜ r ≤ most ⌝ }
-{
-    if n < most { n } else { most }
-}
-
-// Says that L1 frame `frame` was refused.
-fn refuse(answer: Answer, frame: u64) {
-    io::write_all(STDERR_FILENO, b"refused: number ");
-    io::print_decimal(STDERR_FILENO, layer1::number(answer) as u64);
-    io::write_all(STDERR_FILENO, b" place ");
-    io::print_decimal(STDERR_FILENO, layer1::place(answer) as u64);
-    io::write_all(STDERR_FILENO, b" frame ");
-    io::print_decimal(STDERR_FILENO, frame);
-    io::write_all(STDERR_FILENO, b"\n");
-}
+ghost use Rattle.io.specs.Counts.{Counts};
 
 // Writes an L1 frame's matrices and control, and answers whether all went out.
 fn put(pm: &[u8], px1: &[u8], px2: &[u8], control: &[u8]) -> bool {
@@ -55,7 +31,7 @@ struct Came {
 
 // Reads the transfer frames of an L1 frame.
 fn take(p1: &mut [u8], pids: &mut [u8], p3: &mut [u8], p4: &mut [u8]) -> Came
-    ensures { λ r. ⌜ (r .p1 ≤ length (now (p1 .exit))) × (r .pids ≤ length (now (pids .exit))) × (r .p3 ≤ length (now (p3 .exit))) × (r .p4 ≤ length (now (p4 .exit))) ⌝ }
+    ensures { λ r. ⌜ Counts (r .p1) (now (p1 .exit)) × Counts (r .pids) (now (pids .exit)) × Counts (r .p3) (now (p3 .exit)) × Counts (r .p4) (now (p4 .exit)) ⌝ }
 {
     let a = io::read_full(STDIN_FILENO, p1);
     let b = io::read_full(STDIN_FILENO, pids);
@@ -67,6 +43,12 @@ fn take(p1: &mut [u8], pids: &mut [u8], p3: &mut [u8], p4: &mut [u8]) -> Came
         p3: c,
         p4: d,
     }
+}
+
+// The state after a sending, and whether to go on.
+struct Step {
+    state: State,
+    go_on: bool,
 }
 
 // Sends L1 frame `frame`.
@@ -100,7 +82,7 @@ fn send_one(
     let answer = sent.answer;
     let next = sent.state;
     if layer1::number(answer) != 0 {
-        refuse(answer, frame);
+        programs::refuse(layer1::number(answer), layer1::place(answer), frame);
         return Step {
             state: next,
             go_on: false,
@@ -172,7 +154,7 @@ fn send_all(
     let started = layer1::start_sender(mode, memory3, memory4);
     let answer = started.answer;
     if layer1::number(answer) != 0 {
-        refuse(answer, 0);
+        programs::refuse(layer1::number(answer), layer1::place(answer), 0);
         return;
     }
     let mut state = started.state;
@@ -197,6 +179,17 @@ fn send_all(
     }
 }
 
+// A length that is within the buffer.
+fn within(length: usize, buffer: &[u8]) -> usize
+    ensures { λ r. ⌜ Counts r (now (buffer .entry)) ⌝ }
+{
+    if length < buffer.len() {
+        length
+    } else {
+        buffer.len()
+    }
+}
+
 // The buffers of a run, each of its length in this mode.
 fn run(mode: u8, count: u64) {
     let lengths = layer1::sender_lengths(mode);
@@ -210,12 +203,12 @@ fn run(mode: u8, count: u64) {
     let mut control = [0u8; 4096];
     let mut memory3 = [0u8; 18432];
     let mut memory4 = [0u8; 18432];
-    let a = at_most(lengths[2], 4608);
-    let b = at_most(lengths[3], 4608);
-    let c = at_most(lengths[5], 9216);
-    let d = at_most(lengths[6], 9216);
-    let e = at_most(lengths[8], 18432);
-    let f = at_most(lengths[9], 18432);
+    let a = within(lengths[2], &p3);
+    let b = within(lengths[3], &p4);
+    let c = within(lengths[5], &px1);
+    let d = within(lengths[6], &px2);
+    let e = within(lengths[8], &memory3);
+    let f = within(lengths[9], &memory4);
     send_all(
         mode,
         count,
@@ -232,4 +225,9 @@ fn run(mode: u8, count: u64) {
     );
 }
 
-fn main() {}
+fn main() {
+    match programs::read_arguments() {
+        Arguments::Run { mode, count } => run(mode, count),
+        Arguments::Wrong => programs::usage(b"sender"),
+    }
+}

@@ -1,5 +1,5 @@
 -- `send_all` meets its contract. The loop's invariant: no buffer's length changes. Assumes nothing.
-use mathlib.Core.Path.{_≡_}
+use mathlib.Core.Path.{_≡_, _∙_}
 use Prim.Native.Nat.{_≤_}
 use native.Mathlib.Omega.{arith}
 use lib.ListN.{length}
@@ -30,6 +30,12 @@ start-sender-requires c κs = search needs
 number-requires : tie.Need-number-requires Inv-loop μ-loop
 number-requires c κs = search needs
 
+number-requires-2 : tie.Need-number-requires-2 Inv-loop μ-loop
+number-requires-2 c κs = search needs
+
+place-requires : tie.Need-place-requires Inv-loop μ-loop
+place-requires c κs = search needs
+
 refuse-requires : tie.Need-refuse-requires Inv-loop μ-loop
 refuse-requires c κs = search needs
 
@@ -58,19 +64,22 @@ loop-less : tie.Need-loop-less Inv-loop μ-loop
 loop-less c = search needs
 
 loop-again : tie.Need-loop-again Inv-loop μ-loop
-loop-again c = (
-  omega arith,
-  search needs,
-  search needs,
-  search needs,
-  search needs,
-  search needs,
-  search needs,
-  search needs,
-  search needs,
-  search needs,
-  search needs,
-)
+loop-again c =
+    let t = c .before .before .before .before .before .before .before .before .before .before .before .before .before .before .before .before .before .before .before .before .before .before in
+    let l = t .before .before .before .before .before .before .before .before .before .before .before .before .loop .inv in
+    let k = t .turn .kept .1 .1 in (
+      omega (arith, c .left-after .ensures, l .0),
+      k .0 ∙ l .1,
+      k .1 .0 ∙ l .2,
+      k .1 .1 .0 ∙ l .3,
+      k .1 .1 .1 .0 ∙ l .4,
+      k .1 .1 .1 .1 .0 ∙ l .5,
+      k .1 .1 .1 .1 .1 .0 ∙ l .6,
+      k .1 .1 .1 .1 .1 .1 .0 ∙ l .7,
+      k .1 .1 .1 .1 .1 .1 .1 .0 ∙ l .8,
+      k .1 .1 .1 .1 .1 .1 .1 .1 .0 ∙ l .9,
+      k .1 .1 .1 .1 .1 .1 .1 .1 .1 .0 ∙ l .10,
+    )
 
 same-length-3 : tie.Need-same-length-3 Inv-loop μ-loop
 same-length-3 c = search needs
@@ -113,6 +122,8 @@ send-all-spec =
     μ-loop
     start-sender-requires
     number-requires
+    number-requires-2
+    place-requires
     refuse-requires
     same-length
     same-length-2
