@@ -2,8 +2,8 @@
 use Prim.Native.Nat.{ℕ, min}
 use Rattle.operands.specs.declared.Operand.{Operand}
 use Rattle.operands.specs.declared.Operand.the-variants.{Number, NotDecimal}
-use Rattle.programs.specs.declared.Arguments.{Arguments}
-use Rattle.programs.specs.declared.Arguments.the-variants.{Run, Wrong}
+use Rattle.programs.specs.declared.command_line.Arguments.{Arguments}
+use Rattle.programs.specs.declared.command_line.Arguments.the-variants.{Run, Wrong}
 
 -- a number that no byte holds stands as 255, which is no mode's number
 abbrev pub modeOf : ℕ → ℕ

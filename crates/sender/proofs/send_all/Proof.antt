@@ -8,7 +8,7 @@ use Rattle.sender.proofs.send_all.Statement.{statement}
 use Rattle.sender.proofs.send_all.Tie as tie
 
 abbrev Inv-loop : tie.InvT-loop
-Inv-loop mode count p1₀ pids₀ p3₀ p4₀ pm₀ px1₀ px2₀ control₀ memory3₀ memory4₀ state₀ left₀ p1 pids p3 p4 pm px1 px2 control memory3 memory4 state left =
+Inv-loop mode count p1₀ pids₀ p3₀ p4₀ pm₀ px1₀ px2₀ control₀ memory3₀ memory4₀ number₀ state₀ left₀ p1 pids p3 p4 pm px1 px2 control memory3 memory4 state left =
     (left ≤ count)
     × (length p1 ≡ length p1₀)
     × (length pids ≡ length pids₀)
@@ -22,16 +22,13 @@ Inv-loop mode count p1₀ pids₀ p3₀ p4₀ pm₀ px1₀ px2₀ control₀ mem
     × (length memory4 ≡ length memory4₀)
 
 abbrev μ-loop : tie.MeasureT-loop
-μ-loop mode count p1₀ pids₀ p3₀ p4₀ pm₀ px1₀ px2₀ control₀ memory3₀ memory4₀ state₀ left₀ p1 pids p3 p4 pm px1 px2 control memory3 memory4 state left = left
+μ-loop mode count p1₀ pids₀ p3₀ p4₀ pm₀ px1₀ px2₀ control₀ memory3₀ memory4₀ number₀ state₀ left₀ p1 pids p3 p4 pm px1 px2 control memory3 memory4 state left = left
 
 start-sender-requires : tie.Need-start-sender-requires Inv-loop μ-loop
 start-sender-requires c κs = search needs
 
 number-requires : tie.Need-number-requires Inv-loop μ-loop
 number-requires c κs = search needs
-
-number-requires-2 : tie.Need-number-requires-2 Inv-loop μ-loop
-number-requires-2 c κs = search needs
 
 place-requires : tie.Need-place-requires Inv-loop μ-loop
 place-requires c κs = search needs
@@ -122,7 +119,6 @@ send-all-spec =
     μ-loop
     start-sender-requires
     number-requires
-    number-requires-2
     place-requires
     refuse-requires
     same-length

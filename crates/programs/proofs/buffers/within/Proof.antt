@@ -6,8 +6,8 @@ use native.Mathlib.Omega.{arith}
 use lib.ListN.{length}
 use lib.Seq.{length-take-le}
 use Rattle.io.specs.Counts.{Counts}
-use Rattle.sender.proofs.within.Statement.{statement}
-use Rattle.sender.proofs.within.Tie as tie
+use Rattle.programs.proofs.buffers.within.Statement.{statement}
+use Rattle.programs.proofs.buffers.within.Tie as tie
 
 counts : (n : ℕ) (xs : List ℕ) → n ≤ length xs → Counts n xs
 counts n xs h = (h, sym (length-take-le n xs h))
