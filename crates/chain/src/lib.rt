@@ -9,14 +9,13 @@ ghost use Rattle.runs.specs.Chain.{memOf, pmOf, pxOf};
 ghost use Rattle.runs.specs.Lengths.{frameLen, matrixLen, senderLen};
 ghost use Rattle.chain.specs.Rooms.{Room};
 
-// Writes PM: P1 and PIDS scrambled, coded and interleaved (section 10.4.1).
+// Writes PM: P1 and PIDS scrambled, coded and interleaved (section 10.4.1). Till PM is interleaved its first bytes hold the scrambled P1 frame, which saves stack.
 pub fn write_pm(p1: &[u8], pids: &[u8], pm: &mut [u8])
     requires { ⌜ (length (now p1) ≡ 18272) × (length (now pids) ≡ 160) × (length (now pm) ≡ 46080) ⌝ }
     ensures { λ _. ⌜ now (pm .exit) ≡ pmOf (now (p1 .entry)) (now (pids .entry)) ⌝ }
 {
-    let mut scrambled = [0u8; 18272];
     let mut coded = [0u8; 45680];
-    coding::encode_channel(Rate::TwoFifths, 18272, 1, p1, &mut scrambled, &mut coded);
+    coding::encode_channel(Rate::TwoFifths, 18272, 1, p1, &mut pm[..18272], &mut coded);
     let mut mixed16 = [0u8; 160];
     let mut coded16 = [0u8; 400];
     coding::encode_channel(Rate::TwoFifths, 10, 16, pids, &mut mixed16, &mut coded16);

@@ -1,72 +1,11 @@
 // sender MODE COUNT: reads the transfer frames of COUNT L1 frames, each P1, PIDS, P3, P4, and writes for each its PM, PX1, PX2 and control.
-use libc::STDERR_FILENO;
-use libc::STDIN_FILENO;
-use libc::STDOUT_FILENO;
-use operands::Operand;
-use runs::Answer;
+use programs::Arguments;
 use runs::State;
-ghost use Prim.Native.Nat.{_≤_, _<_};
-ghost use lib.ListN.{length};
 
 // The state after a sending, and whether to go on.
 struct Step {
     state: State,
     go_on: bool,
-}
-
-fn at_most(n: usize, most: usize) -> usize
-    ensures { λ r. ⌜ r ≤ most ⌝ }
-{
-    if n < most { n } else { most }
-}
-
-// Says that L1 frame `frame` was refused.
-fn refuse(answer: Answer, frame: u64) {
-    io::write_all(STDERR_FILENO, b"refused: number ");
-    io::print_decimal(STDERR_FILENO, layer1::number(answer) as u64);
-    io::write_all(STDERR_FILENO, b" place ");
-    io::print_decimal(STDERR_FILENO, layer1::place(answer) as u64);
-    io::write_all(STDERR_FILENO, b" frame ");
-    io::print_decimal(STDERR_FILENO, frame);
-    io::write_all(STDERR_FILENO, b"\n");
-}
-
-// Writes an L1 frame's matrices and control, and answers whether all went out.
-fn put(pm: &[u8], px1: &[u8], px2: &[u8], control: &[u8]) -> bool {
-    if !io::write_all(STDOUT_FILENO, pm) {
-        return false;
-    }
-    if !io::write_all(STDOUT_FILENO, px1) {
-        return false;
-    }
-    if !io::write_all(STDOUT_FILENO, px2) {
-        return false;
-    }
-    io::write_all(STDOUT_FILENO, control)
-}
-
-// How many bytes came for each buffer.
-struct Came {
-    p1: usize,
-    pids: usize,
-    p3: usize,
-    p4: usize,
-}
-
-// Reads the transfer frames of an L1 frame.
-fn take(p1: &mut [u8], pids: &mut [u8], p3: &mut [u8], p4: &mut [u8]) -> Came
-    ensures { λ r. ⌜ (r .p1 ≤ length (now (p1 .exit))) × (r .pids ≤ length (now (pids .exit))) × (r .p3 ≤ length (now (p3 .exit))) × (r .p4 ≤ length (now (p4 .exit))) ⌝ }
-{
-    let a = io::read_full(STDIN_FILENO, p1);
-    let b = io::read_full(STDIN_FILENO, pids);
-    let c = io::read_full(STDIN_FILENO, p3);
-    let d = io::read_full(STDIN_FILENO, p4);
-    Came {
-        p1: a,
-        pids: b,
-        p3: c,
-        p4: d,
-    }
 }
 
 // Sends L1 frame `frame`.
@@ -99,14 +38,15 @@ fn send_one(
     );
     let answer = sent.answer;
     let next = sent.state;
-    if layer1::number(answer) != 0 {
-        refuse(answer, frame);
+    let number = layer1::number(answer);
+    if number != 0 {
+        programs::refuse(number, layer1::place(answer), frame);
         return Step {
             state: next,
             go_on: false,
         };
     }
-    let go_on = put(pm, px1, px2, control);
+    let go_on = programs::write_four(pm, px1, px2, control);
     Step { state: next, go_on }
 }
 
@@ -125,11 +65,11 @@ fn turn(
     memory3: &mut [u8],
     memory4: &mut [u8],
 ) -> Step {
-    let came = take(p1, pids, p3, p4);
-    let a = came.p1;
-    let b = came.pids;
-    let c = came.p3;
-    let d = came.p4;
+    let came = programs::read_four(p1, pids, p3, p4);
+    let a = came.first;
+    let b = came.second;
+    let c = came.third;
+    let d = came.fourth;
     send_one(
         state,
         frame,
@@ -144,14 +84,6 @@ fn turn(
         memory3,
         memory4,
     )
-}
-
-// How many L1 frames are left after one more: none where it was refused.
-fn left_after(left: u64, go_on: bool) -> u64
-    requires { ⌜ 0 < left ⌝ }
-    ensures { λ r. ⌜ r < left ⌝ }
-{
-    if go_on { left - 1 } else { 0 }
 }
 
 // Starts a sender, and sends L1 frames till one is refused or `count` are sent.
@@ -171,8 +103,9 @@ fn send_all(
 ) {
     let started = layer1::start_sender(mode, memory3, memory4);
     let answer = started.answer;
-    if layer1::number(answer) != 0 {
-        refuse(answer, 0);
+    let number = layer1::number(answer);
+    if number != 0 {
+        programs::refuse(number, layer1::place(answer), 0);
         return;
     }
     let mut state = started.state;
@@ -193,7 +126,7 @@ fn send_all(
             memory4,
         );
         state = step.state;
-        left = left_after(left, step.go_on);
+        left = programs::left_after(left, step.go_on);
     }
 }
 
@@ -210,12 +143,12 @@ fn run(mode: u8, count: u64) {
     let mut control = [0u8; 4096];
     let mut memory3 = [0u8; 18432];
     let mut memory4 = [0u8; 18432];
-    let a = at_most(lengths[2], 4608);
-    let b = at_most(lengths[3], 4608);
-    let c = at_most(lengths[5], 9216);
-    let d = at_most(lengths[6], 9216);
-    let e = at_most(lengths[8], 18432);
-    let f = at_most(lengths[9], 18432);
+    let a = programs::within(lengths[2], &p3);
+    let b = programs::within(lengths[3], &p4);
+    let c = programs::within(lengths[5], &px1);
+    let d = programs::within(lengths[6], &px2);
+    let e = programs::within(lengths[8], &memory3);
+    let f = programs::within(lengths[9], &memory4);
     send_all(
         mode,
         count,
@@ -232,4 +165,9 @@ fn run(mode: u8, count: u64) {
     );
 }
 
-fn main() {}
+fn main() {
+    match programs::read_arguments() {
+        Arguments::Run { mode, count } => run(mode, count),
+        Arguments::Wrong => programs::usage(b"sender"),
+    }
+}

@@ -1,5 +1,5 @@
 -- `send_all` meets its contract. The loop's invariant: no buffer's length changes. Assumes nothing.
-use mathlib.Core.Path.{_≡_}
+use mathlib.Core.Path.{_≡_, _∙_}
 use Prim.Native.Nat.{_≤_}
 use native.Mathlib.Omega.{arith}
 use lib.ListN.{length}
@@ -8,7 +8,7 @@ use Rattle.sender.proofs.send_all.Statement.{statement}
 use Rattle.sender.proofs.send_all.Tie as tie
 
 abbrev Inv-loop : tie.InvT-loop
-Inv-loop mode count p1₀ pids₀ p3₀ p4₀ pm₀ px1₀ px2₀ control₀ memory3₀ memory4₀ state₀ left₀ p1 pids p3 p4 pm px1 px2 control memory3 memory4 state left =
+Inv-loop mode count p1₀ pids₀ p3₀ p4₀ pm₀ px1₀ px2₀ control₀ memory3₀ memory4₀ number₀ state₀ left₀ p1 pids p3 p4 pm px1 px2 control memory3 memory4 state left =
     (left ≤ count)
     × (length p1 ≡ length p1₀)
     × (length pids ≡ length pids₀)
@@ -22,13 +22,16 @@ Inv-loop mode count p1₀ pids₀ p3₀ p4₀ pm₀ px1₀ px2₀ control₀ mem
     × (length memory4 ≡ length memory4₀)
 
 abbrev μ-loop : tie.MeasureT-loop
-μ-loop mode count p1₀ pids₀ p3₀ p4₀ pm₀ px1₀ px2₀ control₀ memory3₀ memory4₀ state₀ left₀ p1 pids p3 p4 pm px1 px2 control memory3 memory4 state left = left
+μ-loop mode count p1₀ pids₀ p3₀ p4₀ pm₀ px1₀ px2₀ control₀ memory3₀ memory4₀ number₀ state₀ left₀ p1 pids p3 p4 pm px1 px2 control memory3 memory4 state left = left
 
 start-sender-requires : tie.Need-start-sender-requires Inv-loop μ-loop
 start-sender-requires c κs = search needs
 
 number-requires : tie.Need-number-requires Inv-loop μ-loop
 number-requires c κs = search needs
+
+place-requires : tie.Need-place-requires Inv-loop μ-loop
+place-requires c κs = search needs
 
 refuse-requires : tie.Need-refuse-requires Inv-loop μ-loop
 refuse-requires c κs = search needs
@@ -58,19 +61,22 @@ loop-less : tie.Need-loop-less Inv-loop μ-loop
 loop-less c = search needs
 
 loop-again : tie.Need-loop-again Inv-loop μ-loop
-loop-again c = (
-  omega arith,
-  search needs,
-  search needs,
-  search needs,
-  search needs,
-  search needs,
-  search needs,
-  search needs,
-  search needs,
-  search needs,
-  search needs,
-)
+loop-again c =
+    let t = c .before .before .before .before .before .before .before .before .before .before .before .before .before .before .before .before .before .before .before .before .before .before in
+    let l = t .before .before .before .before .before .before .before .before .before .before .before .before .loop .inv in
+    let k = t .turn .kept .1 .1 in (
+      omega (arith, c .left-after .ensures, l .0),
+      k .0 ∙ l .1,
+      k .1 .0 ∙ l .2,
+      k .1 .1 .0 ∙ l .3,
+      k .1 .1 .1 .0 ∙ l .4,
+      k .1 .1 .1 .1 .0 ∙ l .5,
+      k .1 .1 .1 .1 .1 .0 ∙ l .6,
+      k .1 .1 .1 .1 .1 .1 .0 ∙ l .7,
+      k .1 .1 .1 .1 .1 .1 .1 .0 ∙ l .8,
+      k .1 .1 .1 .1 .1 .1 .1 .1 .0 ∙ l .9,
+      k .1 .1 .1 .1 .1 .1 .1 .1 .1 .0 ∙ l .10,
+    )
 
 same-length-3 : tie.Need-same-length-3 Inv-loop μ-loop
 same-length-3 c = search needs
@@ -113,6 +119,7 @@ send-all-spec =
     μ-loop
     start-sender-requires
     number-requires
+    place-requires
     refuse-requires
     same-length
     same-length-2

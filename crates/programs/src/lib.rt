@@ -1,0 +1,32 @@
+// What the programs of a run share.
+mod buffers;
+mod command_line;
+
+pub use buffers::Four;
+pub use buffers::read_four;
+pub use buffers::within;
+pub use buffers::write_four;
+pub use command_line::Arguments;
+pub use command_line::read_arguments;
+pub use command_line::usage;
+use libc::STDERR_FILENO;
+ghost use Prim.Native.Nat.{_<_};
+
+// How many L1 frames are left after one more: none where the run does not go on.
+pub fn left_after(left: u64, go_on: bool) -> u64
+    requires { ⌜ 0 < left ⌝ }
+    ensures { λ r. ⌜ r < left ⌝ }
+{
+    if go_on { left - 1 } else { 0 }
+}
+
+// Says with which answer an L1 frame was refused.
+pub fn refuse(number: u8, place: usize, frame: u64) {
+    io::write_all(STDERR_FILENO, b"refused: number ");
+    io::print_decimal(STDERR_FILENO, number as u64);
+    io::write_all(STDERR_FILENO, b" place ");
+    io::print_decimal(STDERR_FILENO, place as u64);
+    io::write_all(STDERR_FILENO, b" frame ");
+    io::print_decimal(STDERR_FILENO, frame);
+    io::write_all(STDERR_FILENO, b"\n");
+}
