@@ -2,6 +2,7 @@
 pub use calls::Outcome;
 pub use calls::number;
 pub use calls::place;
+pub use calls::reader_lengths;
 pub use calls::sender_lengths;
 pub use calls::start_reader;
 pub use calls::start_sender;
@@ -11,4 +12,7 @@ pub use queries::find;
 pub use queries::lookup;
 pub use queries::pm_row;
 pub use queries::px_row;
+pub use reading::read;
+pub use runs::Answer;
+pub use runs::State;
 pub use sending::send;

@@ -7,7 +7,7 @@ use Rattle.runs.specs.declared.Answer.the-variants.{Success, ModeNotCove
 use Rattle.runs.specs.Answers.{numberOf, onSuccess}
 use Rattle.runs.specs.Lent.{Result}
 
-either : (a : Answer) → (a ≡ Success) ⊎ ((done refused : Result) → onSuccess a done refused ≡ refused)
+either : {A : Type 0} (a : Answer) → (a ≡ Success) ⊎ ((done refused : A) → onSuccess a done refused ≡ refused)
 unfolding onSuccess
 either Success = inl refl
 either ModeNotCovered = inr (λ x y. refl)
@@ -33,10 +33,10 @@ refused-is a done refused ok ne = go (either a)
     go (inr f) = f done refused
 
 -- any other answer than success is a refusal
-pub not-success : (a : Answer) (done refused : Result) → a ≢ Success → onSuccess a done refused ≡ refused
-not-success a done refused ne = go (either a)
+pub not-success : {A : Type 0} (a : Answer) (done refused : A) → a ≢ Success → onSuccess a done refused ≡ refused
+not-success {A} a done refused ne = go (either a)
   where
-    go : (a ≡ Success) ⊎ ((x y : Result) → onSuccess a x y ≡ y) → onSuccess a done refused ≡ refused
+    go : (a ≡ Success) ⊎ ((x y : A) → onSuccess a x y ≡ y) → onSuccess a done refused ≡ refused
     go (inl e) = absurd (ne e)
     go (inr f) = f done refused
 
