@@ -1,4 +1,4 @@
--- For the code alone: lengths compared as two lists, and a place as a number.
+-- The lent lengths as lists in the table's order, compared place by place, and a place as a number.
 use mathlib.Core.Bool.{cond}
 use mathlib.Core.Option.{Option, none, some}
 use mathlib.Core.List.{List, [], _∷_}

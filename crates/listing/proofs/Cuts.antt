@@ -7,8 +7,8 @@ use borrow.Author.Tests.{eq-eqb, ne-eqb}
 use lib.Dec.{eqb}
 use Rattle.listing.specs.Lines.{before, after}
 use Rattle.listing.specs.Running.{begun, contains, partOf, lineOf}
-use Rattle.listing.specs.declared.reading.Part.{Part}
-use Rattle.listing.specs.declared.reading.Line.{Line}
+use Rattle.listing.specs.declared.parsing.Part.{Part}
+use Rattle.listing.specs.declared.parsing.Line.{Line}
 
 pub contains-snoc : (x : ℕ) (bytes : List ℕ) (b : ℕ) → contains x (bytes ++ (b ∷ [])) ≡ (contains x bytes || eqb b x)
 unfolding contains

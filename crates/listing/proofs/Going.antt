@@ -11,7 +11,7 @@ use lib.Seq.{take-all, take-suc}
 use Rattle.listing.specs.Lines.{lines, joined}
 use Rattle.listing.specs.Printed.{listed, output, printed, header}
 use Rattle.listing.specs.Running.{contains, begun, lineOf, Going}
-use Rattle.listing.specs.declared.reading.Line.{Line}
+use Rattle.listing.specs.declared.parsing.Line.{Line}
 use Rattle.listing.proofs.Cuts.{contains-snoc}
 
 -- the lines that begin with a byte that is no newline

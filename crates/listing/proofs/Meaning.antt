@@ -15,7 +15,7 @@ use Rattle.listing.specs.Numbers.{isNumber, value}
 use Rattle.listing.specs.Lines.{before, after}
 use Rattle.listing.specs.Printed.{told, refused, printed}
 use Rattle.listing.specs.Running.{begun, partOf, lineOf, known, shown}
-use Rattle.listing.specs.declared.reading.Line.{Line}
+use Rattle.listing.specs.declared.parsing.Line.{Line}
 
 -- the number that a part is known by
 numbered : (bytes : List ℕ) → known (partOf bytes) ≡ cond (isNumber bytes) (min 1000 (value bytes)) 1000

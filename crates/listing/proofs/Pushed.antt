@@ -10,7 +10,7 @@ use lib.Dec.{leb}
 use lib.ListN.{length}
 use Rattle.listing.specs.Numbers.{isDigit, digitsAlone, value}
 use Rattle.listing.specs.Running.{begun, partOf}
-use Rattle.listing.specs.declared.reading.Part.{Part}
+use Rattle.listing.specs.declared.parsing.Part.{Part}
 
 length-snoc : (bytes : List ℕ) (b : ℕ) → length (bytes ++ (b ∷ [])) ≡ suc (length bytes)
 length-snoc [] b = refl

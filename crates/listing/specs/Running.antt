@@ -9,8 +9,8 @@ use Rattle.queries.specs.Finder.{found}
 use Rattle.listing.specs.Numbers.{digitsAlone, value}
 use Rattle.listing.specs.Lines.{before, after, lines}
 use Rattle.listing.specs.Printed.{told, listed, output}
-use Rattle.listing.specs.declared.reading.Part.{Part}
-use Rattle.listing.specs.declared.reading.Line.{Line}
+use Rattle.listing.specs.declared.parsing.Part.{Part}
+use Rattle.listing.specs.declared.parsing.Line.{Line}
 use Rattle.listing.specs.declared.blocks.Progress.{Progress}
 
 -- there are bytes

@@ -1,10 +1,10 @@
 // The whole list, block by block of the input.
+use crate::parsing::Line;
+use crate::parsing::empty;
+use crate::parsing::is_begun;
+use crate::parsing::step;
 use crate::printing::print;
 use crate::printing::put;
-use crate::reading::Line;
-use crate::reading::empty;
-use crate::reading::is_begun;
-use crate::reading::step;
 ghost use mathlib.Core.Path.{_≡_};
 ghost use Prim.Native.Nat.{ℕ, _+_, _*_, _^_, _≤_, _<_};
 ghost use mathlib.Core.List.{List, [], _∷_, _++_};

@@ -1,7 +1,7 @@
 // Document 01's cell list, as functions on bytes: `start`, `list` for each block of the input, `finish`.
 mod blocks;
+mod parsing;
 mod printing;
-mod reading;
 
 pub use blocks::Progress;
 pub use blocks::finish;

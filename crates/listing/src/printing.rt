@@ -1,6 +1,6 @@
 // Text put behind what a buffer holds: each function answers where the text ends.
-use crate::reading::Line;
-use crate::reading::Part;
+use crate::parsing::Line;
+use crate::parsing::Part;
 use layer1::Found;
 ghost use mathlib.Core.Path.{_≡_};
 ghost use Prim.Native.Nat.{ℕ, _+_, _≤_};

@@ -164,9 +164,9 @@ fn scatter_byte(coded: &[u8], cells: &[usize; 320], j: usize, pm: &mut [u8])
 {
     let mut u = 0;
     while u < 8 {
-        let b = bits::get(coded, 8 * j + u);
+        let bit = bits::get(coded, 8 * j + u);
         let c = cell_in_byte(cells, j, u);
-        bits::put(pm, c, b);
+        bits::put(pm, c, bit);
         u += 1;
     }
 }

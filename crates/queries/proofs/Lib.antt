@@ -1,2 +1,3 @@
 mod Parts
 mod Stands
+mod Valued

@@ -4,8 +4,8 @@ use mathlib.Core.Bool.{cond}
 use lib.Dec.{ltb}
 use Rattle.interleaving.specs.FinderPM.{source}
 use Rattle.interleaving.specs.Source.{Source, at}
-use Rattle.runs.specs.declared.Answer.{Answer}
-use Rattle.runs.specs.declared.Answer.the-variants.{Success, WrongLength}
+use Rattle.runs.specs.declared.Answer.the-variants.{WrongLength}
+use Rattle.runs.specs.Answers.{numberOf, placeOf}
 use Rattle.queries.specs.declared.finder.Found.{Found}
 use Rattle.queries.specs.declared.finder.Found.the-variants.{P1, Pids, Refused}
 
@@ -20,26 +20,18 @@ found row column =
     (cond (ltb column 720) (told (source (row * 720 + column))) (Refused (WrongLength 1)))
     (Refused (WrongLength 0))
 
--- the answer, whose number and place are those of document 01's table; the channel, the frame and the bit
-abbrev pub answerOf : Found → Answer
-answerOf (P1 bit) = Success
-answerOf (Pids frame bit) = Success
-answerOf (Refused answer) = answer
-
+-- document 01's values for each case: number and place of the table of causes, channel, frame and bit
 pub data Channel : Type 0 where
   none p1 pids : Channel
 
-abbrev pub channelOf : Found → Channel
-channelOf (P1 bit) = p1
-channelOf (Pids frame bit) = pids
-channelOf (Refused answer) = none
+pub record Values : Type 0 where
+  pub number : ℕ
+  pub place : ℕ
+  pub channel : Channel
+  pub frame : ℕ
+  pub bit : ℕ
 
-abbrev pub frameOf : Found → ℕ
-frameOf (P1 bit) = 0
-frameOf (Pids frame bit) = frame
-frameOf (Refused answer) = 0
-
-abbrev pub bitOf : Found → ℕ
-bitOf (P1 bit) = bit
-bitOf (Pids frame bit) = bit
-bitOf (Refused answer) = 0
+abbrev pub values : Found → Values
+values (P1 bit) = record { number = 0; place = 0; channel = p1; frame = 0; bit = bit }
+values (Pids frame bit) = record { number = 0; place = 0; channel = pids; frame = frame; bit = bit }
+values (Refused answer) = record { number = numberOf answer; place = placeOf answer; channel = none; frame = 0; bit = 0 }

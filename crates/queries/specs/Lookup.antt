@@ -7,8 +7,8 @@ use lib.ListN.{length}
 use Rattle.control.specs.declared.Looked.{Looked}
 use Rattle.control.specs.declared.Looked.the-variants.{Found as block-of, NotABlock}
 use Rattle.control.specs.Lookup.{lookedUp}
-use Rattle.runs.specs.declared.Answer.{Answer}
-use Rattle.runs.specs.declared.Answer.the-variants.{Success, WrongLength, WrongControl}
+use Rattle.runs.specs.declared.Answer.the-variants.{WrongLength, WrongControl}
+use Rattle.runs.specs.Answers.{numberOf, placeOf}
 use Rattle.queries.specs.declared.blocks.LookedUp.{LookedUp}
 use Rattle.queries.specs.declared.blocks.LookedUp.the-variants.{Found, Refused}
 
@@ -19,15 +19,13 @@ told NotABlock = Refused (WrongControl 0)
 unfoldable pub lookupOf : List ℕ → LookedUp
 lookupOf block = cond (eqb (length block) 256) (told (lookedUp block)) (Refused (WrongLength 0))
 
--- the answer, whose number and place are those of document 01's table; the mode and the count
-abbrev pub answerOf : LookedUp → Answer
-answerOf (Found mode count) = Success
-answerOf (Refused answer) = answer
+-- document 01's values for each case: number and place of the table of causes, mode and count
+pub record Values : Type 0 where
+  pub number : ℕ
+  pub place : ℕ
+  pub mode : ℕ
+  pub count : ℕ
 
-abbrev pub modeOf : LookedUp → ℕ
-modeOf (Found mode count) = mode
-modeOf (Refused answer) = 0
-
-abbrev pub countOf : LookedUp → ℕ
-countOf (Found mode count) = count
-countOf (Refused answer) = 0
+abbrev pub values : LookedUp → Values
+values (Found mode count) = record { number = 0; place = 0; mode = mode; count = count }
+values (Refused answer) = record { number = numberOf answer; place = placeOf answer; mode = 0; count = 0 }

@@ -1,7 +1,7 @@
 // Document 01: a control block alone is looked up for its mode and block count.
 use runs::Answer;
 ghost use mathlib.Core.Path.{_≡_};
-ghost use Rattle.queries.specs.Lookup.{lookupOf};
+ghost use Rattle.queries.specs.Lookup.{lookupOf, values};
 
 // What a lookup tells.
 pub enum LookedUp {
@@ -11,7 +11,7 @@ pub enum LookedUp {
 
 // Looks up the mode and the block count of one control block.
 pub fn lookup(block: &[u8]) -> LookedUp
-    ensures { λ r. ⌜ r ≡ lookupOf (now (block .entry)) ⌝ }
+    ensures { λ r. ⌜ (r ≡ lookupOf (now (block .entry))) × (values r ≡ values (lookupOf (now (block .entry)))) ⌝ }
 {
     if block.len() != 256 {
         return LookedUp::Refused {

@@ -2,7 +2,7 @@
 use pm::Bit;
 use runs::Answer;
 ghost use mathlib.Core.Path.{_≡_};
-ghost use Rattle.queries.specs.Finder.{found};
+ghost use Rattle.queries.specs.Finder.{found, values};
 
 // Whose coded bit stands in a cell of PM.
 pub enum Found {
@@ -13,7 +13,7 @@ pub enum Found {
 
 // Finds the channel, the transfer frame and the coded bit in it of a cell of PM.
 pub fn find(row: usize, column: usize) -> Found
-    ensures { λ r. ⌜ r ≡ found row column ⌝ }
+    ensures { λ r. ⌜ (r ≡ found row column) × (values r ≡ values (found row column)) ⌝ }
 {
     if row >= 512 {
         return Found::Refused {

@@ -144,3 +144,7 @@ module _ (mode : ℕ) where
       go (yes x) (no y) z = (suc t, omega arith, omega arith, y)
       go (yes x) (yes y) (no z) = (suc (suc t), omega arith, omega arith, z)
       go (yes x) (yes y) (yes z) = absurd (ne (ap (eighth f) (extended-fixed a b e t (omega arith) (omega arith) x y z)))
+
+-- 8t + f + 16 < 8n exactly when the L1 frames t + 1 and t + 2 are complete
+pub complete-when : (t f n : ℕ) → f < 8 → (8 * t + f + 16 < 8 * n → t + 2 < n) × (t + 2 < n → 8 * t + f + 16 < 8 * n)
+complete-when t f n h = (λ l. omega arith, λ l. omega arith)

@@ -9,7 +9,8 @@ use Rattle.bits.specs.Bits.{number}
 use Rattle.coding.specs.Coder.{coded, rate25}
 use Rattle.interleaving.specs.Matrix.{partitionOf, blockOf, rowOf, columnOf}
 use Rattle.interleaving.specs.PM.{p1Place, pidsPlace}
-use Rattle.interleaving.specs.PX.{place}
+use Rattle.interleaving.specs.EquationsIV as IV
+use Rattle.interleaving.specs.PX.{place, v4}
 use Rattle.control.specs.Control.{assembled, encoded}
 
 abbrev pub Point : Type 0
@@ -27,11 +28,12 @@ rowColumn c = c / 720 ∷ c % 720 ∷ []
 abbrev stepOf : ℕ → ℕ → ℕ
 stepOf n p = 8 * (n / 2) + 2 * p + n % 2
 
--- partition, block, row and column of the cell that this step writes, where step i writes the cell `placeOf i`
-abbrev entry : (ℕ → ℕ) → ℕ → ℕ → List ℕ
-entry placeOf n p =
-    let c : ℕ = placeOf (stepOf n p) in
-    partitionOf 4 36 c ∷ blockOf 4 36 c ∷ rowOf 4 36 c ∷ columnOf 4 36 c ∷ []
+-- counter, partition, block, row and column of the cell that this step writes, where step i has the counter `counterOf i` and writes the cell `placeOf i`
+abbrev entry : (counterOf placeOf : ℕ → ℕ) → ℕ → ℕ → List ℕ
+entry counterOf placeOf n p =
+    let i : ℕ = stepOf n p in
+    let c : ℕ = placeOf i in
+    counterOf i ∷ partitionOf 4 36 c ∷ blockOf 4 36 c ∷ rowOf 4 36 c ∷ columnOf 4 36 c ∷ []
 
 -- a question for each of the four partitions
 abbrev each : (ℕ → Point) → List Point
@@ -54,8 +56,8 @@ abbrev everySecond : ℕ → ℕ → List ℕ
 everySecond k zero = []
 everySecond k (suc n) = k ∷ everySecond (2 + k) n
 
-unfoldable pub pointsBy : (ℕ → ℕ) → List Point
-pointsBy placeOf =
+unfoldable pub pointsBy : (counterOf placeOf : ℕ → ℕ) → List Point
+pointsBy counterOf placeOf =
     ((rowColumn (p1Place 0), 192 ∷ 360 ∷ [])
     ∷ (rowColumn (p1Place 1), 448 ∷ 72 ∷ [])
     ∷ (rowColumn (p1Place 20), 224 ∷ 360 ∷ [])
@@ -64,9 +66,9 @@ pointsBy placeOf =
     ∷ (rowColumn (pidsPlace 0), 18 ∷ 361 ∷ [])
     ∷ (rowColumn (pidsPlace (15 * 200 + 199)), 501 ∷ 208 ∷ [])
     ∷ [])
-    ++ each (λ p. (entry placeOf 0 p, p ∷ 7 * p % 32 ∷ 0 ∷ 0 ∷ []))
-    ++ each (λ p. (entry placeOf 4 p, p ∷ (7 * p + 4) % 32 ∷ 1 ∷ 8 ∷ []))
-    ++ each (λ p. (entry placeOf 1152 p, p ∷ (7 * p + 1) % 32 ∷ 0 ∷ 0 ∷ []))
+    ++ each (λ p. (entry counterOf placeOf 0 p, 0 ∷ p ∷ 7 * p % 32 ∷ 0 ∷ 0 ∷ []))
+    ++ each (λ p. (entry counterOf placeOf 4 p, 4 ∷ p ∷ (7 * p + 4) % 32 ∷ 1 ∷ 8 ∷ []))
+    ++ each (λ p. (entry counterOf placeOf 1152 p, 1152 ∷ p ∷ (7 * p + 1) % 32 ∷ 0 ∷ 0 ∷ []))
     ++ ((ones (λ i. 1) ∷ [], 200 ∷ [])
     ∷ (map (λ k. ones (single k)) (everySecond 0 40), replicate 40 14)
     ∷ (map (λ k. ones (single k)) (everySecond 1 40), replicate 40 11)
@@ -75,4 +77,4 @@ pointsBy placeOf =
 
 -- the starred points, with Interleaver IV as MP3 has it
 abbrev pub points : List Point
-points = pointsBy (place 1)
+points = pointsBy (IV.pt 4 32 36 2 v4) (place 1)

@@ -1,4 +1,4 @@
-// Document 01, "Operations of a run": a run's state, the extended channels, and what a call answers. The crate holds the definitions of runs and the theorem about whole runs; the calls themselves stand in `layer1`.
+// Document 01, "Operations of a run": a run's state, the extended channels, and what a call answers. The crate holds the definitions of runs and the theorem about whole runs; the calls themselves stand in `calls`, `sending` and `reading`.
 
 // Document 01: the service mode; the half, which L1 frame of the internal matrix comes next; and the age, the L1 frames sent or read since the start, 2 for two or more.
 // A state is handed in as it is, so one that is not valid can be refused.

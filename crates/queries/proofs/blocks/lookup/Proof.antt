@@ -8,7 +8,8 @@ use Rattle.control.specs.declared.Looked.{Looked}
 use Rattle.control.specs.Lookup.{lookedUp}
 use Rattle.runs.specs.declared.Answer.the-variants.{WrongLength}
 use Rattle.queries.specs.declared.blocks.LookedUp.the-variants.{Refused}
-use Rattle.queries.specs.Lookup.{lookupOf, told}
+use Rattle.queries.specs.Lookup.{lookupOf, told, values}
+use Rattle.queries.proofs.Valued.{valued}
 use borrow.Author.Needs.{needs}
 use Rattle.queries.proofs.blocks.lookup.Statement.{statement}
 use Rattle.queries.proofs.blocks.lookup.Tie as tie
@@ -22,7 +23,7 @@ unfolding lookupOf
 of-block block r h e = rw (eq-eqb (length block) 256 h) (ap told e)
 
 returns : tie.Need-returns
-returns c = other-length _ (c .if1 .taken)
+returns c = valued values (other-length _ (c .if1 .taken))
 
 lookup-requires : tie.Need-lookup-requires
 lookup-requires c κs = search needs
@@ -36,12 +37,12 @@ enum-told c = search needs
 returns-2 : tie.Need-returns-2
 returns-2 c =
     let l = c .before .before .before in
-    ap told (sym (c .before .mode .given .1)) ∙ of-block _ _ (l .before .if1 .left) (l .lookup .ensures)
+    valued values (ap told (sym (c .before .mode .given .1)) ∙ of-block _ _ (l .before .if1 .left) (l .lookup .ensures))
 
 returns-3 : tie.Need-returns-3
 returns-3 c =
     let l = c .before .before in
-    ap told (sym (c .enum-told .given .1)) ∙ of-block _ _ (l .before .if1 .left) (l .lookup .ensures)
+    valued values (ap told (sym (c .enum-told .given .1)) ∙ of-block _ _ (l .before .if1 .left) (l .lookup .ensures))
 
 pub lookup-spec : {M : Type 1} → statement M
 lookup-spec =

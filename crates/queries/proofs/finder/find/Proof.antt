@@ -9,7 +9,8 @@ use Rattle.pm.specs.declared.Bit.the-variants.{P1 as bit-of-P1, Pids as bit-of-
 use Rattle.runs.specs.declared.Answer.the-variants.{WrongLength}
 use Rattle.queries.specs.declared.finder.Found.{Found}
 use Rattle.queries.specs.declared.finder.Found.the-variants.{P1, Pids, Refused}
-use Rattle.queries.specs.Finder.{found, told}
+use Rattle.queries.specs.Finder.{found, told, values}
+use Rattle.queries.proofs.Valued.{valued}
 use borrow.Author.Needs.{needs}
 use Rattle.queries.proofs.finder.find.Statement.{statement}
 use Rattle.queries.proofs.finder.find.Tie as tie
@@ -37,10 +38,10 @@ module _ (row column : ℕ) where
   inside h l b e = rw (lt-ltb row 512 h, lt-ltb column 720 l) (ap named e ∙ named-at (source (row * 720 + column)))
 
 returns : tie.Need-returns
-returns c = row-out _ _ (c .if1 .taken)
+returns c = valued values (row-out _ _ (c .if1 .taken))
 
 returns-2 : tie.Need-returns-2
-returns-2 c = column-out _ _ (c .before .if1 .left) (c .if2 .taken)
+returns-2 c = valued values (column-out _ _ (c .before .if1 .left) (c .if2 .taken))
 
 mul-find : tie.Need-mul-find
 mul-find c = search needs
@@ -60,12 +61,12 @@ enum-known-i-2 c = search needs
 returns-3 : tie.Need-returns-3
 returns-3 c =
     let f = c .before .before .before in
-    ap named (sym (c .before .i .given .1)) ∙ inside _ _ (f .before .before .if1 .left) (f .before .if2 .left) _ (f .find .ensures)
+    valued values (ap named (sym (c .before .i .given .1)) ∙ inside _ _ (f .before .before .if1 .left) (f .before .if2 .left) _ (f .find .ensures))
 
 returns-4 : tie.Need-returns-4
 returns-4 c =
     let f = c .before .before .before in
-    ap named (sym (c .before .i2 .given .1)) ∙ inside _ _ (f .before .before .if1 .left) (f .before .if2 .left) _ (f .find .ensures)
+    valued values (ap named (sym (c .before .i2 .given .1)) ∙ inside _ _ (f .before .before .if1 .left) (f .before .if2 .left) _ (f .find .ensures))
 
 pub find-spec : {M : Type 1} → statement M
 find-spec =

@@ -2,8 +2,8 @@
 use native.Mathlib.Omega.{arith}
 use Rattle.listing.proofs.Pushed.{under-digits, over-digits, a-digit}
 use borrow.Author.Needs.{needs}
-use Rattle.listing.proofs.reading.digit.Statement.{statement}
-use Rattle.listing.proofs.reading.digit.Tie as tie
+use Rattle.listing.proofs.parsing.digit.Statement.{statement}
+use Rattle.listing.proofs.parsing.digit.Tie as tie
 
 returns : tie.Need-returns
 returns c = (rw (under-digits _ (c .if1 .taken)), omega arith)

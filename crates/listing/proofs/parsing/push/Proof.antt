@@ -3,8 +3,8 @@ use mathlib.Core.Path.{refl}
 use native.Mathlib.Omega.{arith}
 use Rattle.listing.proofs.Pushed.{pushed-full, pushed-small}
 use borrow.Author.Needs.{needs}
-use Rattle.listing.proofs.reading.push.Statement.{statement}
-use Rattle.listing.proofs.reading.push.Tie as tie
+use Rattle.listing.proofs.parsing.push.Statement.{statement}
+use Rattle.listing.proofs.parsing.push.Tie as tie
 
 returns : tie.Need-returns
 returns c = pushed-full _ _ _ refl (omega arith)

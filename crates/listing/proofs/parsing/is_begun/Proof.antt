@@ -2,8 +2,8 @@
 use mathlib.Core.Path.{_∙_, ap}
 use mathlib.Core.Bool.{Bool, _||_}
 use Rattle.listing.proofs.Cuts.{begun-line}
-use Rattle.listing.proofs.reading.is_begun.Statement.{statement}
-use Rattle.listing.proofs.reading.is_begun.Tie as tie
+use Rattle.listing.proofs.parsing.is_begun.Statement.{statement}
+use Rattle.listing.proofs.parsing.is_begun.Tie as tie
 
 returns : tie.Need-returns
 returns c = λ bytes e. begun-line _ bytes e ∙ ap (λ (t : Bool). t || (c .before .before .args .line .row .begun)) (c .if1 .taken)

@@ -1,8 +1,8 @@
 -- `listing::step` meets its contract: behind the space, at it and before it. Assumes nothing.
 use Rattle.listing.proofs.Cuts.{line-behind, line-at, line-before}
 use borrow.Author.Needs.{needs}
-use Rattle.listing.proofs.reading.step.Statement.{statement}
-use Rattle.listing.proofs.reading.step.Tie as tie
+use Rattle.listing.proofs.parsing.step.Statement.{statement}
+use Rattle.listing.proofs.parsing.step.Tie as tie
 
 push-requires : tie.Need-push-requires
 push-requires c κs = search needs

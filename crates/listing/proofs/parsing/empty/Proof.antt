@@ -3,8 +3,8 @@ use mathlib.Core.Path.{refl}
 use Rattle.listing.specs.Numbers.{digitsAlone, value}
 use Rattle.listing.specs.Lines.{before, after}
 use Rattle.listing.specs.Running.{begun, contains, partOf, lineOf}
-use Rattle.listing.proofs.reading.empty.Statement.{statement}
-use Rattle.listing.proofs.reading.empty.Tie as tie
+use Rattle.listing.proofs.parsing.empty.Statement.{statement}
+use Rattle.listing.proofs.parsing.empty.Tie as tie
 
 returns : tie.Need-returns
 unfolding digitsAlone value before after begun contains partOf lineOf
