@@ -12,13 +12,19 @@ ghost use Prim.Native.Nat.{ℕ};
 ghost use Rattle.runs.specs.declared.Extended.the-variants.{P3, P4};
 ghost use Rattle.runs.specs.declared.Kind.{Kind};
 ghost use Rattle.runs.specs.Lengths.{kindOf, readerLen, senderLen};
-ghost use Rattle.runs.specs.Starting.{start as «the-start»};
+ghost use Rattle.runs.specs.Starting.{start};
 ghost use Rattle.calls.specs.Called.{memory, startGave};
 
 // A start of either side, whose memory has the wanted lengths; refused, it returns the state of MP1.
-fn start(mode: u8, want3: usize, want4: usize, memory3: &mut [u8], memory4: &mut [u8]) -> Outcome
+fn start_side(
+    mode: u8,
+    want3: usize,
+    want4: usize,
+    memory3: &mut [u8],
+    memory4: &mut [u8],
+) -> Outcome
     ensures { λ r. ⌜ ((len : Kind → ℕ) → want3 ≡ len (kindOf mode P3) → want4 ≡ len (kindOf mode P4)
-        → startGave r (memory (now (memory3 .exit)) (now (memory4 .exit))) ≡ «the-start» len mode (memory (now (memory3 .entry)) (now (memory4 .entry)))) ⌝ }
+        → startGave r (memory (now (memory3 .exit)) (now (memory4 .exit))) ≡ start len mode (memory (now (memory3 .entry)) (now (memory4 .entry)))) ⌝ }
 {
     if !control::is_covered(mode) {
         return Outcome {
@@ -46,19 +52,19 @@ fn start(mode: u8, want3: usize, want4: usize, memory3: &mut [u8], memory4: &mut
 // Starts a sender: zeroes its memory and returns the state before the first L1 frame.
 pub fn start_sender(mode: u8, memory3: &mut [u8], memory4: &mut [u8]) -> Outcome
     ensures { λ r. ⌜ startGave r (memory (now (memory3 .exit)) (now (memory4 .exit)))
-        ≡ «the-start» senderLen mode (memory (now (memory3 .entry)) (now (memory4 .entry))) ⌝ }
+        ≡ start senderLen mode (memory (now (memory3 .entry)) (now (memory4 .entry))) ⌝ }
 {
     let want3 = sender_len(kind_of(mode, Extended::P3));
     let want4 = sender_len(kind_of(mode, Extended::P4));
-    start(mode, want3, want4, memory3, memory4)
+    start_side(mode, want3, want4, memory3, memory4)
 }
 
 // Starts a reader.
 pub fn start_reader(mode: u8, memory3: &mut [u8], memory4: &mut [u8]) -> Outcome
     ensures { λ r. ⌜ startGave r (memory (now (memory3 .exit)) (now (memory4 .exit)))
-        ≡ «the-start» readerLen mode (memory (now (memory3 .entry)) (now (memory4 .entry))) ⌝ }
+        ≡ start readerLen mode (memory (now (memory3 .entry)) (now (memory4 .entry))) ⌝ }
 {
     let want3 = reader_len(kind_of(mode, Extended::P3));
     let want4 = reader_len(kind_of(mode, Extended::P4));
-    start(mode, want3, want4, memory3, memory4)
+    start_side(mode, want3, want4, memory3, memory4)
 }

@@ -17,8 +17,8 @@ kind-of-requires-2 c κs = search needs
 sender-len-requires-2 : tie.Need-sender-len-requires-2
 sender-len-requires-2 c κs = search needs
 
-start-requires : tie.Need-start-requires
-start-requires c κs = search needs
+start-side-requires : tie.Need-start-side-requires
+start-side-requires c κs = search needs
 
 same-length : tie.Need-same-length
 same-length c = search needs
@@ -30,7 +30,7 @@ returns : tie.Need-returns
 returns c =
     let s = c .before .before .before .before in
     let k = s .before .before .before in
-    s .start .ensures senderLen
+    s .start-side .ensures senderLen
     (k .before .before .sender-len .ensures ∙ ap senderLen (k .before .before .before .kind-of .ensures))
     (k .sender-len2 .ensures ∙ ap senderLen (k .before .kind-of2 .ensures))
 
@@ -42,7 +42,7 @@ start-sender-spec =
     sender-len-requires
     kind-of-requires-2
     sender-len-requires-2
-    start-requires
+    start-side-requires
     same-length
     same-length-2
     returns)

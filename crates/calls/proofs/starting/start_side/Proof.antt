@@ -1,11 +1,11 @@
--- `start` meets its contract: the case that the tests chose. Assumes nothing.
+-- `start_side` meets its contract: the case that the tests chose. Assumes nothing.
 use mathlib.Core.Path.{sym, _∙_}
 use denote.Ref.{now}
 use borrow.Author.Tests.{not-true, not-false}
 use Rattle.calls.proofs.StartCases.{not-covered, wrong-length, filled}
 use borrow.Author.Needs.{needs}
-use Rattle.calls.proofs.starting.start.Statement.{statement}
-use Rattle.calls.proofs.starting.start.Tie as tie
+use Rattle.calls.proofs.starting.start_side.Statement.{statement}
+use Rattle.calls.proofs.starting.start_side.Tie as tie
 
 is-covered-requires : tie.Need-is-covered-requires
 is-covered-requires c κs = search needs
@@ -64,8 +64,8 @@ returns-3 c len h3 h4 =
     filled (a .mode) (now (a .memory3)) (now (a .memory4)) _ _ _ (sym (t .before .is-covered .ensures) ∙ not-false _ (t .if1 .left))
     (p .first-wrong .ensures) len h3 h4 _ _ _ (c .fresh-state3 .ensures) (g .fill .ensures) (f .fill2 .ensures) (g .before .before .if2 .left)
 
-pub start-spec : {M : Type 1} → statement M
-start-spec =
+pub start-side-spec : {M : Type 1} → statement M
+start-side-spec =
     tie.close
     (tie.spec
     is-covered-requires
