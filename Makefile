@@ -1,4 +1,4 @@
-# `make sheet` is the main job on a sample, `make test` the gate, `make bench` measures the sender beside the second program's.
+# `make sheet` is the main job on a sample, `make test` the gate, `make bench` measures sender and reader beside the second program.
 .PHONY: sheet test bench
 
 sheet:

@@ -33,6 +33,11 @@ fn refused(number: u32, place: usize, frame: u64) -> Stop {
     Stop::Refused { refusal, frame }
 }
 
+/// Document 01, refusals: what is said of a refused L1 frame.
+pub fn refusal_line(number: u32, place: usize, frame: u64) -> String {
+    format!("refused: number {number} place {place} frame {frame}")
+}
+
 /// Document 01, refusal 1: the covered mode of a number.
 fn covered(mode: u64) -> Result<&'static Mode, Stop> {
     Mode::of_number(mode).ok_or(refused(1, 0, 0))
@@ -56,6 +61,7 @@ fn take_four(input: &mut impl Read, lengths: [usize; 4]) -> io::Result<[Vec<u8>;
 }
 
 /// Document 01, operations: one side of a run with its memories.
+#[derive(Clone)]
 struct Run {
     mode: &'static Mode,
     state: State,
@@ -198,7 +204,9 @@ pub fn read_on(
         let matrices = take_four(input, reader.mode.matrix_lengths())?;
         let (answer, returned) = reader.read(&matrices);
         let Answer { number, place, .. } = answer;
-        writeln!(report, "frame {frame} number {number} place {place}")?;
+        if number != 0 {
+            writeln!(report, "{}", refusal_line(number, place, frame))?;
+        }
         output.write_all(&returned)?;
         if number == 3 {
             // The input has ended: no further L1 frame is there.
@@ -233,6 +241,42 @@ pub fn damage(
         output.write_all(&matrices.concat())?;
     }
     Ok(())
+}
+
+/// Document 01, sheet guarantees: copies the matrices of a run, before each L1 frame a damaged
+/// copy of it that a reader refuses.
+pub fn damage_before(
+    seed: u64,
+    mode: u64,
+    count: u64,
+    input: &mut impl Read,
+    output: &mut impl Write,
+) -> Result<(), Stop> {
+    let mut reader = Run::start(Side::Reader, mode)?;
+    let mut damage = Damage::new(seed, count);
+    for frame in 0..count {
+        let matrices = take_four(input, reader.mode.matrix_lengths())?;
+        let copy = refused_copy(&reader, &mut damage, &matrices);
+        let (answer, _) = reader.read(&matrices);
+        if answer.number != 0 {
+            return Err(refused(answer.number, answer.place, frame));
+        }
+        output.write_all(&copy.concat())?;
+        output.write_all(&matrices.concat())?;
+    }
+    Ok(())
+}
+
+/// Document 01, refusals: damages matrices till the reader would refuse them.
+fn refused_copy(reader: &Run, damage: &mut Damage, matrices: &[Vec<u8>; 4]) -> [Vec<u8>; 4] {
+    loop {
+        let mut copy = matrices.clone();
+        damage.hit(&mut copy);
+        let (answer, _) = reader.clone().read(&copy);
+        if answer.number != 0 {
+            return copy;
+        }
+    }
 }
 
 /// Document 01, what the sheets cover: holds two outputs of send against each other.

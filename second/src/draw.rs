@@ -82,7 +82,7 @@ impl Damage {
     }
 
     /// Damaged cells: a single flip or a small group in one of the matrices that are not empty.
-    fn hit(&mut self, matrices: &mut [Vec<u8>; 4]) {
+    pub fn hit(&mut self, matrices: &mut [Vec<u8>; 4]) {
         let used: Vec<usize> = (0..4).filter(|&m| !matrices[m].is_empty()).collect();
         let chosen = used[self.draw.index(used.len())];
         let bits = 8 * matrices[chosen].len();

@@ -8,7 +8,7 @@ use second::commands::{self, Stop};
 use second::{cells, run::Refusal};
 
 /// The commands with their operands.
-const COMMANDS: [(&str, &str); 11] = [
+const COMMANDS: [(&str, &str); 12] = [
     ("draw", "SEED MODE COUNT"),
     ("send", "MODE COUNT"),
     ("read", "MODE COUNT"),
@@ -17,6 +17,7 @@ const COMMANDS: [(&str, &str); 11] = [
     ("all-cells", ""),
     ("control", "MODE"),
     ("damage", "SEED MODE COUNT"),
+    ("damage-before", "SEED MODE COUNT"),
     ("compare", "MODE COUNT FILE_A FILE_B"),
     ("vectors", ""),
     ("draw-vectors", "SEED"),
@@ -85,6 +86,9 @@ fn dispatch(
         ("all-cells", _) => Ok(cells::all(output)?),
         ("control", &[mode]) => commands::control_blocks(mode, output),
         ("damage", &[seed, mode, count]) => commands::damage(seed, mode, count, &mut input, output),
+        ("damage-before", &[seed, mode, count]) => {
+            commands::damage_before(seed, mode, count, &mut input, output)
+        }
         ("compare", &[mode, count]) => {
             let (a, b) = (std::fs::read(&files[0])?, std::fs::read(&files[1])?);
             commands::compare(mode, count, &a, &b)
@@ -101,7 +105,7 @@ fn ended(done: Result<(), Stop>) -> ExitCode {
         Ok(()) => ExitCode::SUCCESS,
         Err(Stop::Refused { refusal, frame }) => {
             let Refusal { number, place } = refusal;
-            eprintln!("refused: number {number} place {place} frame {frame}");
+            eprintln!("{}", commands::refusal_line(number, place, frame));
             ExitCode::from(1)
         }
         Err(Stop::Different(difference)) => {

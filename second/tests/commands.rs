@@ -36,7 +36,7 @@ fn reading_returns_the_frames() {
     assert!(returned == expected);
 }
 
-/// Reading on: one line for each L1 frame, and the accepted ones returned.
+/// Reading on: one line for each refused L1 frame, and the accepted ones returned.
 #[test]
 fn reading_on() {
     let (frames, mut matrices) = sent(1, 1, 4);
@@ -45,12 +45,7 @@ fn reading_on() {
     let mut returned = Vec::new();
     let mut report = Vec::new();
     commands::read_on(1, 4, &mut &matrices[..], &mut returned, &mut report).unwrap();
-    let report = String::from_utf8(report).unwrap();
-    let lines: Vec<&str> = report.lines().collect();
-    assert_eq!(lines.len(), 4);
-    assert_eq!(lines[0], "frame 0 number 0 place 0");
-    assert!(lines[1].starts_with("frame 1 number 5 place 0"));
-    assert_eq!(lines[3], "frame 3 number 0 place 0");
+    assert_eq!(report, b"refused: number 5 place 0 frame 1\n");
     let drawn: Vec<&[u8]> = frames.chunks(18_432).collect();
     assert!(returned == [drawn[0], drawn[2], drawn[3]].concat());
 }
@@ -92,6 +87,27 @@ fn damage() {
         one_only += usize::from(hit == 1);
     }
     assert!((25..50).contains(&one_only));
+}
+
+/// Damage before each L1 frame: every other one is refused, and the run is as if it had not been there.
+#[test]
+fn damage_before() {
+    for mode in [1, 2, 3, 11] {
+        let (_, matrices) = sent(1, mode, 4);
+        let mut between = Vec::new();
+        commands::damage_before(1, mode, 4, &mut &matrices[..], &mut between).unwrap();
+        let (mut returned, mut report) = (Vec::new(), Vec::new());
+        commands::read_on(mode, 8, &mut &between[..], &mut returned, &mut report).unwrap();
+        let report = String::from_utf8(report).unwrap();
+        let frames: Vec<&str> = report
+            .lines()
+            .filter_map(|line| line.rsplit(' ').next())
+            .collect();
+        assert_eq!(frames, ["0", "2", "4", "6"]);
+        let mut expected = Vec::new();
+        commands::read(mode, 4, &mut &matrices[..], &mut expected).unwrap();
+        assert!(returned == expected);
+    }
 }
 
 /// Compare: the name of the first differing bit, or the lengths.

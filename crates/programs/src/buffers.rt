@@ -27,18 +27,20 @@ pub fn read_four(first: &mut [u8], second: &mut [u8], third: &mut [u8], fourth: 
     }
 }
 
-// Writes four buffers to standard output, and answers whether all went out.
-pub fn write_four(first: &[u8], second: &[u8], third: &[u8], fourth: &[u8]) -> bool {
+// Writes two buffers to standard output, and answers whether both went out.
+pub fn write_two(first: &[u8], second: &[u8]) -> bool {
     if !io::write_all(STDOUT_FILENO, first) {
         return false;
     }
-    if !io::write_all(STDOUT_FILENO, second) {
+    io::write_all(STDOUT_FILENO, second)
+}
+
+// Writes four buffers to standard output, and answers whether all went out.
+pub fn write_four(first: &[u8], second: &[u8], third: &[u8], fourth: &[u8]) -> bool {
+    if !write_two(first, second) {
         return false;
     }
-    if !io::write_all(STDOUT_FILENO, third) {
-        return false;
-    }
-    io::write_all(STDOUT_FILENO, fourth)
+    write_two(third, fourth)
 }
 
 // A mode's length of a buffer that is as long as any mode asks; the buffer's own length bounds it, so that a part of that length can be lent.

@@ -1,4 +1,4 @@
-// The two arguments of a run's program.
+// The arguments of a run's program.
 use libc::STDERR_FILENO;
 use operands::Operand;
 ghost use mathlib.Core.Path.{_≡_};
@@ -44,9 +44,16 @@ fn operand(i: usize) -> Operand {
     operands::decimal(&text[..n])
 }
 
-// The arguments MODE and COUNT with which the program was started.
-pub fn read_arguments() -> Arguments {
-    if os::arg_count() != 3 {
+// Whether an argument of the program is this word.
+pub fn argument_is(i: usize, word: &[u8]) -> bool {
+    let mut text = io::buffer();
+    let n = os::arg(i, &mut text);
+    bits::same(&text[..n], word)
+}
+
+// The arguments MODE and COUNT of a program that must have been started with this many words, its own name the first.
+pub fn read_arguments(words: usize) -> Arguments {
+    if os::arg_count() != words {
         return Arguments::Wrong;
     }
     let mode = operand(1);
@@ -55,8 +62,8 @@ pub fn read_arguments() -> Arguments {
 }
 
 // Says how the program is started.
-pub fn usage(name: &[u8]) {
+pub fn usage(line: &[u8]) {
     io::write_all(STDERR_FILENO, b"usage: ");
-    io::write_all(STDERR_FILENO, name);
-    io::write_all(STDERR_FILENO, b" MODE COUNT\n");
+    io::write_all(STDERR_FILENO, line);
+    io::write_all(STDERR_FILENO, b"\n");
 }

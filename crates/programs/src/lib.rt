@@ -6,11 +6,20 @@ pub use buffers::Four;
 pub use buffers::read_four;
 pub use buffers::within;
 pub use buffers::write_four;
+pub use buffers::write_two;
 pub use command_line::Arguments;
+pub use command_line::argument_is;
 pub use command_line::read_arguments;
 pub use command_line::usage;
 use libc::STDERR_FILENO;
+use runs::State;
 ghost use Prim.Native.Nat.{_<_};
+
+// The state after an L1 frame, and whether to go on.
+pub struct Step {
+    pub state: State,
+    pub go_on: bool,
+}
 
 // How many L1 frames are left after one more: none where the run does not go on.
 pub fn left_after(left: u64, go_on: bool) -> u64

@@ -1,12 +1,7 @@
 // sender MODE COUNT: reads the transfer frames of COUNT L1 frames, each P1, PIDS, P3, P4, and writes for each its PM, PX1, PX2 and control.
 use programs::Arguments;
+use programs::Step;
 use runs::State;
-
-// The state after a sending, and whether to go on.
-struct Step {
-    state: State,
-    go_on: bool,
-}
 
 // Sends L1 frame `frame`.
 fn send_one(
@@ -166,8 +161,8 @@ fn run(mode: u8, count: u64) {
 }
 
 fn main() {
-    match programs::read_arguments() {
+    match programs::read_arguments(3) {
         Arguments::Run { mode, count } => run(mode, count),
-        Arguments::Wrong => programs::usage(b"sender"),
+        Arguments::Wrong => programs::usage(b"sender MODE COUNT"),
     }
 }
