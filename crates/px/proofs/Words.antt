@@ -1,25 +1,24 @@
 -- What the code's shifts, masks and products are, over the two kinds. Assumes nothing.
 use mathlib.Core.Path.{_≡_, refl}
-use mathlib.Core.List.{[], _∷_}
 use Prim.Native.Nat.{ℕ, zero, suc, _+_, _-_, _*_, _/_, _%_, _^_, _≤_, _<_}
-use native.Mathlib.Nat.{mul-le-mul, div-le-self, le-trans, div-add-mod'}
+use native.Mathlib.Nat.{mul-le-mul, div-le-self, le-trans, mod-lt, div-add-mod'}
 use native.Mathlib.Omega.{arith}
-use lib.ListN.{getD}
 use lib.Bits.{bitAnd, and-mask}
 use Rattle.interleaving.specs.PX.{partitions, runs}
 use Rattle.interleaving.proofs.PXKinds.{kind-is}
 
 -- M is a power of two
-pub bits-of-M : (kind : ℕ) → kind < 2 → (2 ^ getD (2 ∷ 1 ∷ []) kind 0 ≡ runs kind) × (getD (2 ∷ 1 ∷ []) kind 0 < 3)
+pub bits-of-M : (kind : ℕ) → kind < 2 → 2 ^ (2 - kind) ≡ runs kind
 unfolding runs
-bits-of-M zero h = (refl, omega arith)
-bits-of-M (suc zero) h = (refl, omega arith)
+bits-of-M zero h = refl
+bits-of-M (suc zero) h = refl
 bits-of-M (suc (suc kind)) h = absurd (omega arith)
 
-pub mask-of-M : (kind : ℕ) → kind < 2 → (x : ℕ) → bitAnd x (runs kind - 1) ≡ x % runs kind
-mask-of-M kind h x =
-    let k : ℕ = getD (2 ∷ 1 ∷ []) kind 0 in
-    rw (bits-of-M kind h .0) at (and-mask x k)
+pub mask-of-M : (kind : ℕ) → kind < 2 → (x m : ℕ) → m ≡ runs kind → (bitAnd x (m - 1) ≡ x % runs kind) × (bitAnd x (m - 1) < 4)
+mask-of-M kind h x m m-is =
+    let e : bitAnd x (m - 1) ≡ x % runs kind = rw m-is (rw (bits-of-M kind h) at (and-mask x (2 - kind))) in
+    let K = kind-is kind h in
+    (e, rw e (omega (arith, mod-lt x (K .M-pos), K .M-le)))
 
 -- 36 * J columns are 72 or 144
 pub row-of-is : (kind : ℕ) → kind < 2 → (c : ℕ) → c / 72 / 2 ^ kind ≡ c / (partitions kind * 36)
@@ -27,6 +26,13 @@ unfolding partitions
 row-of-is zero h c = omega arith
 row-of-is (suc zero) h c = omega arith
 row-of-is (suc (suc kind)) h c = omega arith
+
+-- a round has 288 or 576 bytes
+pub rounds-is : (kind : ℕ) → kind < 2 → (j : ℕ) → j / 288 / 2 ^ kind ≡ j / (144 * partitions kind)
+unfolding partitions
+rounds-is zero h j = omega arith
+rounds-is (suc zero) h j = omega arith
+rounds-is (suc (suc kind)) h j = omega arith
 
 -- the column of a cell, y its row
 pub column-is : (kind c y j : ℕ) → y ≡ c / (partitions kind * 36) → j ≡ partitions kind → c - y * (j * 36) ≡ c % (partitions kind * 36)

@@ -1,37 +1,38 @@
 // The PX interleaving process (section 10.4.2): Interleaver IV over an internal matrix that takes the coded bits of two L1 frames.
 ghost use mathlib.Core.Path.{_≡_};
-ghost use Prim.Native.Nat.{_+_, _*_, _/_, _%_, _<_, _≤_};
+ghost use mathlib.Core.List.{List};
+ghost use Prim.Native.Nat.{ℕ, _+_, _*_, _/_, _%_, _<_, _≤_};
 ghost use lib.ListN.{length};
-ghost use Rattle.bits.specs.Bits.{bitAt, packed, put};
+ghost use Rattle.bits.specs.Bits.{bitAt, packed, byteOf};
 ghost use Rattle.interleaving.specs.InverseIV.{missed as «missed-of», count, index};
 ghost use Rattle.interleaving.specs.PX.{partitions as «partitions-of», runs as «runs-of», codedBytes, codedBits, cells};
 ghost use Rattle.interleaving.specs.PX.{place as «place-of», stepOf, after, read, later as «later-of», isFill, firstFill};
 ghost use Rattle.interleaving.specs.FinderPX.{source as «source-of»};
 ghost use Rattle.px.specs.Entries.{entry as «entry-of»};
+ghost use Rattle.px.specs.Rounds.{FirstRound};
 
-// Tables 10-15 and 10-16: J, M and its digits, and the bytes of an L1 frame's coded bits. Kind 0 is MP2, and kind 1 is MP3 and MP11.
-const J: [usize; 2] = [2, 4];
-
-const M: [usize; 2] = [4, 2];
-
-const M_BITS: [usize; 2] = [2, 1];
-
-const BYTES: [usize; 2] = [4608, 9216];
+// Tables 10-15 and 10-16: kind 0 is MP2, and kind 1 is MP3 and MP11. Their numbers are picked by a test, since an array would be stored anew at each use.
 
 // J, the number of partitions.
 fn partitions(kind: usize) -> usize
     requires { ⌜ kind < 2 ⌝ }
     ensures { λ r. ⌜ (r ≡ «partitions-of» kind) × (0 < r) × (r ≤ 4) ⌝ }
 {
-    J[kind]
+    if kind == 0 {
+        return 2;
+    }
+    4
 }
 
-// M, the length of a run of bits that go to one partition.
+// M, the length of a run of bits that go to one partition: 2 to the power 2 - kind, so that a shift divides by it and a mask gives the remainder.
 fn runs(kind: usize) -> usize
     requires { ⌜ kind < 2 ⌝ }
     ensures { λ r. ⌜ (r ≡ «runs-of» kind) × (0 < r) × (r ≤ 4) ⌝ }
 {
-    M[kind]
+    if kind == 0 {
+        return 4;
+    }
+    2
 }
 
 // The coded bits of an L1 frame.
@@ -39,23 +40,10 @@ fn coded_bits(kind: usize) -> usize
     requires { ⌜ kind < 2 ⌝ }
     ensures { λ r. ⌜ (r ≡ codedBits kind) × (r ≤ 73728) ⌝ }
 {
-    8 * BYTES[kind]
-}
-
-// x / M, by a shift.
-fn whole_runs(kind: usize, x: usize) -> usize
-    requires { ⌜ kind < 2 ⌝ }
-    ensures { λ r. ⌜ r ≡ x / «runs-of» kind ⌝ }
-{
-    x >> M_BITS[kind]
-}
-
-// x % M, by a mask.
-fn rest_of_run(kind: usize, x: usize) -> usize
-    requires { ⌜ kind < 2 ⌝ }
-    ensures { λ r. ⌜ (r ≡ x % «runs-of» kind) × (r < 4) ⌝ }
-{
-    x & (runs(kind) - 1)
+    if kind == 0 {
+        return 36864;
+    }
+    73728
 }
 
 // The steps that the partition p misses at the start: with the offset of 10.2.6.1, partition 0 begins within a run.
@@ -75,7 +63,7 @@ fn counter(kind: usize, p: usize, x: usize) -> usize
     ensures { λ r. ⌜ r + «missed-of» («runs-of» kind) p ≡ x / 8 * «runs-of» kind + x % «runs-of» kind ⌝ }
 {
     let m = runs(kind);
-    x / 8 * m + rest_of_run(kind, x) - missed(m, p)
+    x / 8 * m + (x & (m - 1)) - missed(m, p)
 }
 
 // 10.2.6.2 to 10.2.6.4: the cell of the entry n of the partition p.
@@ -95,7 +83,7 @@ pub fn place(kind: usize, i: usize) -> usize
     ensures { λ r. ⌜ r ≡ «place-of» kind i ⌝ }
 {
     let x = i + 2 * (runs(kind) / 4);
-    let p = whole_runs(kind, x % 8);
+    let p = (x % 8) >> (2 - kind);
     entry(kind, p, counter(kind, p, x))
 }
 
@@ -115,24 +103,16 @@ fn step(kind: usize, p: usize, n: usize) -> usize
 {
     let m = runs(kind);
     let x = n + missed(m, p);
-    let q = whole_runs(kind, x);
-    (q * partitions(kind) + p) * m + rest_of_run(kind, x) - 2 * (m / 4)
+    let q = x >> (2 - kind);
+    (q * partitions(kind) + p) * m + (x & (m - 1)) - 2 * (m / 4)
 }
 
-// The row of the internal matrix that the cell c stands in: it has 36 * J columns, 72 or 144.
-fn row_of(kind: usize, c: usize) -> usize
-    requires { ⌜ kind < 2 ⌝ }
-    ensures { λ r. ⌜ r ≡ c / («partitions-of» kind * 36) ⌝ }
-{
-    (c / 72) >> kind
-}
-
-// 10.2.6 turned round: the step that writes the cell c.
+// 10.2.6 turned round: the step that writes the cell c, in the row y of 36 * J cells, 72 or 144.
 pub fn source(kind: usize, c: usize) -> usize
     requires { ⌜ (kind < 2) × (c < cells kind) ⌝ }
     ensures { λ r. ⌜ r ≡ «source-of» kind c ⌝ }
 {
-    let y = row_of(kind, c);
+    let y = (c / 72) >> kind;
     let x = c - y * (partitions(kind) * 36);
     let p = x / 36;
     step(kind, p, entry_at(p, y / 32, y % 32, x % 36))
@@ -144,35 +124,6 @@ fn step_of(kind: usize, half: usize, j: usize) -> usize
     ensures { λ r. ⌜ (r ≡ stepOf kind half j) × (r < cells kind) ⌝ }
 {
     half * coded_bits(kind) + j
-}
-
-// 10.2.2.2, the step i of the internal matrix: writes the bit b to its cell, and then reads the cell i.
-fn exchange(kind: usize, i: usize, b: u8, memory: &mut [u8]) -> u8
-    requires { ⌜ (kind < 2) × (i < cells kind) × (b < 2) × (length (now memory) ≡ 2 * codedBytes kind) ⌝ }
-    ensures { λ _. ⌜ bitAt (now (memory .exit)) ≡ put («place-of» kind i) b (bitAt (now (memory .entry))) ⌝ }
-    ensures { λ r. ⌜ (r ≡ put («place-of» kind i) b (bitAt (now (memory .entry))) i) × (r < 2) ⌝ }
-{
-    let c = place(kind, i);
-    bits::put(memory, c, b);
-    bits::get(memory, i)
-}
-
-// 10.2.2.2, one L1 frame through the internal matrix: each step writes a coded bit and then reads one.
-pub fn pass(kind: usize, half: usize, coded: &[u8], memory: &mut [u8], px: &mut [u8])
-    requires { ⌜ (kind < 2) × (half < 2) ⌝ }
-    requires { ⌜ (length (now coded) ≡ codedBytes kind) × (length (now memory) ≡ 2 * codedBytes kind) × (length (now px) ≡ codedBytes kind) ⌝ }
-    ensures { λ _. ⌜ now (memory .exit) ≡ packed (2 * codedBytes kind) (after kind half (bitAt (now (coded .entry))) (bitAt (now (memory .entry))) (codedBits kind)) ⌝ }
-    ensures { λ _. ⌜ now (px .exit) ≡ packed (codedBytes kind) (read kind half (bitAt (now (coded .entry))) (bitAt (now (memory .entry)))) ⌝ }
-{
-    let n = coded_bits(kind);
-    let mut j = 0;
-    while j < n {
-        let step = step_of(kind, half, j);
-        let bit = bits::get(coded, j);
-        let read = exchange(kind, step, bit, memory);
-        bits::put(px, j, read);
-        j += 1;
-    }
 }
 
 // Where the coded bit j of an L1 frame stands in its matrix and the two that follow, laid end to end.
@@ -188,17 +139,109 @@ fn later(kind: usize, half: usize, j: usize) -> usize
     j + (c - i)
 }
 
+// Where the coded bits of an L1 frame's first round stand. In a round each partition takes 1152 entries, and the next round's cells are the same ones of
+// the blocks that follow.
+fn first_round(kind: usize, half: usize) -> [usize; 4608]
+    requires { ⌜ (kind < 2) × (half < 2) ⌝ }
+    ensures { λ r. ⌜ FirstRound kind half r ⌝ }
+{
+    let mut at = [0; 4608];
+    let n = 1152 * partitions(kind);
+    let mut t = 0;
+    while t < n {
+        at[t] = later(kind, half, t);
+        t += 1;
+    }
+    at
+}
+
+// Where the bit u of the byte j of an L1 frame's coded bits stands: as far on in its round as in the first. A round has 288 or 576 bytes.
+fn later_in_byte(kind: usize, half: usize, at: &[usize; 4608], j: usize, u: usize) -> usize
+    requires { ⌜ (kind < 2) × (half < 2) × (j < codedBytes kind) × (u < 8) × FirstRound kind half (now at) ⌝ }
+    ensures { λ r. ⌜ (r ≡ «later-of» kind half (8 * j + u)) × (r < 3 * codedBits kind) ⌝ }
+{
+    let s = ((j / 288) >> kind) * (1152 * partitions(kind));
+    at[8 * j + u - s] + s
+}
+
+// The cell that the bit u of the byte j of an L1 frame's coded bits is written to.
+fn cell_in_byte(kind: usize, half: usize, at: &[usize; 4608], j: usize, u: usize) -> usize
+    requires { ⌜ (kind < 2) × (half < 2) × (j < codedBytes kind) × (u < 8) × FirstRound kind half (now at) ⌝ }
+    ensures { λ r. ⌜ (r ≡ «place-of» kind (stepOf kind half (8 * j + u))) × (r < cells kind) ⌝ }
+{
+    let n = coded_bits(kind);
+    let c = half * n + later_in_byte(kind, half, at, j, u);
+    if c < 2 * n {
+        return c;
+    }
+    c - 2 * n
+}
+
+// 10.2.2.2, the eight steps of the byte j of an L1 frame: each writes its coded bit, and then reads the cell of its own number. The bits read, as a byte.
+fn exchange_byte(
+    kind: usize,
+    half: usize,
+    at: &[usize; 4608],
+    j: usize,
+    coded: &[u8],
+    memory: &mut [u8],
+) -> u8
+    requires { ⌜ (kind < 2) × (half < 2) × (j < codedBytes kind) × FirstRound kind half (now at) ⌝ }
+    requires { ⌜ (length (now coded) ≡ codedBytes kind) × (length (now memory) ≡ 2 * codedBytes kind) ⌝ }
+    ensures { λ r. ⌜ ((m : List ℕ) → bitAt (now (memory .entry)) ≡ after kind half (bitAt (now (coded .entry))) (bitAt m) (8 * j) → (bitAt (now (memory .exit)) ≡ after kind half (bitAt (now (coded .entry))) (bitAt m) (8 * j + 8)) × (r ≡ byteOf (read kind half (bitAt (now (coded .entry))) (bitAt m)) j)) ⌝ }
+{
+    let mut a: u8 = 0;
+    let mut u = 0;
+    while u < 8 {
+        let i = step_of(kind, half, 8 * j + u);
+        let c = cell_in_byte(kind, half, at, j, u);
+        let b = bits::get(coded, 8 * j + u);
+        bits::put(memory, c, b);
+        a = (a << 1) | bits::get(memory, i);
+        u += 1;
+    }
+    a
+}
+
+// 10.2.2.2, one L1 frame through the internal matrix: each step writes a coded bit and then reads one.
+pub fn pass(kind: usize, half: usize, coded: &[u8], memory: &mut [u8], px: &mut [u8])
+    requires { ⌜ (kind < 2) × (half < 2) ⌝ }
+    requires { ⌜ (length (now coded) ≡ codedBytes kind) × (length (now memory) ≡ 2 * codedBytes kind) × (length (now px) ≡ codedBytes kind) ⌝ }
+    ensures { λ _. ⌜ now (memory .exit) ≡ packed (2 * codedBytes kind) (after kind half (bitAt (now (coded .entry))) (bitAt (now (memory .entry))) (codedBits kind)) ⌝ }
+    ensures { λ _. ⌜ now (px .exit) ≡ packed (codedBytes kind) (read kind half (bitAt (now (coded .entry))) (bitAt (now (memory .entry)))) ⌝ }
+{
+    let at = first_round(kind, half);
+    let mut j = 0;
+    while j < px.len() {
+        px[j] = exchange_byte(kind, half, &at, j, coded, memory);
+        j += 1;
+    }
+}
+
+// The byte j of an L1 frame's coded bits out of its matrix and the two that follow.
+fn gather_byte(kind: usize, half: usize, at: &[usize; 4608], j: usize, three: &[u8]) -> u8
+    requires { ⌜ (kind < 2) × (half < 2) × (j < codedBytes kind) × FirstRound kind half (now at) × (length (now three) ≡ 3 * codedBytes kind) ⌝ }
+    ensures { λ r. ⌜ r ≡ byteOf (λ i. bitAt (now (three .entry)) («later-of» kind half i)) j ⌝ }
+{
+    let mut a: u8 = 0;
+    let mut u = 0;
+    while u < 8 {
+        let n = later_in_byte(kind, half, at, j, u);
+        a = (a << 1) | bits::get(three, n);
+        u += 1;
+    }
+    a
+}
+
 // The coded bits of an L1 frame out of its matrix and the two that follow, laid end to end.
 pub fn gather(kind: usize, half: usize, three: &[u8], coded: &mut [u8])
     requires { ⌜ (kind < 2) × (half < 2) × (length (now three) ≡ 3 * codedBytes kind) × (length (now coded) ≡ codedBytes kind) ⌝ }
     ensures { λ _. ⌜ now (coded .exit) ≡ packed (codedBytes kind) (λ j. bitAt (now (three .entry)) («later-of» kind half j)) ⌝ }
 {
-    let n = coded_bits(kind);
+    let at = first_round(kind, half);
     let mut j = 0;
-    while j < n {
-        let p = later(kind, half, j);
-        let b = bits::get(three, p);
-        bits::put(coded, j, b);
+    while j < coded.len() {
+        coded[j] = gather_byte(kind, half, &at, j, three);
         j += 1;
     }
 }
@@ -208,9 +251,9 @@ fn is_fill(kind: usize, half: usize, px: &[u8], j: usize) -> bool
     requires { ⌜ (kind < 2) × (half < 2) × (length (now px) ≡ codedBytes kind) × (j < codedBits kind) ⌝ }
     ensures { λ r. ⌜ r ≡ isFill kind half (bitAt (now (px .entry))) j ⌝ }
 {
-    let i = step_of(kind, half, j);
-    if i < source(kind, i) {
-        return bits::get(px, j) == 1;
+    if bits::get(px, j) == 1 {
+        let i = step_of(kind, half, j);
+        return i < source(kind, i);
     }
     false
 }

@@ -1,67 +1,48 @@
--- `px::gather` meets its contract. The loop's invariant: the first j bits are read. Assumes nothing.
-use mathlib.Core.Path.{_≡_, refl, ap, _∙_}
-use Prim.Native.Nat.{_≤_, _-_}
+-- `px::gather` meets its contract. The loop's invariant: the first j bytes are stored. Assumes nothing.
+use Prim.Native.Nat.{_-_}
 use native.Mathlib.Omega.{arith}
-use lib.ListN.{length}
-use Rattle.bits.specs.Bits.{Bytes, bitAt, written}
-use Rattle.bits.proofs.Written.{written-next}
-use Rattle.bits.proofs.Packed.{bitAt-lt, packed-in-order}
-use Rattle.interleaving.specs.PX.{codedBytes, later}
+use lib.ListN.{length, length-set}
+use Rattle.bits.specs.Bits.{bitAt}
+use Rattle.bits.proofs.Stores.{Stored, stored-none, stored-turn, stored-all}
+use Rattle.interleaving.specs.PX.{later}
 use borrow.Author.Needs.{needs}
 use Rattle.px.proofs.gather.Statement.{statement}
 use Rattle.px.proofs.gather.Tie as tie
 
 abbrev Inv-loop : tie.InvT-loop
-Inv-loop kind half three coded₀ n j₀ coded j =
-    (j ≤ n) × (length coded ≡ codedBytes kind) × Bytes coded
-    × (bitAt coded ≡ written (λ i. i) (λ i. bitAt three (later kind half i)) j (bitAt coded₀))
+Inv-loop kind half three coded₀ at j₀ coded j = Stored (length coded₀) (λ i. bitAt three (later kind half i)) coded j
 
 abbrev μ-loop : tie.MeasureT-loop
-μ-loop kind half three coded₀ n j₀ coded j = n - j
+μ-loop kind half three coded₀ at j₀ coded j = length coded - j
 
-coded-bits-requires : tie.Need-coded-bits-requires Inv-loop μ-loop
-coded-bits-requires c κs = search needs
+first-round-requires : tie.Need-first-round-requires Inv-loop μ-loop
+first-round-requires c κs = search needs
 
 loop-holds : tie.Need-loop-holds Inv-loop μ-loop
-unfolding written
-loop-holds c = (search needs, search needs, λ j. omega (arith, c .before .slice-known .given j), search needs)
+loop-holds c = stored-none _ _
 
-later-requires : tie.Need-later-requires Inv-loop μ-loop
-later-requires c κs = search needs
+gather-byte-requires : tie.Need-gather-byte-requires Inv-loop μ-loop
+gather-byte-requires c κs =
+    let pre = c .before .before .before .before .before .before .pre in
+    (pre .0, pre .1, omega arith, c .before .before .before .first-round .ensures, pre .2)
 
-get-requires : tie.Need-get-requires Inv-loop μ-loop
-get-requires c κs = search needs
-
-put-requires : tie.Need-put-requires Inv-loop μ-loop
-put-requires c κs =
-    let three = c .before .before .before .before .before .before .before .before .args .three .now in
-    omega (arith, bitAt-lt three (c .before .before .later .result))
+slice-write-coded : tie.Need-slice-write-coded Inv-loop μ-loop
+slice-write-coded c = search needs
 
 add-j : tie.Need-add-j Inv-loop μ-loop
 add-j c = search needs
 
 loop-less : tie.Need-loop-less Inv-loop μ-loop
-loop-less c = search needs
+loop-less c = simp length-set (omega arith)
 
 loop-again : tie.Need-loop-again Inv-loop μ-loop
-loop-again c =
-    let three = c .before .before .before .before .before .before .before .before .before .before .before .args .three .now in
-    let loop = c .before .before .before .before .before .before .before .loop in
-    let bit = c .before .before .before .before .get .ensures ∙ ap (bitAt three) (c .before .before .before .before .before .later .ensures .0) in (
-      search needs,
-      search needs,
-      λ j. omega (arith, c .slice-known2 .given j),
-      written-next (λ i. i) _ (loop .j) _ _ _ (loop .inv .3) refl bit (c .before .before .put .ensures),
-    )
+loop-again c = stored-turn _ (c .before .before .before .loop .inv) (c .before .before .loop-test .taken) (c .gather-byte .ensures)
 
 same-length : tie.Need-same-length Inv-loop μ-loop
 same-length c = search needs
 
 returns : tie.Need-returns Inv-loop μ-loop
-returns c =
-    let inv = c .before .loop .inv in
-    let kind = c .before .before .before .before .before .args .kind in
-    packed-in-order (codedBytes kind) _ _ (c .before .loop .j) _ (omega arith) (inv .1) (inv .2) (inv .3)
+returns c = rw (c .before .before .before .before .before .pre .3) at (stored-all (c .before .loop .inv) (c .loop-test .left))
 
 pub gather-spec : {M : Type 1} → statement M
 gather-spec =
@@ -69,11 +50,10 @@ gather-spec =
     (tie.spec
     Inv-loop
     μ-loop
-    coded-bits-requires
+    first-round-requires
     loop-holds
-    later-requires
-    get-requires
-    put-requires
+    gather-byte-requires
+    slice-write-coded
     add-j
     loop-less
     loop-again

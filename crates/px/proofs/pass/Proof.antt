@@ -1,79 +1,55 @@
--- `px::pass` meets its contract. The loop's invariant: the first j steps are taken. Assumes nothing.
-use mathlib.Core.Path.{_≡_, refl}
-use Prim.Native.Nat.{_≤_, _-_, _*_}
+-- `px::pass` meets its contract. The loop's invariant: the steps of the first j bytes are taken, and the bytes that they read are stored. Assumes nothing.
+use mathlib.Core.Path.{_≡_}
+use Prim.Native.Nat.{_+_, _-_, _*_}
 use native.Mathlib.Omega.{arith}
-use lib.ListN.{length}
-use Rattle.bits.specs.Bits.{Bytes, bitAt, written}
-use Rattle.bits.proofs.Written.{written-next}
-use Rattle.bits.proofs.Packed.{bitAt-lt, packed-as, packed-in-order}
+use lib.ListN.{length, length-set}
+use Rattle.bits.specs.Bits.{Bytes, bitAt}
+use Rattle.bits.proofs.Packed.{packed-as}
+use Rattle.bits.proofs.Stores.{Stored, stored-none, stored-turn, stored-all}
 use Rattle.interleaving.specs.PX.{codedBytes, codedBits, after, read}
 use Rattle.interleaving.proofs.Steps.{after-none}
-use Rattle.px.proofs.Frames.{after-next, read-next}
 use borrow.Author.Needs.{needs}
 use Rattle.px.proofs.pass.Statement.{statement}
 use Rattle.px.proofs.pass.Tie as tie
 
 abbrev Inv-loop : tie.InvT-loop
-Inv-loop kind half coded memory₀ px₀ n j₀ memory px j =
-    (j ≤ n) × (length memory ≡ 2 * codedBytes kind) × (length px ≡ codedBytes kind) × Bytes memory × Bytes px
-    × (bitAt memory ≡ after kind half (bitAt coded) (bitAt memory₀) j)
-    × (bitAt px ≡ written (λ i. i) (read kind half (bitAt coded) (bitAt memory₀)) j (bitAt px₀))
+Inv-loop kind half coded memory₀ px₀ at j₀ memory px j =
+    (length memory ≡ 2 * codedBytes kind) × Bytes memory × (bitAt memory ≡ after kind half (bitAt coded) (bitAt memory₀) (8 * j))
+    × Stored (length px₀) (read kind half (bitAt coded) (bitAt memory₀)) px j
 
 abbrev μ-loop : tie.MeasureT-loop
-μ-loop kind half coded memory₀ px₀ n j₀ memory px j = n - j
+μ-loop kind half coded memory₀ px₀ at j₀ memory px j = length px - j
 
-coded-bits-requires : tie.Need-coded-bits-requires Inv-loop μ-loop
-coded-bits-requires c κs = search needs
+first-round-requires : tie.Need-first-round-requires Inv-loop μ-loop
+first-round-requires c κs = search needs
 
 loop-holds : tie.Need-loop-holds Inv-loop μ-loop
-unfolding written
-loop-holds c = (
-  search needs,
-  search needs,
-  search needs,
-  λ j. omega (arith, c .before .before .slice-known .given j),
-  λ j. omega (arith, c .before .slice-known2 .given j),
-  rw after-none,
-  search needs,
-)
+loop-holds c = (search needs, λ j. omega (arith, c .before .before .slice-known .given j), rw after-none, stored-none _ _)
 
-step-of-requires : tie.Need-step-of-requires Inv-loop μ-loop
-step-of-requires c κs = search needs
+exchange-byte-requires : tie.Need-exchange-byte-requires Inv-loop μ-loop
+exchange-byte-requires c κs =
+    let pre = c .before .before .before .before .before .before .before .before .pre in
+    ((pre .0 .0, pre .0 .1, omega arith, c .before .before .before .before .first-round .ensures), (pre .1 .0, omega arith))
 
-get-requires : tie.Need-get-requires Inv-loop μ-loop
-get-requires c κs = search needs
-
-exchange-requires : tie.Need-exchange-requires Inv-loop μ-loop
-exchange-requires c κs =
-    let coded = c .before .before .before .before .before .before .before .before .before .args .coded .now in
-    omega (arith, bitAt-lt coded (c .before .before .before .before .loop .j))
-
-put-requires : tie.Need-put-requires Inv-loop μ-loop
-put-requires c κs = search needs
+slice-write-px : tie.Need-slice-write-px Inv-loop μ-loop
+slice-write-px c = search needs
 
 add-j : tie.Need-add-j Inv-loop μ-loop
 add-j c = search needs
 
 loop-less : tie.Need-loop-less Inv-loop μ-loop
-loop-less c = search needs
+loop-less c = simp length-set (omega arith)
 
 loop-again : tie.Need-loop-again Inv-loop μ-loop
 loop-again c =
-    let a = c .before .before .before .before .before .before .before .before .before .before .before .before .before .before .before .before .args in
-    let loop = c .before .before .before .before .before .before .before .before .before .before .before .loop in
-    let inv = loop .inv in
-    let step = c .before .before .before .before .before .before .before .before .before .step-of .ensures .0 in
-    let bit = c .before .before .before .before .before .before .before .before .get .ensures in
-    let exchange = c .before .before .before .before .before .before .exchange .ensures in
-    let next = after-next (a .kind) (a .half) (bitAt (a .coded .now)) (bitAt (a .memory .now)) _ (loop .j) _ _ (inv .5) step bit (exchange .0) in
-    let read = read-next (a .kind) (a .half) (bitAt (a .coded .now)) (bitAt (a .memory .now)) _ (loop .j) _ _ (inv .5) step bit (exchange .1 .0) in (
+    let loop = c .before .before .before .before .before .before .loop in
+    let memory = c .before .before .before .before .before .before .before .before .before .before .before .args .memory .now in
+    let next : 8 * (loop .j + 1) ≡ 8 * loop .j + 8 = omega arith in
+    let exchanged = c .before .before .exchange-byte .ensures memory (loop .inv .2) in (
       search needs,
-      search needs,
-      search needs,
-      λ j. omega (arith, c .before .before .before .before .slice-known3 .given j),
-      λ j. omega (arith, c .slice-known4 .given j),
-      next,
-      written-next (λ i. i) _ (loop .j) _ _ _ (inv .6) refl read (c .before .before .put .ensures),
+      λ j. omega (arith, c .slice-known3 .given j),
+      rw next (exchanged .0),
+      stored-turn _ (loop .inv .3) (c .before .before .before .before .before .loop-test .taken) (exchanged .1),
     )
 
 same-length : tie.Need-same-length Inv-loop μ-loop
@@ -85,10 +61,11 @@ same-length-2 c = search needs
 returns : tie.Need-returns Inv-loop μ-loop
 returns c =
     let inv = c .before .loop .inv in
-    let kind = c .before .before .before .before .before .before .args .kind in
-    let all : c .before .loop .j ≡ codedBits kind = omega arith in (
-      packed-as (2 * codedBytes kind) _ _ (inv .1) (inv .3) (rw all at (inv .5)),
-      packed-in-order (codedBytes kind) _ _ (c .before .loop .j) _ all (inv .2) (inv .4) (inv .6),
+    let entry = c .before .before .before .before .before .before in
+    let kind = entry .args .kind in
+    let all : 8 * c .before .loop .j ≡ codedBits kind = omega (arith, inv .3 .inside, inv .3 .long) in (
+      packed-as (2 * codedBytes kind) _ _ (inv .0) (inv .1) (rw all at (inv .2)),
+      rw (entry .pre .1 .2) at (stored-all (inv .3) (c .loop-test .left)),
     )
 
 pub pass-spec : {M : Type 1} → statement M
@@ -97,12 +74,10 @@ pass-spec =
     (tie.spec
     Inv-loop
     μ-loop
-    coded-bits-requires
+    first-round-requires
     loop-holds
-    step-of-requires
-    get-requires
-    exchange-requires
-    put-requires
+    exchange-byte-requires
+    slice-write-px
     add-j
     loop-less
     loop-again

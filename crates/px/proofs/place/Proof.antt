@@ -1,9 +1,10 @@
 -- `px::place` meets its contract: the counter in closed form, and the law `place-is`. Assumes nothing.
 use mathlib.Core.Path.{_≡_, _∙_}
-use Prim.Native.Nat.{_+_, _*_, _/_, _%_}
+use Prim.Native.Nat.{_+_, _-_, _*_, _/_, _%_, _^_}
 use native.Mathlib.Omega.{arith}
 use Rattle.interleaving.specs.PX.{runs}
 use Rattle.interleaving.proofs.PXKinds.{kind-is, codedBytes-le}
+use Rattle.px.proofs.Words.{bits-of-M}
 use Rattle.px.proofs.Entries.{missed-le, part-lt, counter-lt, place-is}
 use borrow.Author.Needs.{needs}
 use Rattle.px.proofs.place.Statement.{statement}
@@ -18,41 +19,48 @@ mul-x c = search needs
 add-x : tie.Need-add-x
 add-x c = omega (arith, codedBytes-le (c .before .args .kind) (c .before .pre .0))
 
-whole-runs-requires : tie.Need-whole-runs-requires
-whole-runs-requires c κs = search needs
+sub-p : tie.Need-sub-p
+sub-p c = search needs
+
+shr-p : tie.Need-shr-p
+shr-p c = search needs
+
+-- the step with the offset: its partition by the shift, and what its counter comes to
+part-is : (c : tie.After-runs)
+    → let a = c .before .args in
+    (a .i + 2 * (c .runs .result / 4)) % 8 / 2 ^ (2 - a .kind) ≡ (a .i + 2 * (runs (a .kind) / 4)) % 8 / runs (a .kind)
+part-is c = rw (c .runs .ensures .0, bits-of-M (c .before .args .kind) (c .before .pre .0))
+
+sum-is : (c : tie.After-runs)
+    → let a = c .before .args in
+    let x = a .i + 2 * (c .runs .result / 4) in
+    let y = a .i + 2 * (runs (a .kind) / 4) in
+    x / 8 * runs (a .kind) + x % runs (a .kind) ≡ y / 8 * runs (a .kind) + y % runs (a .kind)
+sum-is c = rw (c .runs .ensures .0)
 
 counter-requires : tie.Need-counter-requires
 counter-requires c κs =
-    let entry = c .before .before in
-    let a = entry .args in
-    let M-is = c .before .runs .ensures .0 in
-    let p = c .whole-runs .result in
-    let p-is : p ≡ (a .i + 2 * (runs (a .kind) / 4)) % 8 / runs (a .kind) = rw M-is at (c .whole-runs .ensures) in (
+    let a = c .before .args in
+    let pre = c .before .pre in (
       search needs,
-      omega (arith, codedBytes-le (a .kind) (entry .pre .0)),
-      rw M-is (missed-le (a .kind) (entry .pre .0) (a .i) p p-is),
+      omega (arith, codedBytes-le (a .kind) (pre .0)),
+      omega (arith, sum-is c, missed-le (a .kind) (pre .0) (a .i) _ (part-is c)),
     )
 
 entry-requires : tie.Need-entry-requires
 entry-requires c κs =
-    let entry = c .before .before .before in
-    let a = entry .args in
-    let M-is = c .before .before .runs .ensures .0 in
-    let p = c .before .whole-runs .result in
-    let p-is : p ≡ (a .i + 2 * (runs (a .kind) / 4)) % 8 / runs (a .kind) = rw M-is at (c .before .whole-runs .ensures) in (
+    let a = c .before .before .args in
+    let pre = c .before .before .pre in (
       search needs,
-      omega (arith, part-lt (a .kind) (entry .pre .0) (a .i) p p-is, kind-is (a .kind) (entry .pre .0) .J-le),
-      counter-lt (a .kind) (entry .pre .0) (a .i) p p-is _ (rw M-is at (c .counter .ensures)) (entry .pre .1),
+      omega (arith, part-lt (a .kind) (pre .0) (a .i) _ (part-is (c .before)), kind-is (a .kind) (pre .0) .J-le),
+      counter-lt (a .kind) (pre .0) (a .i) _ (part-is (c .before)) _ (c .counter .ensures ∙ sum-is (c .before)) (pre .1),
     )
 
 returns : tie.Need-returns
 returns c =
-    let entry = c .before .before .before .before in
-    let a = entry .args in
-    let M-is = c .before .before .before .runs .ensures .0 in
-    let p = c .before .before .whole-runs .result in
-    let p-is : p ≡ (a .i + 2 * (runs (a .kind) / 4)) % 8 / runs (a .kind) = rw M-is at (c .before .before .whole-runs .ensures) in
-    c .entry .ensures ∙ place-is (a .kind) (entry .pre .0) (a .i) p p-is _ (rw M-is at (c .before .counter .ensures))
+    let a = c .before .before .before .args in
+    c .entry .ensures
+    ∙ place-is (a .kind) (c .before .before .before .pre .0) (a .i) _ (part-is (c .before .before)) _ (c .before .counter .ensures ∙ sum-is (c .before .before))
 
 pub place-spec : {M : Type 1} → statement M
 place-spec =
@@ -61,7 +69,8 @@ place-spec =
     runs-requires
     mul-x
     add-x
-    whole-runs-requires
+    sub-p
+    shr-p
     counter-requires
     entry-requires
     returns)
