@@ -11,17 +11,19 @@ ghost use Rattle.interleaving.specs.FinderPX.{source as «source-of»};
 ghost use Rattle.px.specs.Entries.{entry as «entry-of»};
 ghost use Rattle.px.specs.Rounds.{FirstRound};
 
-// Tables 10-15 and 10-16: kind 0 is MP2, and kind 1 is MP3 and MP11. Their numbers are picked by a test, since an array would be stored anew at each use.
+// Tables 10-15 and 10-16: J, M, and the bytes of an L1 frame's coded bits. Kind 0 is MP2, and kind 1 is MP3 and MP11.
+const J: [usize; 2] = [2, 4];
+
+const M: [usize; 2] = [4, 2];
+
+const BYTES: [usize; 2] = [4608, 9216];
 
 // J, the number of partitions.
 fn partitions(kind: usize) -> usize
     requires { ⌜ kind < 2 ⌝ }
     ensures { λ r. ⌜ (r ≡ «partitions-of» kind) × (0 < r) × (r ≤ 4) ⌝ }
 {
-    if kind == 0 {
-        return 2;
-    }
-    4
+    J[kind]
 }
 
 // M, the length of a run of bits that go to one partition: 2 to the power 2 - kind, so that a shift divides by it and a mask gives the remainder.
@@ -29,10 +31,7 @@ fn runs(kind: usize) -> usize
     requires { ⌜ kind < 2 ⌝ }
     ensures { λ r. ⌜ (r ≡ «runs-of» kind) × (0 < r) × (r ≤ 4) ⌝ }
 {
-    if kind == 0 {
-        return 4;
-    }
-    2
+    M[kind]
 }
 
 // The coded bits of an L1 frame.
@@ -40,10 +39,7 @@ fn coded_bits(kind: usize) -> usize
     requires { ⌜ kind < 2 ⌝ }
     ensures { λ r. ⌜ (r ≡ codedBits kind) × (r ≤ 73728) ⌝ }
 {
-    if kind == 0 {
-        return 36864;
-    }
-    73728
+    8 * BYTES[kind]
 }
 
 // The steps that the partition p misses at the start: with the offset of 10.2.6.1, partition 0 begins within a run.
@@ -139,33 +135,43 @@ fn later(kind: usize, half: usize, j: usize) -> usize
     j + (c - i)
 }
 
-// Where the coded bits of an L1 frame's first round stand. In a round each partition takes 1152 entries, and the next round's cells are the same ones of
-// the blocks that follow.
-fn first_round(kind: usize, half: usize) -> [usize; 4608]
+// The bits of a round, in which each partition takes 1152 entries. A test is quicker than a table here, which is used for every bit.
+fn round(kind: usize) -> usize
+    requires { ⌜ kind < 2 ⌝ }
+    ensures { λ r. ⌜ (r ≡ 1152 * «partitions-of» kind) × (r ≤ 4608) ⌝ }
+{
+    if kind == 0 {
+        return 2304;
+    }
+    4608
+}
+
+// Where the coded bits of an L1 frame's first round stand. The next round's cells are the same ones of the blocks that follow.
+fn first_round(kind: usize, half: usize) -> [u32; 4608]
     requires { ⌜ (kind < 2) × (half < 2) ⌝ }
     ensures { λ r. ⌜ FirstRound kind half r ⌝ }
 {
-    let mut at = [0; 4608];
-    let n = 1152 * partitions(kind);
+    let mut at = [0u32; 4608];
+    let n = round(kind);
     let mut t = 0;
     while t < n {
-        at[t] = later(kind, half, t);
+        at[t] = later(kind, half, t) as u32;
         t += 1;
     }
     at
 }
 
 // Where the bit u of the byte j of an L1 frame's coded bits stands: as far on in its round as in the first. A round has 288 or 576 bytes.
-fn later_in_byte(kind: usize, half: usize, at: &[usize; 4608], j: usize, u: usize) -> usize
+fn later_in_byte(kind: usize, half: usize, at: &[u32; 4608], j: usize, u: usize) -> usize
     requires { ⌜ (kind < 2) × (half < 2) × (j < codedBytes kind) × (u < 8) × FirstRound kind half (now at) ⌝ }
     ensures { λ r. ⌜ (r ≡ «later-of» kind half (8 * j + u)) × (r < 3 * codedBits kind) ⌝ }
 {
-    let s = ((j / 288) >> kind) * (1152 * partitions(kind));
-    at[8 * j + u - s] + s
+    let s = ((j / 288) >> kind) * round(kind);
+    at[8 * j + u - s] as usize + s
 }
 
 // The cell that the bit u of the byte j of an L1 frame's coded bits is written to.
-fn cell_in_byte(kind: usize, half: usize, at: &[usize; 4608], j: usize, u: usize) -> usize
+fn cell_in_byte(kind: usize, half: usize, at: &[u32; 4608], j: usize, u: usize) -> usize
     requires { ⌜ (kind < 2) × (half < 2) × (j < codedBytes kind) × (u < 8) × FirstRound kind half (now at) ⌝ }
     ensures { λ r. ⌜ (r ≡ «place-of» kind (stepOf kind half (8 * j + u))) × (r < cells kind) ⌝ }
 {
@@ -181,7 +187,7 @@ fn cell_in_byte(kind: usize, half: usize, at: &[usize; 4608], j: usize, u: usize
 fn exchange_byte(
     kind: usize,
     half: usize,
-    at: &[usize; 4608],
+    at: &[u32; 4608],
     j: usize,
     coded: &[u8],
     memory: &mut [u8],
@@ -219,7 +225,7 @@ pub fn pass(kind: usize, half: usize, coded: &[u8], memory: &mut [u8], px: &mut 
 }
 
 // The byte j of an L1 frame's coded bits out of its matrix and the two that follow.
-fn gather_byte(kind: usize, half: usize, at: &[usize; 4608], j: usize, three: &[u8]) -> u8
+fn gather_byte(kind: usize, half: usize, at: &[u32; 4608], j: usize, three: &[u8]) -> u8
     requires { ⌜ (kind < 2) × (half < 2) × (j < codedBytes kind) × FirstRound kind half (now at) × (length (now three) ≡ 3 * codedBytes kind) ⌝ }
     ensures { λ r. ⌜ r ≡ byteOf (λ i. bitAt (now (three .entry)) («later-of» kind half i)) j ⌝ }
 {

@@ -5,7 +5,7 @@ use native.Mathlib.Omega.{arith}
 use lib.ListN.{length, getD, length-set}
 use Rattle.bits.proofs.Stores.{set-more}
 use Rattle.interleaving.specs.PX.{later}
-use Rattle.interleaving.proofs.PXKinds.{codedBytes-is}
+use Rattle.interleaving.proofs.PXKinds.{codedBytes-is, codedBytes-le}
 use borrow.Author.Needs.{needs}
 use Rattle.px.proofs.first_round.Statement.{statement}
 use Rattle.px.proofs.first_round.Tie as tie
@@ -16,11 +16,8 @@ Inv-loop kind half at₀ n t₀ at t = (t ≤ n) × (length at ≡ 4608) × ((s 
 abbrev μ-loop : tie.MeasureT-loop
 μ-loop kind half at₀ n t₀ at t = n - t
 
-partitions-requires : tie.Need-partitions-requires Inv-loop μ-loop
-partitions-requires c κs = search needs
-
-mul-n : tie.Need-mul-n Inv-loop μ-loop
-mul-n c = search needs
+round-requires : tie.Need-round-requires Inv-loop μ-loop
+round-requires c κs = search needs
 
 loop-holds : tie.Need-loop-holds Inv-loop μ-loop
 loop-holds c = (search needs, search needs, λ s h. absurd (omega arith))
@@ -29,6 +26,9 @@ later-requires : tie.Need-later-requires Inv-loop μ-loop
 later-requires c κs =
     let kind = c .before .before .before .args .kind in
     omega (arith, codedBytes-is kind (c .before .before .before .pre .0))
+
+cast-at : tie.Need-cast-at Inv-loop μ-loop
+cast-at c = omega (arith, c .later .ensures .1, codedBytes-le (c .before .before .before .before .args .kind) (c .before .before .before .before .pre .0))
 
 mul-at : tie.Need-mul-at Inv-loop μ-loop
 mul-at c = search needs
@@ -58,10 +58,10 @@ first-round-spec =
     (tie.spec
     Inv-loop
     μ-loop
-    partitions-requires
-    mul-n
+    round-requires
     loop-holds
     later-requires
+    cast-at
     mul-at
     array-write-at
     add-t

@@ -15,23 +15,20 @@ use Rattle.px.proofs.later_in_byte.Tie as tie
 shr-s : tie.Need-shr-s
 shr-s c = search needs
 
-partitions-requires : tie.Need-partitions-requires
-partitions-requires c κs = search needs
-
-mul-s : tie.Need-mul-s
-mul-s c = search needs
+round-requires : tie.Need-round-requires
+round-requires c κs = search needs
 
 -- the steps before the round, as the code computes them
-abbrev start : tie.After-partitions → ℕ
-start c = c .before .args .j / 288 / 2 ^ c .before .args .kind * (1152 * c .partitions .result)
+abbrev start : tie.After-round → ℕ
+start c = c .before .args .j / 288 / 2 ^ c .before .args .kind * c .round .result
 
-start-is : (c : tie.After-partitions) → start c ≡ c .before .args .j / (144 * partitions (c .before .args .kind)) * (1152 * partitions (c .before .args .kind))
+start-is : (c : tie.After-round) → start c ≡ c .before .args .j / (144 * partitions (c .before .args .kind)) * (1152 * partitions (c .before .args .kind))
 start-is c =
     let a = c .before .args in
-    ap₂ (λ (q w : ℕ). q * (1152 * w)) (rounds-is (a .kind) (c .before .pre .0) (a .j)) (c .partitions .ensures .0)
+    ap₂ (λ (q w : ℕ). q * w) (rounds-is (a .kind) (c .before .pre .0) (a .j)) (c .round .ensures .0)
 
 -- the round begins at or before the byte, and the byte ends within it
-inside-round : (c : tie.After-partitions)
+inside-round : (c : tie.After-round)
     → (start c ≤ 8 * c .before .args .j) × (8 * c .before .args .j + c .before .args .u - start c < 1152 * partitions (c .before .args .kind))
 inside-round c =
     let a = c .before .args in
@@ -40,8 +37,8 @@ inside-round c =
       rest-lt (a .kind) (a .half) (a .j) (a .u) (start c) (pre .0) (pre .1) (pre .2) (pre .3) (start-is c),
     )
 
-mul-s-2 : tie.Need-mul-s-2
-mul-s-2 c = omega (arith, inside-round c .0, codedBytes-le (c .before .args .kind) (c .before .pre .0))
+mul-s : tie.Need-mul-s
+mul-s c = omega (arith, inside-round c .0, codedBytes-le (c .before .args .kind) (c .before .pre .0))
 
 mul-result : tie.Need-mul-result
 mul-result c = omega (arith, codedBytes-le (c .before .args .kind) (c .before .pre .0))
@@ -75,6 +72,9 @@ bound c =
     let a = c .before .before .args in
     later-lt (a .kind) (a .half) (8 * a .j + a .u) (omega arith)
 
+cast-result : tie.Need-cast-result
+cast-result c = omega (arith, sum c, bound c, codedBytes-le (c .before .before .args .kind) (c .before .before .pre .0))
+
 add-result-2 : tie.Need-add-result-2
 add-result-2 c = omega (arith, sum c, bound c, codedBytes-le (c .before .before .args .kind) (c .before .before .pre .0))
 
@@ -86,13 +86,13 @@ later-in-byte-spec =
     tie.close
     (tie.spec
     shr-s
-    partitions-requires
+    round-requires
     mul-s
-    mul-s-2
     mul-result
     add-result
     sub-result
     mul-result-2
     element-copy-out-result
+    cast-result
     add-result-2
     returns)
