@@ -21,6 +21,7 @@ pub mod OnceIV
 pub mod PXKinds
 pub mod OncePX
 pub mod Steps
+pub mod FoundPX
 pub mod Conv
 pub mod Frames
 pub mod Others
