@@ -1,11 +1,11 @@
 -- `decimal` meets its contract. The loop's invariant: the text from place i on, after the number so far, is the whole text. Assumes nothing.
 use mathlib.Core.Path.{_≡_, refl, sym, ap, _∙_}
-use mathlib.Core.Bool.{Bool, true, false, not}
+use mathlib.Core.Bool.{true, false, not}
 use mathlib.Core.List.{List, [], _∷_}
 use Prim.Native.Nat.{ℕ, suc, _+_, _-_, _*_, _≤_, _<_, min}
 use native.Mathlib.Numerals.{add-one}
 use native.Mathlib.Omega.{arith}
-use borrow.Author.Tests.{ltb-false}
+use borrow.Author.Tests.{ltb-false, not-false, not-true}
 use borrow.Author.Needs.{needs}
 use denote.Ref.{now}
 use lib.Dec.{ltb}
@@ -16,14 +16,6 @@ use Rattle.operands.specs.declared.Operand.the-variants.{Number, NotDeci
 use Rattle.operands.specs.Operands.{after, isDigit, limit, operandOf}
 use Rattle.operands.proofs.decimal.Statement.{statement}
 use Rattle.operands.proofs.decimal.Tie as tie
-
-not-true : (b : Bool) → not b ≡ true → b ≡ false
-not-true true e = sym e
-not-true false e = refl
-
-not-false : (b : Bool) → not b ≡ false → b ≡ true
-not-false true e = refl
-not-false false e = sym e
 
 at-least : (byte : ℕ) → isDigit byte ≡ true → 48 ≤ byte
 unfolding isDigit
