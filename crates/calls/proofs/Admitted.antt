@@ -16,7 +16,7 @@ use Rattle.runs.specs.declared.Extended.the-variants.{P3, P4}
 use Rattle.runs.specs.declared.Kind.{Kind}
 use Rattle.runs.specs.declared.State.{State}
 use Rattle.runs.specs.Answers.{numberOf}
-use Rattle.runs.specs.Causes.{Size, at, judge, when, wrong}
+use Rattle.runs.specs.Causes.{at, judge, when, wrong}
 use Rattle.runs.specs.Lengths.{kindOf, p1Len, pidsLen, pmLen, controlLen}
 use Rattle.runs.specs.Lent.{Lent, Memory}
 use Rattle.runs.specs.Starting.{aged, memorySizes, valid}

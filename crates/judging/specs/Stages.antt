@@ -1,9 +1,8 @@
 -- For the code alone: causes 4 to 8 of a reading, in the stages in which the code meets them.
 use mathlib.Core.Path.{_≡_}
 use mathlib.Core.Bool.{cond}
-use mathlib.Core.Option.{none}
 use mathlib.Core.List.{[], _∷_}
-use Prim.Native.Nat.{ℕ, _<_}
+use Prim.Native.Nat.{_<_}
 use lib.Dec.{ltb}
 use lib.ListN.{length}
 use Rattle.control.specs.Departs.{departs}

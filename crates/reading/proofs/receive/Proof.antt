@@ -1,5 +1,5 @@
 -- `receive` meets its contract: a refusal leaves everything, and a success leaves what the parts of the work ensure. Assumes nothing.
-use mathlib.Core.Path.{_≡_, sym, ap, _∙_}
+use mathlib.Core.Path.{sym, _∙_}
 use denote.Ref.{now}
 use native.Mathlib.Omega.{arith}
 use Rattle.runs.specs.Lent.{Lent, Memory}
