@@ -60,22 +60,25 @@ fn px_row<'a>(channel: u8, row: usize, px1: &'a [u8], px2: &'a [u8]) {
     text(b"\n");
 }
 
-pub fn rows() {
+pub fn pm_rows() {
     let pm = [0u8; 46080];
     let short = [0u8; 46079];
-    let px = [0u8; 9216];
-    let px_short = [0u8; 9215];
     pm_row(0, &pm);
     pm_row(511, &pm);
     pm_row(512, &pm);
     pm_row(511, &short);
+}
+
+pub fn px_rows() {
+    let px = [0u8; 9216];
+    let short = [0u8; 9215];
     px_row(3, 511, &px, &px);
     px_row(4, 511, &px, &px);
     px_row(2, 511, &px, &px);
     px_row(5, 511, &px, &px);
     px_row(3, 512, &px, &px);
-    px_row(3, 0, &px_short, &px);
-    px_row(3, 0, &px, &px_short);
+    px_row(3, 0, &short, &px);
+    px_row(3, 0, &px, &short);
 }
 
 // What a lookup tells of a block.
@@ -95,19 +98,23 @@ fn look_up(block: &[u8]) {
     text(b"\n");
 }
 
-// Block 13 of an L1 frame's control, then a byte too short and too long, and with a bit turned over.
-pub fn lookups(control: &mut [u8]) {
+// Block 13 of the control blocks of an L1 frame, then a byte too short and too long, and with its first bit turned over.
+fn look_up_13(control: &mut [u8]) {
     if control.len() < 3585 {
         return;
     }
-    text(b"look up block 13 of MP11");
+    text(b"look up block 13");
     look_up(&control[3328..3584]);
     text(b"look up 255 bytes of it");
     look_up(&control[3328..3583]);
     text(b"look up 257 bytes from it on");
     look_up(&control[3328..3585]);
-    text(b"look up it with its first bit turned over");
+    text(b"look up it with a bit turned over");
     turn_over(control, 26624);
     look_up(&control[3328..3584]);
-    turn_over(control, 26624);
+}
+
+// The same of control blocks whose length is known.
+pub fn lookups(control: &mut [u8; 4096]) {
+    look_up_13(control);
 }

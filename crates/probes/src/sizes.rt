@@ -1,52 +1,13 @@
-// Calls that are refused for their state or for a length, and the control sequences that a sending writes.
-use crate::called;
+// Calls that are refused for their state or for a length.
+use crate::called::Call;
+use crate::called::probe;
 use crate::lines::count;
 use crate::lines::numbers;
 use crate::lines::text;
 use runs::State;
 
-enum Task {
-    Send,
-    Read,
-    SendControl,
-}
-
-// Does a task on the buffers lent.
-fn perform(
-    task: Task,
-    state: State,
-    p1: &mut [u8],
-    pids: &mut [u8],
-    p3: &mut [u8],
-    p4: &mut [u8],
-    pm: &mut [u8],
-    px1: &mut [u8],
-    px2: &mut [u8],
-    control: &mut [u8],
-    m3: &mut [u8],
-    m4: &mut [u8],
-) {
-    match task {
-        Task::Send => called::send(state, p1, pids, p3, p4, pm, px1, px2, control, m3, m4),
-        Task::Read => called::read(state, p1, pids, p3, p4, pm, px1, px2, control, m3, m4),
-        Task::SendControl => called::send_control(
-            state,
-            p1,
-            pids,
-            p3,
-            p4,
-            pm,
-            px1,
-            px2,
-            control,
-            m3,
-            m4,
-        ),
-    }
-}
-
-// Does a task on ten buffers of these lengths, each at most a byte longer than MP11 asks.
-fn lend(task: Task, state: State, n: [usize; 10]) {
+// A call on ten buffers of these lengths, each at most a byte longer than MP11 asks.
+fn lend(call: Call, state: State, n: [usize; 10]) {
     let mut p1 = [90u8; 18273];
     let mut pids = [90u8; 161];
     let mut p3 = [90u8; 4609];
@@ -67,8 +28,8 @@ fn lend(task: Task, state: State, n: [usize; 10]) {
     let h = programs::within(n[7], &control);
     let i = programs::within(n[8], &m3);
     let j = programs::within(n[9], &m4);
-    perform(
-        task,
+    probe(
+        call,
         state,
         &mut p1[..a],
         &mut pids[..b],
@@ -81,25 +42,6 @@ fn lend(task: Task, state: State, n: [usize; 10]) {
         &mut m3[..i],
         &mut m4[..j],
     );
-}
-
-// The control sequences of a mode.
-fn control_of(mode: u8) {
-    let state = State {
-        mode,
-        half: 0,
-        age: 0,
-    };
-    text(b"control of mode ");
-    count(mode as usize);
-    lend(Task::SendControl, state, layer1::sender_lengths(mode));
-}
-
-pub fn controls() {
-    control_of(1);
-    control_of(2);
-    control_of(3);
-    control_of(11);
 }
 
 // The lengths with that of buffer k put otherwise.
@@ -120,7 +62,7 @@ fn send_in(mode: u8, half: u8, age: u8) {
     let state = State { mode, half, age };
     text(b"send in state");
     numbers(state);
-    lend(Task::Send, state, layer1::sender_lengths(11));
+    lend(Call::Send, state, layer1::sender_lengths(11));
 }
 
 // Reads in a state that is not valid.
@@ -128,7 +70,7 @@ fn read_in(mode: u8, half: u8, age: u8) {
     let state = State { mode, half, age };
     text(b"read in state");
     numbers(state);
-    lend(Task::Read, state, layer1::reader_lengths(11));
+    lend(Call::Read, state, layer1::reader_lengths(11));
 }
 
 pub fn states() {
@@ -156,14 +98,14 @@ fn fresh() -> State {
 fn send_with(k: usize, length: usize) {
     text(b"send");
     let n = put(layer1::sender_lengths(11), k, length);
-    lend(Task::Send, fresh(), n);
+    lend(Call::Send, fresh(), n);
 }
 
 // Reads with buffer k of another length.
 fn read_with(k: usize, length: usize) {
     text(b"read");
     let n = put(layer1::reader_lengths(11), k, length);
-    lend(Task::Read, fresh(), n);
+    lend(Call::Read, fresh(), n);
 }
 
 // Each buffer of a sending a byte too short.
@@ -200,15 +142,15 @@ pub fn others() {
     read_with(0, 18273);
     text(b"send");
     let n = put(layer1::sender_lengths(11), 6, 0);
-    lend(Task::Send, fresh(), put(n, 3, 0));
+    lend(Call::Send, fresh(), put(n, 3, 0));
     text(b"read");
     let n = put(layer1::reader_lengths(11), 8, 18432);
-    lend(Task::Read, fresh(), put(n, 9, 18432));
+    lend(Call::Read, fresh(), put(n, 9, 18432));
     text(b"read in state 11 1 0");
     let state = State {
         mode: 11,
         half: 1,
         age: 0,
     };
-    lend(Task::Read, state, put(layer1::reader_lengths(11), 0, 0));
+    lend(Call::Read, state, put(layer1::reader_lengths(11), 0, 0));
 }

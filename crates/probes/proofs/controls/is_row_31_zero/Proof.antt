@@ -2,8 +2,8 @@
 use Prim.Native.Nat.{_≤_, _-_}
 use lib.ListN.{length}
 use borrow.Author.Needs.{needs}
-use Rattle.probes.proofs.called.is_row_31_zero.Statement.{statement}
-use Rattle.probes.proofs.called.is_row_31_zero.Tie as tie
+use Rattle.probes.proofs.controls.is_row_31_zero.Statement.{statement}
+use Rattle.probes.proofs.controls.is_row_31_zero.Tie as tie
 
 abbrev Inv-loop : tie.InvT-loop
 Inv-loop control i₀ i = i ≤ length control
