@@ -1,0 +1,79 @@
+// The control sequences that a sending writes.
+use crate::found::lookups;
+use crate::lines::count;
+use crate::lines::given;
+use crate::lines::text;
+use runs::State;
+
+// Whether row 31, the last eight bytes, of each control block is zero.
+fn is_row_31_zero(control: &[u8]) -> bool {
+    let mut i: usize = 0;
+    while i < control.len() {
+        if i % 256 >= 248 {
+            if control[i] != 0 {
+                return false;
+            }
+        }
+        i += 1;
+    }
+    true
+}
+
+// Sends the first L1 frame of a mode, of zeros, and leaves its control blocks.
+fn send(mode: u8, control: &mut [u8; 4096]) {
+    let n = layer1::sender_lengths(mode);
+    let p1 = [0u8; 18272];
+    let pids = [0u8; 160];
+    let p3 = [0u8; 4608];
+    let p4 = [0u8; 4608];
+    let mut pm = [0u8; 46080];
+    let mut px1 = [0u8; 9216];
+    let mut px2 = [0u8; 9216];
+    let mut s3 = [0u8; 18432];
+    let mut s4 = [0u8; 18432];
+    let a = programs::within(n[2], &p3);
+    let b = programs::within(n[3], &p4);
+    let c = programs::within(n[5], &px1);
+    let d = programs::within(n[6], &px2);
+    let e = programs::within(n[8], &s3);
+    let f = programs::within(n[9], &s4);
+    let state = State {
+        mode,
+        half: 0,
+        age: 0,
+    };
+    given(layer1::send(
+        state,
+        &p1,
+        &pids,
+        &p3[..a],
+        &p4[..b],
+        &mut pm,
+        &mut px1[..c],
+        &mut px2[..d],
+        control,
+        &mut s3[..e],
+        &mut s4[..f],
+    ));
+}
+
+// Row 31 of the control blocks of a mode.
+fn row_31(mode: u8, control: &mut [u8; 4096]) {
+    text(b"control of mode ");
+    count(mode as usize);
+    send(mode, control);
+    if is_row_31_zero(control) {
+        text(b", row 31 zero\n");
+        return;
+    }
+    text(b", row 31 not zero\n");
+}
+
+pub fn controls() {
+    let mut control = [1u8; 4096];
+    row_31(1, &mut control);
+    row_31(2, &mut control);
+    row_31(3, &mut control);
+    row_31(11, &mut control);
+    lookups(&mut control);
+}

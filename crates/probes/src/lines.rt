@@ -1,0 +1,49 @@
+// A line for each probe, on standard output: what was done, then the answer.
+use layer1::Outcome;
+use libc::STDOUT_FILENO;
+use runs::Answer;
+use runs::State;
+
+pub fn text(bytes: &[u8]) {
+    io::write_all(STDOUT_FILENO, bytes);
+}
+
+pub fn count(n: usize) {
+    io::print_decimal(STDOUT_FILENO, n as u64);
+}
+
+// The number and the place of an answer.
+pub fn told(answer: Answer) {
+    text(b": ");
+    count(layer1::number(answer) as usize);
+    text(b" ");
+    count(layer1::place(answer));
+}
+
+// Three numbers: mode, half and age.
+pub fn numbers(state: State) {
+    text(b" ");
+    count(state.mode as usize);
+    text(b" ");
+    count(state.half as usize);
+    text(b" ");
+    count(state.age as usize);
+}
+
+// What a call returns: the answer, and the state.
+pub fn given(outcome: Outcome) {
+    let answer = outcome.answer;
+    let state = outcome.state;
+    told(answer);
+    text(b", state");
+    numbers(state);
+}
+
+// Whether all lent bytes are as they were, and the end of the line.
+pub fn kept(same: bool) {
+    if same {
+        text(b", unchanged\n");
+        return;
+    }
+    text(b", changed\n");
+}
