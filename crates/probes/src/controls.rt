@@ -1,7 +1,7 @@
 // The control sequences that a sending writes.
 use crate::found::lookups;
-use crate::lines::count;
 use crate::lines::given;
+use crate::lines::small;
 use crate::lines::text;
 use runs::State;
 
@@ -60,7 +60,7 @@ fn send(mode: u8, control: &mut [u8; 4096]) {
 // Row 31 of the control blocks of a mode.
 fn row_31(mode: u8, control: &mut [u8; 4096]) {
     text(b"control of mode ");
-    count(mode as usize);
+    small(mode);
     send(mode, control);
     if is_row_31_zero(control) {
         text(b", row 31 zero\n");

@@ -8,73 +8,87 @@ use crate::lines::kept;
 use crate::lines::text;
 use runs::State;
 
-// The bits that are turned over, two at most: of PM (1), PX1 (2), PX2 (3), control (4) or none (0), counted from 0 through the matrices.
-// Of PM they are P1 bit 0 at row 192, column 360, PIDS frame 0 bit 0 at 18, 361 and PIDS frame 15 bit 199 at 501, 208.
-const FIRST: [u8; 19] = [4, 4, 4, 1, 1, 1, 1, 1, 4, 2, 3, 2, 1, 2, 3, 2, 3, 2, 0];
+// What a bit is turned over in; bits are counted from 0 through it.
+pub const NONE: u8 = 0;
 
-const FIRST_BIT: [usize; 19] = [
-    0,
-    32767,
-    0,
-    138600,
-    13321,
-    360928,
-    13321,
-    138600,
-    32767,
-    1,
-    1,
-    1,
-    360928,
-    6,
-    6,
-    18421,
-    18421,
-    18421,
-    0,
-];
+const PM: u8 = 1;
 
-const SECOND: [u8; 19] = [0, 0, 4, 0, 0, 0, 1, 1, 1, 0, 0, 3, 2, 0, 0, 0, 0, 3, 0];
+pub const PX1: u8 = 2;
 
-const SECOND_BIT: [usize; 19] = [
-    0,
-    0,
-    32767,
-    0,
-    0,
-    0,
-    360928,
-    13321,
-    138600,
-    0,
-    0,
-    1,
-    1,
-    0,
-    0,
-    0,
-    0,
-    18421,
-    0,
-];
+pub const PX2: u8 = 3;
+
+const CONTROL: u8 = 4;
+
+// In PM: P1 bit 0, at row 192, column 360; PIDS frame 0 bit 0, at 18, 361; PIDS frame 15 bit 199, at 501, 208.
+const P1_CELL: usize = 138600;
+
+const PIDS_0_CELL: usize = 13321;
+
+const PIDS_15_CELL: usize = 360928;
+
+// Two bits that are turned over.
+struct Pair {
+    first: u8,
+    a: usize,
+    second: u8,
+    b: usize,
+}
+
+fn two(first: u8, a: usize, second: u8, b: usize) -> Pair {
+    Pair {
+        first,
+        a,
+        second,
+        b,
+    }
+}
+
+fn one(first: u8, a: usize) -> Pair {
+    two(first, a, NONE, 0)
+}
+
+// The readings: 0 to 12 of the first L1 frame, 13 and 14 of the second, 15 to 17 of the third; any other is of a frame as it came.
+fn bits_of(i: usize) -> Pair {
+    match i {
+        0 => one(CONTROL, 0),
+        1 => one(CONTROL, 32767),
+        2 => two(CONTROL, 0, CONTROL, 32767),
+        3 => one(PM, P1_CELL),
+        4 => one(PM, PIDS_0_CELL),
+        5 => one(PM, PIDS_15_CELL),
+        6 => two(PM, PIDS_0_CELL, PM, PIDS_15_CELL),
+        7 => two(PM, P1_CELL, PM, PIDS_0_CELL),
+        8 => two(CONTROL, 32767, PM, P1_CELL),
+        9 => one(PX1, 1),
+        10 => one(PX2, 1),
+        11 => two(PX1, 1, PX2, 1),
+        12 => two(PM, PIDS_15_CELL, PX1, 1),
+        13 => one(PX1, 6),
+        14 => one(PX2, 6),
+        15 => one(PX1, 18421),
+        16 => one(PX2, 18421),
+        17 => two(PX1, 18421, PX2, 18421),
+        _ => one(NONE, 0),
+    }
+}
 
 // Names a bit that is turned over.
 fn name(matrix: u8, n: usize) {
-    if matrix == 1 {
+    if matrix == PM {
         text(b", PM row ");
         count(n / 720);
         text(b" column ");
         count(n % 720);
     }
-    if matrix == 2 {
+    if matrix == PX1 {
         text(b", PX1 cell ");
         count(n);
     }
-    if matrix == 3 {
+    if matrix == PX2 {
         text(b", PX2 cell ");
         count(n);
     }
-    if matrix == 4 {
+    if matrix == CONTROL {
         text(b", control bit ");
         count(n);
     }
@@ -89,19 +103,19 @@ pub fn turn(
     px2: &mut [u8; 9216],
     control: &mut [u8; 4096],
 ) {
-    if matrix == 1 {
+    if matrix == PM {
         turn_over(pm, n);
         return;
     }
-    if matrix == 2 {
+    if matrix == PX1 {
         turn_over(px1, n);
         return;
     }
-    if matrix == 3 {
+    if matrix == PX2 {
         turn_over(px2, n);
         return;
     }
-    if matrix == 4 {
+    if matrix == CONTROL {
         turn_over(control, n);
     }
 }
@@ -127,7 +141,7 @@ fn probe(
     kept(is_same(&before, &after));
 }
 
-// Reads with the bits of entry i turned over, and turns them over again.
+// Reading i, with its bits turned over before it and again after it.
 fn read_damaged(
     i: usize,
     state: State,
@@ -142,13 +156,11 @@ fn read_damaged(
     m3: &mut [u8; 27648],
     m4: &mut [u8; 27648],
 ) {
-    if i >= 19 {
-        return;
-    }
-    let first = FIRST[i];
-    let a = FIRST_BIT[i];
-    let second = SECOND[i];
-    let b = SECOND_BIT[i];
+    let bits = bits_of(i);
+    let first = bits.first;
+    let a = bits.a;
+    let second = bits.second;
+    let b = bits.b;
     text(b"read");
     name(first, a);
     name(second, b);
@@ -159,7 +171,7 @@ fn read_damaged(
     turn(second, b, pm, px1, px2, control);
 }
 
-// Reads with the bits of each entry of a range turned over.
+// The readings from one number on and before another.
 pub fn read_each(
     from: usize,
     to: usize,

@@ -1,6 +1,7 @@
 // The cell finder, rows of a matrix, and the lookup of a control block.
 use crate::lent::turn_over;
 use crate::lines::count;
+use crate::lines::small;
 use crate::lines::text;
 use crate::lines::told;
 use layer1::Found;
@@ -48,7 +49,7 @@ fn pm_row(row: usize, pm: &[u8]) {
 // How long a row of PX1 or PX2 is that is handed back.
 fn px_row<'a>(channel: u8, row: usize, px1: &'a [u8], px2: &'a [u8]) {
     text(b"channel ");
-    count(channel as usize);
+    small(channel);
     text(b" row ");
     count(row);
     text(b" of PX1 of ");
@@ -89,9 +90,9 @@ fn look_up(block: &[u8]) {
             count: number,
         } => {
             text(b": mode ");
-            count(mode as usize);
+            small(mode);
             text(b" count ");
-            count(number as usize);
+            small(number);
         }
         LookedUp::Refused { answer } => told(answer),
     }

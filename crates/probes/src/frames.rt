@@ -1,31 +1,57 @@
 // L1 frames of a run in MP11, sent and read again. The transfer frames of a channel and an L1 frame are all of one byte.
+use crate::damaged::NONE;
 use crate::damaged::read_each;
 use crate::damaged::turn;
-use crate::lines::count;
 use crate::lines::given;
+use crate::lines::small;
 use crate::lines::text;
 use runs::State;
 
-// The states of the two sides.
-pub struct Sides {
-    pub sender: State,
-    pub reader: State,
+// The states of both sides, and what is done with the next L1 frame: its number t, what its bit 0 is turned over in, and the readings that are tried with it.
+pub struct Run {
+    sender: State,
+    reader: State,
+    t: u8,
+    matrix: u8,
+    from: usize,
+    to: usize,
 }
 
-// Starts both sides.
+// Starts both sides. The first L1 frame has bit 0 of `matrix` turned over, and the readings before `to` are tried with it, from `from` on.
 pub fn begin(
+    matrix: u8,
+    from: usize,
+    to: usize,
     s3: &mut [u8; 18432],
     s4: &mut [u8; 18432],
     m3: &mut [u8; 27648],
     m4: &mut [u8; 27648],
-) -> Sides {
-    let sender = layer1::start_sender(11, s3, s4);
-    let reader = layer1::start_reader(11, m3, m4);
-    let a = sender.state;
-    let b = reader.state;
-    Sides {
-        sender: a,
-        reader: b,
+) -> Run {
+    let a = layer1::start_sender(11, s3, s4);
+    let b = layer1::start_reader(11, m3, m4);
+    let sender = a.state;
+    let reader = b.state;
+    Run {
+        sender,
+        reader,
+        t: 0,
+        matrix,
+        from,
+        to,
+    }
+}
+
+// L1 frame t comes next, as it was sent, and further readings before `to` are tried with it.
+pub fn on(run: Run, t: u8, to: usize) -> Run {
+    let sender = run.sender;
+    let reader = run.reader;
+    Run {
+        sender,
+        reader,
+        t,
+        matrix: NONE,
+        from: run.to,
+        to,
     }
 }
 
@@ -43,10 +69,9 @@ fn fill(
     bits::fill(p4, t ^ 64);
 }
 
-// Sends L1 frame t, and then fills its transfer frames with other bytes.
-pub fn send(
-    sides: Sides,
-    t: u8,
+// Sends the L1 frame, and then fills its transfer frames with other bytes.
+fn send(
+    run: Run,
     p1: &mut [u8; 18272],
     pids: &mut [u8; 160],
     p3: &mut [u8; 4608],
@@ -57,18 +82,20 @@ pub fn send(
     control: &mut [u8; 4096],
     s3: &mut [u8; 18432],
     s4: &mut [u8; 18432],
-) -> Sides {
-    let state = sides.sender;
-    let reader = sides.reader;
+) -> Run {
+    let mut run = run;
+    let state = run.sender;
+    let t = run.t;
     fill(t, p1, pids, p3, p4);
     let outcome = layer1::send(state, p1, pids, p3, p4, pm, px1, px2, control, s3, s4);
     text(b"send L1 frame ");
-    count(t as usize);
+    small(t);
     given(outcome);
     text(b"\n");
     fill(128, p1, pids, p3, p4);
-    let sender = outcome.state;
-    Sides { sender, reader }
+    let next = outcome.state;
+    run.sender = next;
+    run
 }
 
 // Whether every byte of s is this one.
@@ -107,10 +134,9 @@ fn returned(t: u8, p1: &[u8], pids: &[u8], p3: &[u8], p4: &[u8]) {
     text(b"\n");
 }
 
-// Reads L1 frame t.
-pub fn read(
-    sides: Sides,
-    t: u8,
+// Reads the L1 frame.
+fn read(
+    run: Run,
     p1: &mut [u8; 18272],
     pids: &mut [u8; 160],
     p3: &mut [u8; 4608],
@@ -121,25 +147,23 @@ pub fn read(
     control: &mut [u8; 4096],
     m3: &mut [u8; 27648],
     m4: &mut [u8; 27648],
-) -> Sides {
-    let state = sides.reader;
-    let sender = sides.sender;
+) -> Run {
+    let mut run = run;
+    let state = run.reader;
+    let t = run.t;
     let outcome = layer1::read(state, p1, pids, p3, p4, pm, px1, px2, control, m3, m4);
     text(b"read L1 frame ");
-    count(t as usize);
+    small(t);
     given(outcome);
     returned(t, p1, pids, p3, p4);
-    let reader = outcome.state;
-    Sides { sender, reader }
+    let next = outcome.state;
+    run.reader = next;
+    run
 }
 
-// Sends L1 frame t, turns a bit of it over, reads it with further bits turned over, those of the entries from `from` on and before `to`, and then without.
+// Sends the L1 frame, turns its bit over, tries the readings, and reads it.
 pub fn pass(
-    sides: Sides,
-    t: u8,
-    matrix: u8,
-    from: usize,
-    to: usize,
+    run: Run,
     p1: &mut [u8; 18272],
     pids: &mut [u8; 160],
     p3: &mut [u8; 4608],
@@ -152,24 +176,13 @@ pub fn pass(
     s4: &mut [u8; 18432],
     m3: &mut [u8; 27648],
     m4: &mut [u8; 27648],
-) -> Sides {
-    let sides = send(sides, t, p1, pids, p3, p4, pm, px1, px2, control, s3, s4);
+) -> Run {
+    let run = send(run, p1, pids, p3, p4, pm, px1, px2, control, s3, s4);
+    let matrix = run.matrix;
     turn(matrix, 0, pm, px1, px2, control);
-    let state = sides.reader;
-    read_each(
-        from,
-        to,
-        state,
-        p1,
-        pids,
-        p3,
-        p4,
-        pm,
-        px1,
-        px2,
-        control,
-        m3,
-        m4,
-    );
-    read(sides, t, p1, pids, p3, p4, pm, px1, px2, control, m3, m4)
+    let state = run.reader;
+    let a = run.from;
+    let b = run.to;
+    read_each(a, b, state, p1, pids, p3, p4, pm, px1, px2, control, m3, m4);
+    read(run, p1, pids, p3, p4, pm, px1, px2, control, m3, m4)
 }

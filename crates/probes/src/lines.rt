@@ -12,10 +12,14 @@ pub fn count(n: usize) {
     io::print_decimal(STDOUT_FILENO, n as u64);
 }
 
+pub fn small(n: u8) {
+    count(n as usize);
+}
+
 // The number and the place of an answer.
 pub fn told(answer: Answer) {
     text(b": ");
-    count(layer1::number(answer) as usize);
+    small(layer1::number(answer));
     text(b" ");
     count(layer1::place(answer));
 }
@@ -23,11 +27,11 @@ pub fn told(answer: Answer) {
 // Three numbers: mode, half and age.
 pub fn numbers(state: State) {
     text(b" ");
-    count(state.mode as usize);
+    small(state.mode);
     text(b" ");
-    count(state.half as usize);
+    small(state.half);
     text(b" ");
-    count(state.age as usize);
+    small(state.age);
 }
 
 // What a call returns: the answer, and the state.

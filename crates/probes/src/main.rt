@@ -6,9 +6,9 @@ mod found;
 mod frames;
 mod lent;
 mod lines;
-mod runs_of_three;
 mod sizes;
 mod starts;
+mod three;
 
 fn main() {
     controls::controls();
@@ -20,5 +20,5 @@ fn main() {
     sizes::short_to_send();
     sizes::short_to_read();
     sizes::others();
-    runs_of_three::runs();
+    three::runs();
 }

@@ -4,6 +4,7 @@ use crate::lent::memory;
 use crate::lines::count;
 use crate::lines::given;
 use crate::lines::kept;
+use crate::lines::small;
 use crate::lines::text;
 use layer1::Outcome;
 
@@ -36,7 +37,7 @@ fn lend(side: Side, mode: u8, n3: usize, n4: usize) {
     let a = programs::within(n3, &m3);
     let b = programs::within(n4, &m4);
     text(b" in mode ");
-    count(mode as usize);
+    small(mode);
     text(b" on ");
     count(a);
     text(b" and ");
