@@ -27,12 +27,12 @@ row-of-is zero h c = omega arith
 row-of-is (suc zero) h c = omega arith
 row-of-is (suc (suc kind)) h c = omega arith
 
--- a round has 288 or 576 bytes
-pub rounds-is : (kind : ℕ) → kind < 2 → (j : ℕ) → j / 288 / 2 ^ kind ≡ j / (144 * partitions kind)
+-- a turn takes 288 or 576 bytes
+pub turns-is : (kind : ℕ) → kind < 2 → (j : ℕ) → j / 288 / 2 ^ kind ≡ j / (144 * partitions kind)
 unfolding partitions
-rounds-is zero h j = omega arith
-rounds-is (suc zero) h j = omega arith
-rounds-is (suc (suc kind)) h j = omega arith
+turns-is zero h j = omega arith
+turns-is (suc zero) h j = omega arith
+turns-is (suc (suc kind)) h j = omega arith
 
 -- the column of a cell, y its row
 pub column-is : (kind c y j : ℕ) → y ≡ c / (partitions kind * 36) → j ≡ partitions kind → c - y * (j * 36) ≡ c % (partitions kind * 36)

@@ -1,6 +1,9 @@
 -- The entries of a partition of the internal matrix, in the order in which they are written: the code finds a step's cell by its partition and
 -- entry. Only the code needs this.
-use Prim.Native.Nat.{ℕ}
+use mathlib.Core.Path.{_≡_}
+use mathlib.Core.List.{List}
+use Prim.Native.Nat.{ℕ, _+_, _*_, _/_, _%_, _<_}
+use lib.ListN.{getD}
 use Rattle.interleaving.specs.Matrix.{cell}
 use Rattle.interleaving.specs.EquationsIV as IV
 use Rattle.interleaving.specs.PX.{partitions, runs, order}
@@ -12,3 +15,11 @@ entry kind p n =
     (IV.blockAt (partitions kind) 32 36 (runs kind) (order kind) p n)
     (IV.rowAt (partitions kind) 32 36 (runs kind) (order kind) n)
     (IV.columnAt (partitions kind) 32 36 (runs kind) (order kind) n)
+
+-- a turn is 1152 entries, one for each row and column of a block: where the entry n of a turn stands in its block, from the partition's first cell
+unfoldable pub spot : (kind n : ℕ) → ℕ
+spot kind n = 11 * n % 1152 / 36 * (36 * partitions kind) + 11 * n % 1152 % 36
+
+-- the table that the code makes of them
+abbrev pub Spots : (kind : ℕ) → List ℕ → Type 0
+Spots kind at = (n : ℕ) → n < 1152 → getD at n 0 ≡ spot kind n

@@ -15,8 +15,8 @@ Inv-loop kind half three coded₀ at j₀ coded j = Stored (length coded₀) (λ
 abbrev μ-loop : tie.MeasureT-loop
 μ-loop kind half three coded₀ at j₀ coded j = length coded - j
 
-first-round-requires : tie.Need-first-round-requires Inv-loop μ-loop
-first-round-requires c κs = search needs
+spots-requires : tie.Need-spots-requires Inv-loop μ-loop
+spots-requires c κs = search needs
 
 loop-holds : tie.Need-loop-holds Inv-loop μ-loop
 loop-holds c = stored-none _ _
@@ -24,7 +24,7 @@ loop-holds c = stored-none _ _
 gather-byte-requires : tie.Need-gather-byte-requires Inv-loop μ-loop
 gather-byte-requires c κs =
     let pre = c .before .before .before .before .before .before .pre in
-    (pre .0, pre .1, omega arith, c .before .before .before .first-round .ensures, pre .2)
+    (pre .0, pre .1, omega arith, c .before .before .before .spots .ensures, pre .2)
 
 slice-write-coded : tie.Need-slice-write-coded Inv-loop μ-loop
 slice-write-coded c = search needs
@@ -50,7 +50,7 @@ gather-spec =
     (tie.spec
     Inv-loop
     μ-loop
-    first-round-requires
+    spots-requires
     loop-holds
     gather-byte-requires
     slice-write-coded

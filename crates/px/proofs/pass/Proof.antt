@@ -20,8 +20,8 @@ Inv-loop kind half coded memory₀ px₀ at j₀ memory px j =
 abbrev μ-loop : tie.MeasureT-loop
 μ-loop kind half coded memory₀ px₀ at j₀ memory px j = length px - j
 
-first-round-requires : tie.Need-first-round-requires Inv-loop μ-loop
-first-round-requires c κs = search needs
+spots-requires : tie.Need-spots-requires Inv-loop μ-loop
+spots-requires c κs = search needs
 
 loop-holds : tie.Need-loop-holds Inv-loop μ-loop
 loop-holds c = (search needs, λ j. omega (arith, c .before .before .slice-known .given j), rw after-none, stored-none _ _)
@@ -29,7 +29,7 @@ loop-holds c = (search needs, λ j. omega (arith, c .before .before .slice-known
 exchange-byte-requires : tie.Need-exchange-byte-requires Inv-loop μ-loop
 exchange-byte-requires c κs =
     let pre = c .before .before .before .before .before .before .before .before .pre in
-    ((pre .0 .0, pre .0 .1, omega arith, c .before .before .before .before .first-round .ensures), (pre .1 .0, omega arith))
+    ((pre .0 .0, pre .0 .1, omega arith, c .before .before .before .before .spots .ensures), (pre .1 .0, omega arith))
 
 slice-write-px : tie.Need-slice-write-px Inv-loop μ-loop
 slice-write-px c = search needs
@@ -74,7 +74,7 @@ pass-spec =
     (tie.spec
     Inv-loop
     μ-loop
-    first-round-requires
+    spots-requires
     loop-holds
     exchange-byte-requires
     slice-write-px

@@ -1,9 +1,9 @@
--- `round` meets its contract: the two numbers are 1152 times the definition's. Assumes nothing.
+-- `px::block` meets its contract: the two numbers are 1152 times the definition's. Assumes nothing.
 use mathlib.Core.Path.{_≡_}
 use native.Mathlib.Omega.{arith}
 use Rattle.interleaving.specs.PX.{partitions}
-use Rattle.px.proofs.round.Statement.{statement}
-use Rattle.px.proofs.round.Tie as tie
+use Rattle.px.proofs.block.Statement.{statement}
+use Rattle.px.proofs.block.Tie as tie
 
 returns : tie.Need-returns
 unfolding partitions
@@ -13,5 +13,5 @@ returns-2 : tie.Need-returns-2
 unfolding partitions
 returns-2 c = let one : c .before .args .kind ≡ 1 = omega arith in (rw one, omega arith)
 
-pub round-spec : {M : Type 1} → statement M
-round-spec = tie.close (tie.spec returns returns-2)
+pub block-spec : {M : Type 1} → statement M
+block-spec = tie.close (tie.spec returns returns-2)
