@@ -8,7 +8,7 @@ ghost use Rattle.interleaving.specs.InverseIV.{missed as «missed-of», count, 
 ghost use Rattle.interleaving.specs.PX.{partitions as «partitions-of», runs as «runs-of», codedBytes, codedBits, cells};
 ghost use Rattle.interleaving.specs.PX.{place as «place-of», stepOf, after, read, later as «later-of», isFill, firstFill};
 ghost use Rattle.interleaving.specs.FinderPX.{source as «source-of»};
-ghost use Rattle.px.specs.Entries.{entry as «entry-of», Spots};
+ghost use Rattle.px.specs.Entries.{entry as «entry-of», Spots, Parts, Counts};
 
 // Tables 10-15 and 10-16: J, M, and the bytes of an L1 frame's coded bits. Kind 0 is MP2, and kind 1 is MP3 and MP11.
 const J: [usize; 2] = [2, 4];
@@ -144,31 +144,67 @@ fn entry(kind: usize, at: &[u16; 1152], p: usize, turn: usize, n: usize) -> usiz
     b * block(kind) + (at[n] as usize + 36 * p)
 }
 
-// 10.2.6: the cell that the bit u of the byte j of an L1 frame's coded bits is written to. A turn takes 288 or 576 bytes.
-fn cell_in_byte(kind: usize, half: usize, at: &[u16; 1152], j: usize, u: usize) -> usize
-    requires { ⌜ (kind < 2) × (half < 2) × (j < codedBytes kind) × (u < 8) × Spots kind (now at) ⌝ }
-    ensures { λ r. ⌜ (r ≡ «place-of» kind (stepOf kind half (8 * j + u))) × (r < cells kind) ⌝ }
+// 10.2.6.1: the partitions of the eight steps of a byte, the same for every byte.
+fn parts(kind: usize) -> [usize; 8]
+    requires { ⌜ kind < 2 ⌝ }
+    ensures { λ r. ⌜ Parts kind r ⌝ }
 {
+    let mut parts = [0usize; 8];
     let m = runs(kind);
-    let x = u + 2 * (m / 4);
-    let p = (x % 8) >> (2 - kind);
-    let q = byte_of(kind, half, j);
-    let turn = (q / 288) >> kind;
-    let n = (q - turn * (block(kind) / 8)) * m + counter(kind, p, x);
-    entry(kind, at, p, turn, n)
+    let mut u = 0;
+    while u < 8 {
+        parts[u] = ((u + 2 * (m / 4)) % 8) >> (2 - kind);
+        u += 1;
+    }
+    parts
 }
 
-// Where the bit u of the byte j of an L1 frame's coded bits stands in its matrix and the two that follow, laid end to end.
-fn later_in_byte(kind: usize, half: usize, at: &[u16; 1152], j: usize, u: usize) -> usize
-    requires { ⌜ (kind < 2) × (half < 2) × (j < codedBytes kind) × (u < 8) × Spots kind (now at) ⌝ }
-    ensures { λ r. ⌜ (r ≡ «later-of» kind half (8 * j + u)) × (r < 3 * codedBits kind) ⌝ }
+// 10.2.6.1: how far on the counters of the eight steps of a byte are. The next byte's are M on.
+fn counts(kind: usize) -> [usize; 8]
+    requires { ⌜ kind < 2 ⌝ }
+    ensures { λ r. ⌜ Counts kind r ⌝ }
 {
-    let i = step_of(kind, half, 8 * j + u);
-    let c = cell_in_byte(kind, half, at, j, u);
-    if c < i {
-        return 8 * j + u + (c + 2 * coded_bits(kind) - i);
+    let mut counts = [0usize; 8];
+    let m = runs(kind);
+    let mut u = 0;
+    while u < 8 {
+        let x = u + 2 * (m / 4);
+        counts[u] = counter(kind, (x % 8) >> (2 - kind), x);
+        u += 1;
     }
-    8 * j + u + (c - i)
+    counts
+}
+
+// A turn of 1152 entries of each partition, and an entry in it.
+struct Turn {
+    turn: usize,
+    entry: usize,
+}
+
+// The turn of the byte q, and its first entry. A turn takes 288 or 576 bytes.
+fn turn_of(kind: usize, q: usize) -> Turn
+    requires { ⌜ (kind < 2) × (q < 2 * codedBytes kind) ⌝ }
+    ensures { λ r. ⌜ (1152 * r .turn + r .entry ≡ q * «runs-of» kind) × (r .turn < 32) × (r .entry + «runs-of» kind ≤ 1152) ⌝ }
+{
+    let turn = (q / 288) >> kind;
+    let entry = (q - turn * (block(kind) / 8)) * runs(kind);
+    Turn { turn, entry }
+}
+
+// 10.2.6: the cell that the step u of a byte writes; n is the byte's first entry in its turn.
+fn cell_in_byte(
+    kind: usize,
+    at: &[u16; 1152],
+    parts: &[usize; 8],
+    counts: &[usize; 8],
+    turn: usize,
+    n: usize,
+    u: usize,
+) -> usize
+    requires { ⌜ (kind < 2) × (turn < 32) × (n + «runs-of» kind ≤ 1152) × (u < 8) × Spots kind (now at) × Parts kind (now parts) × Counts kind (now counts) ⌝ }
+    ensures { λ r. ⌜ ((q : ℕ) → 1152 * turn + n ≡ q * «runs-of» kind → r ≡ «place-of» kind (8 * q + u)) ⌝ }
+{
+    entry(kind, at, parts[u], turn, n + counts[u])
 }
 
 // 10.2.2.2, the eight steps of the byte j of an L1 frame: each writes its coded bit, and then reads the cell of its own number. The bits read, as a byte.
@@ -176,22 +212,25 @@ fn exchange_byte(
     kind: usize,
     half: usize,
     at: &[u16; 1152],
+    parts: &[usize; 8],
+    counts: &[usize; 8],
     j: usize,
     coded: &[u8],
     memory: &mut [u8],
 ) -> u8
-    requires { ⌜ (kind < 2) × (half < 2) × (j < codedBytes kind) × Spots kind (now at) ⌝ }
+    requires { ⌜ (kind < 2) × (half < 2) × (j < codedBytes kind) × Spots kind (now at) × Parts kind (now parts) × Counts kind (now counts) ⌝ }
     requires { ⌜ (length (now coded) ≡ codedBytes kind) × (length (now memory) ≡ 2 * codedBytes kind) ⌝ }
     ensures { λ r. ⌜ ((m : List ℕ) → bitAt (now (memory .entry)) ≡ after kind half (bitAt (now (coded .entry))) (bitAt m) (8 * j) → (bitAt (now (memory .exit)) ≡ after kind half (bitAt (now (coded .entry))) (bitAt m) (8 * j + 8)) × (r ≡ byteOf (read kind half (bitAt (now (coded .entry))) (bitAt m)) j)) ⌝ }
 {
+    let q = byte_of(kind, half, j);
+    let t = turn_of(kind, q);
     let mut a: u8 = 0;
     let mut u = 0;
     while u < 8 {
-        let i = step_of(kind, half, 8 * j + u);
-        let c = cell_in_byte(kind, half, at, j, u);
+        let c = cell_in_byte(kind, at, parts, counts, t.turn, t.entry, u);
         let b = bits::get(coded, 8 * j + u);
         bits::put(memory, c, b);
-        a = (a << 1) | bits::get(memory, i);
+        a = (a << 1) | bits::get(memory, 8 * q + u);
         u += 1;
     }
     a
@@ -205,23 +244,48 @@ pub fn pass(kind: usize, half: usize, coded: &[u8], memory: &mut [u8], px: &mut 
     ensures { λ _. ⌜ now (px .exit) ≡ packed (codedBytes kind) (read kind half (bitAt (now (coded .entry))) (bitAt (now (memory .entry)))) ⌝ }
 {
     let at = spots(kind);
+    let parts = parts(kind);
+    let counts = counts(kind);
     let mut j = 0;
     while j < px.len() {
-        px[j] = exchange_byte(kind, half, &at, j, coded, memory);
+        px[j] = exchange_byte(kind, half, &at, &parts, &counts, j, coded, memory);
         j += 1;
     }
 }
 
+// Where the coded bit j of an L1 frame stands in its matrix and the two that follow, laid end to end: i is its step, c the cell that it writes, and n the cells.
+fn later(n: usize, i: usize, c: usize, j: usize) -> usize
+    requires { ⌜ (i < n) × (c < n) × (j ≤ i) × (n < 147457) ⌝ }
+    ensures { λ r. ⌜ ((kind half : ℕ) → n ≡ cells kind → i ≡ stepOf kind half j → c ≡ «place-of» kind i → r ≡ «later-of» kind half j) ⌝ }
+{
+    if c < i {
+        return j + (c + n - i);
+    }
+    j + (c - i)
+}
+
 // The byte j of an L1 frame's coded bits out of its matrix and the two that follow.
-fn gather_byte(kind: usize, half: usize, at: &[u16; 1152], j: usize, three: &[u8]) -> u8
-    requires { ⌜ (kind < 2) × (half < 2) × (j < codedBytes kind) × Spots kind (now at) × (length (now three) ≡ 3 * codedBytes kind) ⌝ }
+fn gather_byte(
+    kind: usize,
+    half: usize,
+    at: &[u16; 1152],
+    parts: &[usize; 8],
+    counts: &[usize; 8],
+    j: usize,
+    three: &[u8],
+) -> u8
+    requires { ⌜ (kind < 2) × (half < 2) × (j < codedBytes kind) × Spots kind (now at) × Parts kind (now parts) × Counts kind (now counts) × (length (now three) ≡ 3 * codedBytes kind) ⌝ }
     ensures { λ r. ⌜ r ≡ byteOf (λ i. bitAt (now (three .entry)) («later-of» kind half i)) j ⌝ }
 {
+    let n = 2 * coded_bits(kind);
+    let q = byte_of(kind, half, j);
+    let t = turn_of(kind, q);
     let mut a: u8 = 0;
     let mut u = 0;
     while u < 8 {
-        let n = later_in_byte(kind, half, at, j, u);
-        a = (a << 1) | bits::get(three, n);
+        let c = cell_in_byte(kind, at, parts, counts, t.turn, t.entry, u);
+        let l = later(n, 8 * q + u, c, 8 * j + u);
+        a = (a << 1) | bits::get(three, l);
         u += 1;
     }
     a
@@ -233,9 +297,11 @@ pub fn gather(kind: usize, half: usize, three: &[u8], coded: &mut [u8])
     ensures { λ _. ⌜ now (coded .exit) ≡ packed (codedBytes kind) (λ j. bitAt (now (three .entry)) («later-of» kind half j)) ⌝ }
 {
     let at = spots(kind);
+    let parts = parts(kind);
+    let counts = counts(kind);
     let mut j = 0;
     while j < coded.len() {
-        coded[j] = gather_byte(kind, half, &at, j, three);
+        coded[j] = gather_byte(kind, half, &at, &parts, &counts, j, three);
         j += 1;
     }
 }
