@@ -1,11 +1,11 @@
 -- `px::entry` meets its contract: the law `entry-turn`. Assumes nothing.
 use mathlib.Core.Path.{_≡_}
-use Prim.Native.Nat.{ℕ, _+_, _*_, _%_, _≤_, _<_}
-use native.Mathlib.Nat.{mul-le-mul}
+use Prim.Native.Nat.{_+_, _*_, _<_}
 use native.Mathlib.Omega.{arith}
 use lib.ListN.{getD}
 use Rattle.px.specs.Entries.{spot}
 use Rattle.px.proofs.Turns.{entry-turn, spot-lt}
+use Rattle.px.proofs.Words.{blocks-fit}
 use borrow.Author.Needs.{needs}
 use Rattle.px.proofs.entry.Statement.{statement}
 use Rattle.px.proofs.entry.Tie as tie
@@ -22,13 +22,8 @@ add-b-2 c = search needs
 block-requires : tie.Need-block-requires
 block-requires c κs = search needs
 
--- the cells of the blocks before
-before-le : (c : tie.After-block)
-    → (c .before .args .turn + (c .before .args .n + c .before .args .p * 7)) % 32 * c .block .result ≤ 31 * 4608
-before-le c = mul-le-mul {n₂ = 31} {m₂ = 4608} (omega arith) (c .block .ensures .1)
-
 mul-result : tie.Need-mul-result
-mul-result c = omega (arith, before-le c)
+mul-result c = blocks-fit _ _ 0 (c .block .ensures .1) (omega arith) .0
 
 mul-result-2 : tie.Need-mul-result-2
 mul-result-2 c = search needs
@@ -55,7 +50,10 @@ add-result : tie.Need-add-result
 add-result c = omega (arith, read c .0, read c .1)
 
 add-result-2 : tie.Need-add-result-2
-add-result-2 c = omega (arith, read c .0, read c .1, before-le (c .before))
+add-result-2 c =
+    let a = c .before .before .args in
+    let e = getD (a .at .now) (a .n) 0 + 36 * a .p in
+    blocks-fit _ _ e (c .before .block .ensures .1) (omega (arith, read c .0, read c .1)) .1
 
 returns : tie.Need-returns
 returns c =
