@@ -4,7 +4,7 @@ use runs::Extended;
 use runs::Kind;
 use runs::State;
 ghost use mathlib.Core.Path.{_≡_};
-ghost use Prim.Native.Nat.{_+_, _*_, _<_};
+ghost use Prim.Native.Nat.{_+_, _*_, _<_, _≤_};
 ghost use Rattle.interleaving.specs.PX.{codedBits};
 ghost use Rattle.interleaving.specs.FinderPX.{origin as «origin-of»};
 ghost use Rattle.runs.specs.Lengths.{tableRow};
@@ -38,7 +38,7 @@ fn kind_of_number(mode: u8, channel: u8) -> Kind
 
 // The cells of a row.
 fn columns(kind: Kind) -> usize
-    ensures { λ r. ⌜ r ≡ columnsOf kind ⌝ }
+    ensures { λ r. ⌜ (r ≡ columnsOf kind) × (r ≤ 144) ⌝ }
 {
     match kind {
         Kind::Unused => 0,

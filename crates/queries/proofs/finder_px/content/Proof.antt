@@ -5,7 +5,7 @@ use native.Mathlib.Omega.{arith}
 use Rattle.interleaving.specs.PX.{codedBits}
 use Rattle.interleaving.proofs.Mod.{quotient-lt}
 use Rattle.queries.proofs.CasesPX.{fill-told, coded-told}
-use Rattle.queries.proofs.Origins.{rows-hold, columns-le, has-columns, cell-lt, cell-small}
+use Rattle.queries.proofs.Origins.{rows-hold, has-columns, cell-lt, cell-small}
 use borrow.Author.Needs.{needs}
 use Rattle.queries.proofs.finder_px.content.Statement.{statement}
 use Rattle.queries.proofs.finder_px.content.Tie as tie
@@ -14,10 +14,10 @@ columns-requires : tie.Need-columns-requires
 columns-requires c κs = search needs
 
 mul-coded : tie.Need-mul-coded
-mul-coded c = omega (arith, columns-le (c .before .args .kind))
+mul-coded c = search needs
 
 mul-n : tie.Need-mul-n
-mul-n c = omega (arith, columns-le (c .before .args .kind))
+mul-n c = search needs
 
 table-row-requires : tie.Need-table-row-requires
 table-row-requires c κs = search needs
@@ -25,18 +25,18 @@ table-row-requires c κs = search needs
 mul-origin : tie.Need-mul-origin
 mul-origin c =
     let s = c .before .before in
-    omega (arith, cell-small (s .args .kind) _ (s .args .y) (s .args .column) (c .before .columns .ensures) (s .pre .2) (omega arith))
+    omega (arith, cell-small (s .args .kind) _ (s .args .y) (s .args .column) (c .before .columns .ensures .0) (s .pre .2) (omega arith))
 
 add-origin : tie.Need-add-origin
 add-origin c =
     let s = c .before .before in
-    omega (arith, cell-small (s .args .kind) _ (s .args .y) (s .args .column) (c .before .columns .ensures) (s .pre .2) (omega arith))
+    omega (arith, cell-small (s .args .kind) _ (s .args .y) (s .args .column) (c .before .columns .ensures .0) (s .pre .2) (omega arith))
 
 origin-requires : tie.Need-origin-requires
 origin-requires c κs =
     let s = c .before .before in
     let k = s .args .kind in
-    let e = c .before .columns .ensures in
+    let e = c .before .columns .ensures .0 in
     rw (c .table-row .ensures) (s .pre .0, omega (arith, rows-hold k), s .pre .1, cell-lt k _ (s .args .y) (s .args .column) e (s .pre .2) (omega arith))
 
 div-earlier : tie.Need-div-earlier
@@ -55,7 +55,7 @@ returns : tie.Need-returns
 returns c =
     let x = c .before .before .before in
     let a = x .before .args in
-    fill-told (a .kind) (a .half) (a .age) (a .y) (a .column) _ _ _ (c .before .before .table-row .ensures) (x .columns .ensures) (c .before .origin .ensures .0)
+    fill-told (a .kind) (a .half) (a .age) (a .y) (a .column) _ _ _ (c .before .before .table-row .ensures) (x .columns .ensures .0) (c .before .origin .ensures .0)
     (omega arith)
 
 rem-j : tie.Need-rem-j
@@ -77,7 +77,7 @@ returns-2 : tie.Need-returns-2
 returns-2 c =
     let x = c .before .before .before in
     let a = x .before .args in
-    coded-told (a .kind) (a .half) (a .age) (a .y) (a .column) _ _ _ (c .before .before .table-row .ensures) (x .columns .ensures) (c .before .origin .ensures .0)
+    coded-told (a .kind) (a .half) (a .age) (a .y) (a .column) _ _ _ (c .before .before .table-row .ensures) (x .columns .ensures .0) (c .before .origin .ensures .0)
     (omega arith)
 
 pub content-spec : {M : Type 1} → statement M

@@ -31,7 +31,7 @@ returns-2 c =
     let k = c .before .before in
     let v = k .before .before in
     valued values
-    (channel-refused _ _ _ _ _ (sym (v .is-valid .ensures) ∙ not-false _ (k .before .if1 .left)) _ (k .kind-of-number .ensures) _ (c .before .columns .ensures)
+    (channel-refused _ _ _ _ _ (sym (v .is-valid .ensures) ∙ not-false _ (k .before .if1 .left)) _ (k .kind-of-number .ensures) _ (c .before .columns .ensures .0)
     (c .if2 .taken))
 
 returns-3 : tie.Need-returns-3
@@ -39,7 +39,7 @@ returns-3 c =
     let n = c .before .before in
     let v = n .before .before .before in
     valued values
-    (pair-refused _ _ _ _ _ (sym (v .is-valid .ensures) ∙ not-false _ (n .before .before .if1 .left)) _ (n .before .kind-of-number .ensures) _ (n .columns .ensures)
+    (pair-refused _ _ _ _ _ (sym (v .is-valid .ensures) ∙ not-false _ (n .before .before .if1 .left)) _ (n .before .kind-of-number .ensures) _ (n .columns .ensures .0)
     (c .before .if2 .left) (c .if3 .taken))
 
 returns-4 : tie.Need-returns-4
@@ -47,7 +47,7 @@ returns-4 c =
     let n = c .before .before .before in
     let v = n .before .before .before in
     valued values
-    (row-refused _ _ _ _ _ (sym (v .is-valid .ensures) ∙ not-false _ (n .before .before .if1 .left)) _ (n .before .kind-of-number .ensures) _ (n .columns .ensures)
+    (row-refused _ _ _ _ _ (sym (v .is-valid .ensures) ∙ not-false _ (n .before .before .if1 .left)) _ (n .before .kind-of-number .ensures) _ (n .columns .ensures .0)
     (c .before .before .if2 .left) (c .before .if3 .left) (c .if4 .taken))
 
 returns-5 : tie.Need-returns-5
@@ -55,7 +55,7 @@ returns-5 c =
     let n = c .before .before .before .before in
     let v = n .before .before .before in
     valued values
-    (column-refused _ _ _ _ _ (sym (v .is-valid .ensures) ∙ not-false _ (n .before .before .if1 .left)) _ (n .before .kind-of-number .ensures) _ (n .columns .ensures)
+    (column-refused _ _ _ _ _ (sym (v .is-valid .ensures) ∙ not-false _ (n .before .before .if1 .left)) _ (n .before .kind-of-number .ensures) _ (n .columns .ensures .0)
     (c .before .before .before .if2 .left) (c .before .before .if3 .left) (c .before .if4 .left) (omega arith))
 
 cast-half : tie.Need-cast-half
@@ -78,7 +78,7 @@ content-requires c κs =
     let s = v .before .args .state in
     let k = n .before .kind-of-number .result in
     let (cov, old) = and-true (covered (s .mode)) (aged (s .half) (s .age)) (sym (v .is-valid .ensures) ∙ not-false _ (n .before .before .if1 .left)) in (
-      used k (λ z. c .before .before .before .before .before .if2 .left (n .columns .ensures ∙ z)),
+      used k (λ z. c .before .before .before .before .before .if2 .left (n .columns .ensures .0 ∙ z)),
       half-of _ _ old,
       omega arith,
       omega arith,
@@ -90,7 +90,7 @@ returns-6 c =
     let v = n .before .before .before in
     valued values
     (c .content .ensures
-    ∙ inside _ _ _ _ _ (sym (v .is-valid .ensures) ∙ not-false _ (n .before .before .if1 .left)) _ (n .before .kind-of-number .ensures) _ (n .columns .ensures)
+    ∙ inside _ _ _ _ _ (sym (v .is-valid .ensures) ∙ not-false _ (n .before .before .if1 .left)) _ (n .before .kind-of-number .ensures) _ (n .columns .ensures .0)
     (c .before .before .before .before .before .before .if2 .left) (omega arith) (omega arith) (omega arith))
 
 pub find-px-spec : {M : Type 1} → statement M
