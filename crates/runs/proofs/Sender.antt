@@ -17,14 +17,14 @@ use Rattle.runs.specs.Lengths.{kindOf, senderLen}
 use Rattle.runs.specs.Lent.{Frames, Signal, Lent, Memory, Result, memoryOf, ByteFrames, signalOf, memoryNext}
 use Rattle.runs.specs.Answers.{numberOf, onSuccess}
 use Rattle.runs.specs.Causes.{Size, at, judge, wrong}
-use Rattle.runs.specs.Starting.{memorySizes, zeros}
+use Rattle.runs.specs.Starting.{stateAt, memorySizes, zeros}
 use Rattle.runs.specs.Sending.{lentSizes, refused, sendAnswer, sendStep, sent}
 use Rattle.runs.specs.Runs.{Call, calls, succeeded, Every, Fitting, SenderRun, sendings, framesSent, signalsSent, noFrames, noSignal, count, frameAt, matricesAt}
 use Rattle.runs.specs.Defined.{defined, table}
 use Rattle.runs.proofs.PX.{memory-length}
 use Rattle.runs.proofs.Lists.{length-map, table-at, table-shift}
 use Rattle.runs.proofs.Passing.{wrong-head}
-use Rattle.runs.proofs.States.{defined-shift, defined-start, definedFrom, memoryFrom, next-at, start-ok, stateAt, valid-at}
+use Rattle.runs.proofs.States.{defined-shift, defined-start, definedFrom, memoryFrom, next-at, start-ok, valid-at}
 
 lent-right : (mode : ℕ) (l : Lent) (rest : List Size) → ByteFrames (l .frames) → wrong 0 (lentSizes mode l ++ rest) ≡ none → Fitting mode (l .frames)
 unfolding lentSizes
