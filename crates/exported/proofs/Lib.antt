@@ -1,0 +1,4 @@
+mod Places
+mod Outcomes
+mod Findings
+mod Parts
