@@ -9,6 +9,8 @@ use Rattle.runs.specs.declared.State.{State}
 use Rattle.runs.specs.Answers.{numberOf, placeOf}
 use Rattle.queries.specs.Finder.{Channel, none, p1, pids}
 use Rattle.queries.specs.Finder as Finder
+use Rattle.queries.specs.FinderPX.{Content, none as nothing, coded, fill}
+use Rattle.queries.specs.FinderPX as FinderPX
 use Rattle.queries.specs.Lookup as Lookup
 
 -- a start, a sending, a reading: the answer and the state
@@ -24,6 +26,16 @@ channelNumber pids = 2
 -- the cell finder of PM
 unfoldable pub foundWord : Finder.Values → ℕ
 foundWord v = v .number + 2 ^ 8 * channelNumber (v .channel) + 2 ^ 16 * v .frame + 2 ^ 32 * v .place + 2 ^ 40 * v .bit
+
+-- what stands in a cell of PX1 or PX2
+abbrev pub contentNumber : Content → ℕ
+contentNumber nothing = 0
+contentNumber coded = 1
+contentNumber fill = 2
+
+-- the cell finder of PX1 and PX2
+unfoldable pub foundPxWord : FinderPX.Values → ℕ
+foundPxWord v = v .number + 2 ^ 8 * contentNumber (v .content) + 2 ^ 16 * v .frame + 2 ^ 24 * v .before + 2 ^ 32 * v .place + 2 ^ 40 * v .bit
 
 -- a lookup
 unfoldable pub lookedUpWord : Lookup.Values → ℕ

@@ -12,6 +12,7 @@ pub use operations::layer1_send;
 pub use operations::layer1_start_reader;
 pub use operations::layer1_start_sender;
 pub use questions::layer1_find;
+pub use questions::layer1_find_px;
 pub use questions::layer1_lookup;
 pub use rows::layer1_pm_row;
 pub use rows::layer1_px_row;

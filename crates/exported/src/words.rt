@@ -1,5 +1,6 @@
 // The words that the entry points return. Every place, frame and bit is small enough for its field, by the definitions.
 use layer1::Found;
+use layer1::FoundPx;
 use layer1::LookedUp;
 use layer1::Outcome;
 use layer1::number;
@@ -9,8 +10,9 @@ ghost use Prim.Native.Nat.{_^_, _≤_, _<_};
 ghost use lib.ListN.{length};
 ghost use Rattle.runs.specs.Answers.{placeOf};
 ghost use Rattle.queries.specs.Finder.{values};
+ghost use Rattle.queries.specs.FinderPX.{values as valuesPX};
 ghost use Rattle.queries.specs.Lookup.{values as valuesOfBlock};
-ghost use Rattle.exported.specs.Words.{foundWord, lookedUpWord, outcomeWord, rowWord};
+ghost use Rattle.exported.specs.Words.{foundPxWord, foundWord, lookedUpWord, outcomeWord, rowWord};
 
 // The word of a start, a sending or a reading.
 pub fn outcome_word(outcome: Outcome) -> u64
@@ -26,7 +28,7 @@ pub fn outcome_word(outcome: Outcome) -> u64
 
 // The word of a finding in PM.
 pub fn found_word(cell: Found) -> u64
-    requires { ⌜ (values cell .place < 2 ^ 8) × (values cell .frame < 2 ^ 16) × (values cell .bit < 2 ^ 24) ⌝ }
+    requires { ⌜ (values cell .place < 2 ^ 8) × (values cell .frame < 2 ^ 8) × (values cell .bit < 2 ^ 24) ⌝ }
     ensures { λ r. ⌜ r ≡ foundWord (values cell) ⌝ }
 {
     match cell {
@@ -35,6 +37,27 @@ pub fn found_word(cell: Found) -> u64
             512 + 65536 * (frame as u64) + 1099511627776 * (bit as u64)
         }
         Found::Refused { answer } => number(answer) as u64 + 4294967296 * (place(answer) as u64),
+    }
+}
+
+// The word of a finding in PX1 or PX2.
+pub fn found_px_word(cell: FoundPx) -> u64
+    requires { ⌜ (valuesPX cell .place < 2 ^ 8) × (valuesPX cell .frame < 2 ^ 8) × (valuesPX cell .before < 2 ^ 8) × (valuesPX cell .bit < 2 ^ 24) ⌝ }
+    ensures { λ r. ⌜ r ≡ foundPxWord (valuesPX cell) ⌝ }
+{
+    match cell {
+        FoundPx::Coded {
+            earlier,
+            frame,
+            bit,
+        } => {
+            let low = 256 + 65536 * (frame as u64) + 16777216 * (earlier as u64);
+            low + 1099511627776 * (bit as u64)
+        }
+        FoundPx::Fill => 512,
+        FoundPx::Refused { answer } => {
+            number(answer) as u64 + 4294967296 * (place(answer) as u64)
+        }
     }
 }
 
