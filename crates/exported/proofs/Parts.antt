@@ -26,9 +26,9 @@ start-lt row n h l =
     omega (arith, mul-le-mul r k)
 
 -- what the word of such a part needs, and what it tells
-pub long : (n row : ℕ) (matrix part : List ℕ) → n < 256 → Handed n row matrix part → (n < 256) × (length part < 256) × (0 < length part → row < 512)
-long n row matrix part h (whole l e) = (h, omega (arith, e), λ z. l)
-long n row matrix part h empty = (h, omega arith, λ z. absurd (omega arith))
+pub long : (n row : ℕ) (matrix part : List ℕ) → n < 256 → Handed n row matrix part → (length part < 256) × (0 < length part → row < 512)
+long n row matrix part h (whole l e) = (omega (arith, e), λ z. l)
+long n row matrix part h empty = (omega arith, λ z. absurd (omega arith))
 
 told : (n row : ℕ) (matrix part : List ℕ) → 0 < n → n < 256 → Handed n row matrix part → partAt (rowWord n row part) matrix ≡ part
 unfolding rowWord

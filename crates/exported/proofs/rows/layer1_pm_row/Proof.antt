@@ -11,7 +11,9 @@ pm-row-requires : tie.Need-pm-row-requires
 pm-row-requires c κs = search needs
 
 row-word-requires : tie.Need-row-word-requires
-row-word-requires c κs = let h = subst (Handed 90 _ _) (sym (c .pm-row .ensures)) (pm-handed _ _) in long 90 _ _ _ (omega arith) h
+row-word-requires c κs =
+    let (short, within) = long 90 _ _ _ (omega arith) (subst (Handed 90 _ _) (sym (c .pm-row .ensures)) (pm-handed _ _)) in
+    (omega arith, short, within)
 
 returns : tie.Need-returns
 returns c = tells 90 _ _ _ _ (omega arith) (omega arith) (pm-handed _ _) (c .row-word .ensures ∙ ap (rowWord 90 _) (c .before .pm-row .ensures))

@@ -11,7 +11,9 @@ px-row-requires : tie.Need-px-row-requires
 px-row-requires c κs = search needs
 
 row-word-requires : tie.Need-row-word-requires
-row-word-requires c κs = let h = subst (Handed 18 _ _) (sym (c .px-row .ensures)) (px-handed _ _ _ _) in long 18 _ _ _ (omega arith) h
+row-word-requires c κs =
+    let (short, within) = long 18 _ _ _ (omega arith) (subst (Handed 18 _ _) (sym (c .px-row .ensures)) (px-handed _ _ _ _)) in
+    (omega arith, short, within)
 
 returns : tie.Need-returns
 returns c = tells 18 _ _ _ _ (omega arith) (omega arith) (px-handed _ _ _ _) (c .row-word .ensures ∙ ap (rowWord 18 _) (c .before .px-row .ensures))

@@ -2,8 +2,8 @@
 use Rattle.exported.proofs.Outcomes.{start-left, start-small}
 use Rattle.exported.proofs.Places.{start-place}
 use borrow.Author.Needs.{needs}
-use Rattle.exported.proofs.operations.layer1_start_reader.Statement.{statement}
-use Rattle.exported.proofs.operations.layer1_start_reader.Tie as tie
+use Rattle.exported.proofs.starts.layer1_start_reader.Statement.{statement}
+use Rattle.exported.proofs.starts.layer1_start_reader.Tie as tie
 
 start-reader-requires : tie.Need-start-reader-requires
 start-reader-requires c κs = search needs

@@ -2,8 +2,8 @@
 use Rattle.exported.proofs.Outcomes.{start-left, start-small}
 use Rattle.exported.proofs.Places.{start-place}
 use borrow.Author.Needs.{needs}
-use Rattle.exported.proofs.operations.layer1_start_sender.Statement.{statement}
-use Rattle.exported.proofs.operations.layer1_start_sender.Tie as tie
+use Rattle.exported.proofs.starts.layer1_start_sender.Statement.{statement}
+use Rattle.exported.proofs.starts.layer1_start_sender.Tie as tie
 
 start-sender-requires : tie.Need-start-sender-requires
 start-sender-requires c κs = search needs

@@ -2,8 +2,8 @@
 use Rattle.exported.proofs.Outcomes.{left-by, small}
 use Rattle.exported.proofs.Places.{read-place}
 use borrow.Author.Needs.{needs}
-use Rattle.exported.proofs.operations.layer1_read.Statement.{statement}
-use Rattle.exported.proofs.operations.layer1_read.Tie as tie
+use Rattle.exported.proofs.reads.layer1_read.Statement.{statement}
+use Rattle.exported.proofs.reads.layer1_read.Tie as tie
 
 read-requires : tie.Need-read-requires
 read-requires c κs = search needs

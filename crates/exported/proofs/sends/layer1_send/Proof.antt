@@ -2,8 +2,8 @@
 use Rattle.exported.proofs.Outcomes.{left-by, small}
 use Rattle.exported.proofs.Places.{send-place}
 use borrow.Author.Needs.{needs}
-use Rattle.exported.proofs.operations.layer1_send.Statement.{statement}
-use Rattle.exported.proofs.operations.layer1_send.Tie as tie
+use Rattle.exported.proofs.sends.layer1_send.Statement.{statement}
+use Rattle.exported.proofs.sends.layer1_send.Tie as tie
 
 send-requires : tie.Need-send-requires
 send-requires c κs = search needs
