@@ -36,7 +36,7 @@ function style() {
     print "header p { font-size: 14pt; font-weight: bold; margin: 0; }"
     print ".run { margin: 2mm 0 3mm; }"
     print ".words { min-height: 29mm; font-size: 10pt; }"
-    print ".words p { margin: 2.5mm 0 0; }"
+    print ".words p { margin: 2.5mm 0 0; text-wrap: pretty; }"
     print "h2 { font-size: 13pt; margin: 4mm 0 1.5mm; break-after: avoid; }"
     print "table { width: 180mm; table-layout: fixed; border-collapse: collapse; break-inside: auto; }"
     print "thead { display: table-header-group; }"
@@ -62,7 +62,7 @@ function fields(    who) {
 
 function candidate_words() {
     print "<p>Each line names a cell of a matrix sent for an L1 frame. Write whose coded bit stands in it: the channel, the transfer frame of the"
-    print "channel in its L1 frame, the coded bit in that transfer frame, and the bit’s value. All numbers count from 0.</p>"
+    print "channel in its L1 frame, the coded bit in that transfer frame, and the bit’s value. Numbers count from 0.</p>"
     if (pxs > 0) {
         print "<p>In " px_title " also write the L1 frame in which the bit was coded. Where only the zero fill of a fresh start can stand, write FILL"
         print "as the channel and a dash in the other boxes.</p>"
@@ -70,7 +70,7 @@ function candidate_words() {
 }
 
 function examiner_words() {
-    print "<p>The answers, computed by the program <i>sheet</i>, to the candidate’s copy with the same sheet number, line by line. All numbers count"
+    print "<p>The answers, computed by the program <i>sheet</i>, to the candidate’s copy with the same sheet number, line by line. Numbers count"
     print "from 0.</p>"
     if (pxs > 0)
         print "<p>FILL: only the zero fill of a fresh start can stand in the cell.</p>"
