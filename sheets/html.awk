@@ -3,15 +3,15 @@
 
 function begin() {
     examiner = copy == "examiner"
-    title = examiner ? "Examiner’s copy" : "Candidate’s copy"
+    whose = examiner ? "Examiner’s copy" : "Candidate’s copy"
     # Widths in millimetres of the 8 columns for PM and the 11 for PX, 180 together.
     widths[8] = "11 17 17 18 27 27 36 27"
     widths[11] = "11 13 15 13 12 16 21 20 20 24 15"
     print "<!DOCTYPE html>\n<html lang=\"en\">\n<head>\n<meta charset=\"utf-8\">"
-    print "<title>FM Layer 1 answer sheet " id ", " title "</title>"
+    print "<title>FM Layer 1 answer sheet " id ", " whose "</title>"
     style()
     print "</head>\n<body>"
-    print "<header><h1>FM Layer 1 answer sheet</h1><p>" title "</p></header>"
+    print "<header><h1>FM Layer 1 answer sheet</h1><p>" whose "</p></header>"
     print "<p class=\"run\">Service mode MP" mode ", " count " L1 frame" (count == 1 ? "" : "s") ", sheet " id "</p>"
     fields()
     print "<div class=\"words\">"
@@ -26,7 +26,7 @@ function style() {
     print "<style>"
     print "@page {"
     print "    size: A4; margin: 14mm 14mm 18mm;"
-    print "    @bottom-left { content: \"Sheet " id ", " title "\"; font: 9pt sans-serif; }"
+    print "    @bottom-left { content: \"Sheet " id ", " whose "\"; font: 9pt sans-serif; }"
     print "    @bottom-right { content: \"Page \" counter(page) \" of \" counter(pages); font: 9pt sans-serif; }"
     print "}"
     print "* { box-sizing: border-box; }"
