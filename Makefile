@@ -1,8 +1,12 @@
-# `make sheet` is the main job on a sample, `make test` the gate, `make bench` measures sender and reader beside the second program.
-.PHONY: sheet test bench
+# `make sheet` is the main job on a sample, `make sheet-html` the same for paper, `make test` the gate, `make bench` measures sender and reader beside
+# the second program.
+.PHONY: sheet sheet-html test bench
 
 sheet:
-	.ci/sheet
+	sheets/print
+
+sheet-html:
+	sheets/html
 
 test:
 	.ci/run

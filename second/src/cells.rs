@@ -67,7 +67,7 @@ pub fn find(row: usize, column: usize) -> Found {
 }
 
 /// Document 01, cell list: a number of decimal digits; a great one stands as the greatest.
-fn decimal(digits: &[u8]) -> Option<usize> {
+pub(crate) fn decimal(digits: &[u8]) -> Option<usize> {
     if digits.is_empty() || !digits.iter().all(u8::is_ascii_digit) {
         return None;
     }

@@ -1,21 +1,23 @@
 //! The commands of the program, over any input and output.
 
-use std::io::{self, Read, Write};
+use std::io::{self, BufRead, Read, Write};
 
 use crate::coding::Rate;
 use crate::control::control;
-use crate::draw::{Damage, Draw};
+use crate::draw::{cell_list, Damage, Draw};
 use crate::modes::{Mode, P1_BITS, PIDS_BITS};
 use crate::packing::{pack, unpack};
 use crate::run::{
     self, code_frames, decode_frames, Answer, Reading, Refusal, Sending, Side, State,
 };
 use crate::scrambling::scramble;
+use crate::sheet::{take_list, Sheet, GREATEST_COUNT, LIST_BYTES};
 
 /// Why a command ends before its work is done.
 #[derive(Debug)]
 pub enum Stop {
     Refused { refusal: Refusal, frame: u64 },
+    NoList,
     Different(String),
     Trouble(io::Error),
 }
@@ -36,6 +38,11 @@ fn refused(number: u32, place: usize, frame: u64) -> Stop {
 /// Document 01, refusals: what is said of a refused L1 frame.
 pub fn refusal_line(number: u32, place: usize, frame: u64) -> String {
     format!("refused: number {number} place {place} frame {frame}")
+}
+
+/// House matter: what is said of an input that does not begin with a cell list.
+pub fn no_list_line() -> String {
+    format!("refused: the cell list has no empty line in its first {LIST_BYTES} bytes")
 }
 
 /// Document 01, refusal 1: the covered mode of a number.
@@ -169,6 +176,35 @@ pub fn send(
         }
         output.write_all(&matrices.concat())?;
     }
+    Ok(())
+}
+
+/// House matter: sends a run of L1 frames, and prints the cells of the list before them.
+pub fn sheet(
+    mode: u64,
+    count: u64,
+    input: &mut impl BufRead,
+    output: &mut impl Write,
+) -> Result<(), Stop> {
+    let mut sender = Run::start(Side::Sender, mode)?;
+    let count = count.min(GREATEST_COUNT);
+    let list = take_list(input)?.ok_or(Stop::NoList)?;
+    let mut sheet = Sheet::new(sender.mode, count, &list);
+    output.write_all(sheet.refusals().as_bytes())?;
+    for frame in 0..count {
+        let frames = take_four(input, sender.mode.frame_lengths())?;
+        let (answer, matrices) = sender.send(&frames);
+        if answer.number != 0 {
+            return Err(refused(answer.number, answer.place, frame));
+        }
+        output.write_all(sheet.answers(frame, &matrices).as_bytes())?;
+    }
+    Ok(())
+}
+
+/// House matter: draws a cell list.
+pub fn draw_cells(seed: u64, mode: u64, count: u64, output: &mut impl Write) -> Result<(), Stop> {
+    output.write_all(&cell_list(seed, covered(mode)?, count))?;
     Ok(())
 }
 

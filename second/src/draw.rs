@@ -1,7 +1,10 @@
-//! Document 01, sheet guarantees: drawn frames, and damage to matrices, for the test room.
+//! Document 01, sheet guarantees: drawn frames and cells, and damage to matrices, for the test
+//! room.
 
-use crate::interleaving::{interleaver_two, ALL_PIDS_CODED_BITS};
+use crate::interleaving::{interleaver_two, ALL_PIDS_CODED_BITS, PM_COLUMNS, PM_ROWS};
+use crate::modes::Mode;
 use crate::packing::flip;
+use crate::sheet::LIST_BYTES;
 
 /// A splitmix generator of 64-bit numbers.
 pub struct Draw {
@@ -103,6 +106,104 @@ impl Damage {
                 self.draw.index(bits)
             };
             flip(&mut matrices[chosen], cell);
+        }
+    }
+}
+
+/// Lines of a cell list at the edge of what can be answered, and of each sort that cannot.
+const EDGES: [&[u8]; 46] = [
+    b"0 PM 511 719",
+    b"0 PM 512 0",
+    b"0 PM 0 720",
+    b"0 PX1 7 63 71",
+    b"0 PX1 0 0 72",
+    b"0 PX1 7 63 143",
+    b"0 PX1 0 0 144",
+    b"0 PX1 0 64 0",
+    b"0 PX1 8 0 0",
+    b"0 PX2 7 63 143",
+    b"0 PX2 0 0 144",
+    b"0 PX2 0 64 0",
+    b"0 PX2 8 0 0",
+    b"000 PM 0000000000000000000000192 00360",
+    b"00 PX1 07 063 0071",
+    b"18446744073709551616 PM 0 0",
+    b"0 PM 18446744073709551616 0",
+    b"0 PX1 0 0 340282366920938463463374607431768211456",
+    b"0 PX1 4294967296 0 0",
+    b"0 PM 0 0 0",
+    b"0 PM 0",
+    b"0 PM",
+    b"0",
+    b"0 PX1 0 0 0 0",
+    b"0 PX1 0 0",
+    b"PM 0 0",
+    b"0 0 0",
+    b"0 PX3 0 0 0",
+    b"0 PX 0 0 0",
+    b"0 PM1 0 0",
+    b"0 P1 0 0",
+    b"0 pm 0 0",
+    b"0  PM 0 0",
+    b"0 PM 0  0",
+    b" 0 PM 0 0",
+    b"0 PM 0 0 ",
+    b"0 PX1 0 0 ",
+    b"0\tPM 0 0",
+    b"0 PM 0 0\r",
+    b"+0 PM 0 0",
+    b"0 PM -1 0",
+    b"0 PM 0x1 0",
+    b"0 PM 1.0 0",
+    b" ",
+    b"\0 PM 0 0",
+    b"\xFF PM 0 0",
+];
+
+/// Drawn cells: a list with its empty line, cells of every matrix and every L1 frame between the
+/// edges.
+pub fn cell_list(seed: u64, mode: &Mode, count: u64) -> Vec<u8> {
+    let mut draw = Draw::new(seed);
+    let beyond = [count, count.saturating_add(1)].map(|frame| format!("{frame} PM 0 0"));
+    let beyond = beyond.iter().map(|line| line.as_bytes());
+    let edges: Vec<&[u8]> = EDGES.into_iter().chain(beyond).collect();
+    let first = draw.index(edges.len());
+    let mut list = Vec::new();
+    for n in 0.. {
+        let line = match n % 4 {
+            0 => edges[(first + n / 4) % edges.len()].to_vec(),
+            _ => drawn_cell(&mut draw, mode, count).into_bytes(),
+        };
+        if list.len() + line.len() + 2 > LIST_BYTES {
+            break;
+        }
+        list.extend(line);
+        list.push(b'\n');
+    }
+    list.push(b'\n');
+    list
+}
+
+/// Drawn cells: the line of a cell of one of the mode's matrices; in PM half of them of PIDS.
+fn drawn_cell(draw: &mut Draw, mode: &Mode, count: u64) -> String {
+    let frame = draw.below(count.max(1));
+    let px = [("PX1", mode.p3.row), ("PX2", mode.p4.row)];
+    let sent: Vec<_> = px
+        .iter()
+        .filter_map(|&(name, row)| Some((name, row?)))
+        .collect();
+    match draw.index(1 + sent.len()).checked_sub(1) {
+        None => {
+            let cell = match draw.coin() {
+                true => interleaver_two(draw.index(ALL_PIDS_CODED_BITS)),
+                false => draw.index(PM_ROWS * PM_COLUMNS),
+            };
+            format!("{frame} PM {} {}", cell / PM_COLUMNS, cell % PM_COLUMNS)
+        }
+        Some(chosen) => {
+            let (name, row) = sent[chosen];
+            let (pair, line, column) = (draw.below(8), draw.below(64), draw.index(row.width()));
+            format!("{frame} {name} {pair} {line} {column}")
         }
     }
 }

@@ -11,3 +11,4 @@ pub mod modes;
 pub mod packing;
 pub mod run;
 pub mod scrambling;
+pub mod sheet;

@@ -8,9 +8,11 @@ use second::commands::{self, Stop};
 use second::{cells, run::Refusal};
 
 /// The commands with their operands.
-const COMMANDS: [(&str, &str); 12] = [
+const COMMANDS: [(&str, &str); 14] = [
     ("draw", "SEED MODE COUNT"),
     ("send", "MODE COUNT"),
+    ("sheet", "MODE COUNT"),
+    ("draw-cells", "SEED MODE COUNT"),
     ("read", "MODE COUNT"),
     ("read-on", "MODE COUNT"),
     ("cells", ""),
@@ -78,6 +80,8 @@ fn dispatch(
     match (name, numbers) {
         ("draw", &[seed, mode, count]) => commands::draw(seed, mode, count, output),
         ("send", &[mode, count]) => commands::send(mode, count, &mut input, output),
+        ("sheet", &[mode, count]) => commands::sheet(mode, count, &mut input, output),
+        ("draw-cells", &[seed, mode, count]) => commands::draw_cells(seed, mode, count, output),
         ("read", &[mode, count]) => commands::read(mode, count, &mut input, output),
         ("read-on", &[mode, count]) => {
             commands::read_on(mode, count, &mut input, output, &mut io::stderr().lock())
@@ -106,6 +110,10 @@ fn ended(done: Result<(), Stop>) -> ExitCode {
         Err(Stop::Refused { refusal, frame }) => {
             let Refusal { number, place } = refusal;
             eprintln!("{}", commands::refusal_line(number, place, frame));
+            ExitCode::from(1)
+        }
+        Err(Stop::NoList) => {
+            eprintln!("{}", commands::no_list_line());
             ExitCode::from(1)
         }
         Err(Stop::Different(difference)) => {

@@ -1,5 +1,7 @@
 //! Document 01, operations of a run: states, starting, sending and reading.
 
+use std::ops::Deref;
+
 use crate::coding::{decode, encode, Rate};
 use crate::control::{block, control, BLOCK_BYTES};
 use crate::interleaving::{pm_coded_bits, pm_matrix, P1_CODED_BITS, PIDS_CODED_BITS};
@@ -37,32 +39,43 @@ pub enum Side {
     Reader,
 }
 
-/// The buffers lent to a sending, in the order of their places.
-pub struct Sending<'a> {
-    pub p1: &'a [u8],
-    pub pids: &'a [u8],
-    pub p3: &'a [u8],
-    pub p4: &'a [u8],
-    pub pm: &'a mut [u8],
-    pub px1: &'a mut [u8],
-    pub px2: &'a mut [u8],
-    pub control: &'a mut [u8],
+/// The buffers lent to a sending or a reading, in the order of their places: F holds the transfer
+/// frames of a channel, M a matrix or the control blocks.
+pub struct Lent<'a, F, M> {
+    pub p1: F,
+    pub pids: F,
+    pub p3: F,
+    pub p4: F,
+    pub pm: M,
+    pub px1: M,
+    pub px2: M,
+    pub control: M,
     pub memory_p3: &'a mut [u8],
     pub memory_p4: &'a mut [u8],
 }
 
-/// The buffers lent to a reading, in the order of their places.
-pub struct Reading<'a> {
-    pub p1: &'a mut [u8],
-    pub pids: &'a mut [u8],
-    pub p3: &'a mut [u8],
-    pub p4: &'a mut [u8],
-    pub pm: &'a [u8],
-    pub px1: &'a [u8],
-    pub px2: &'a [u8],
-    pub control: &'a [u8],
-    pub memory_p3: &'a mut [u8],
-    pub memory_p4: &'a mut [u8],
+/// The buffers of a sending: transfer frames to be read, matrices to be written.
+pub type Sending<'a> = Lent<'a, &'a [u8], &'a mut [u8]>;
+
+/// The buffers of a reading: matrices to be read, transfer frames to be written.
+pub type Reading<'a> = Lent<'a, &'a mut [u8], &'a [u8]>;
+
+impl<F: Deref<Target = [u8]>, M: Deref<Target = [u8]>> Lent<'_, F, M> {
+    /// Document 01, refusal 3: the lengths in the order of the places.
+    fn lengths(&self) -> [usize; 10] {
+        [
+            self.p1.len(),
+            self.pids.len(),
+            self.p3.len(),
+            self.p4.len(),
+            self.pm.len(),
+            self.px1.len(),
+            self.px2.len(),
+            self.control.len(),
+            self.memory_p3.len(),
+            self.memory_p4.len(),
+        ]
+    }
 }
 
 impl State {
@@ -156,19 +169,10 @@ pub fn send(state: State, lent: &mut Sending) -> Answer {
 /// Document 01, operations: a sending with its refusals 2 and 3.
 fn try_send(state: State, lent: &mut Sending) -> Result<State, Refusal> {
     let mode = state.valid_mode()?;
-    let lengths = [
-        lent.p1.len(),
-        lent.pids.len(),
-        lent.p3.len(),
-        lent.p4.len(),
-        lent.pm.len(),
-        lent.px1.len(),
-        lent.px2.len(),
-        lent.control.len(),
-        lent.memory_p3.len(),
-        lent.memory_p4.len(),
-    ];
-    check_lengths(&lengths, &all_lengths(mode, mode.sender_memory_lengths()))?;
+    check_lengths(
+        &lent.lengths(),
+        &all_lengths(mode, mode.sender_memory_lengths()),
+    )?;
     let p1 = code_frames(Rate::TwoFifths, P1_BITS, lent.p1);
     let pids = code_frames(Rate::TwoFifths, PIDS_BITS, lent.pids);
     lent.pm.copy_from_slice(&pack(&pm_matrix(&p1, &pids)));
@@ -227,19 +231,10 @@ pub fn read(state: State, lent: &mut Reading) -> Answer {
 /// Document 01, operations: a reading with its refusals 2 to 8.
 fn try_read(state: State, lent: &mut Reading) -> Result<State, Refusal> {
     let mode = state.valid_mode()?;
-    let lengths = [
-        lent.p1.len(),
-        lent.pids.len(),
-        lent.p3.len(),
-        lent.p4.len(),
-        lent.pm.len(),
-        lent.px1.len(),
-        lent.px2.len(),
-        lent.control.len(),
-        lent.memory_p3.len(),
-        lent.memory_p4.len(),
-    ];
-    check_lengths(&lengths, &all_lengths(mode, mode.reader_memory_lengths()))?;
+    check_lengths(
+        &lent.lengths(),
+        &all_lengths(mode, mode.reader_memory_lengths()),
+    )?;
     judge_control(mode, lent.control)?;
     let (p1, pids) = read_pm(lent.pm)?;
     if state.age < 2 {

@@ -1,0 +1,218 @@
+//! The sheet: its answers, its refusals and its drawn lists.
+
+use second::coding::Rate;
+use second::commands::{self, Stop};
+use second::modes::{Mode, P1_BITS, PIDS_BITS};
+use second::run::code_frames;
+
+/// The sheet: the drawn frames of a run.
+fn drawn(mode: u64, count: u64) -> Vec<u8> {
+    let mut frames = Vec::new();
+    commands::draw(mode + 7, mode, count, &mut frames).unwrap();
+    frames
+}
+
+/// The sheet: how the command ends, and what it prints.
+fn sheet(mode: u64, count: u64, list: &[u8], frames: &[u8]) -> (Result<(), Stop>, String) {
+    let input = [list, frames].concat();
+    let mut output = Vec::new();
+    let ended = commands::sheet(mode, count, &mut &input[..], &mut output);
+    (ended, String::from_utf8(output).unwrap())
+}
+
+/// The sheet: the answers without their values.
+fn owners(mode: u64, count: u64, list: &str) -> Vec<String> {
+    let (ended, output) = sheet(mode, count, list.as_bytes(), &drawn(mode, count));
+    ended.unwrap();
+    let without_value = |line: &str| match line.strip_suffix(" 0").or(line.strip_suffix(" 1")) {
+        Some(owner) => owner.to_string(),
+        None => line.to_string(),
+    };
+    output.lines().map(without_value).collect()
+}
+
+/// Probe points: cells of PM, in the order of the L1 frames and then of the list.
+#[test]
+fn pm_cells() {
+    let list = "1 PM 501 208\n0 PM 192 360\n1 PM 18 361\n0 PM 071 00206\n\n";
+    let expected = [
+        "0 PM 192 360 P1 0 0",
+        "0 PM 71 206 P1 0 365439",
+        "1 PM 501 208 PIDS 15 199",
+        "1 PM 18 361 PIDS 0 0",
+    ];
+    assert_eq!(owners(1, 2, list), expected);
+}
+
+/// Section 10.2.6, by hand, in MP11. Step 0 writes the cell that it reads, and so does the first
+/// step of the second L1 frame: partition 0 has block 16, row 0, column 0 at its count 16 * 1,152.
+/// Partition 1 has block 0, row 0, column 0 at its count 25 * 1,152 = 28,800, step 4 * 28,800 + 2,
+/// which is bit 41,474 of the second L1 frame; step 36 of the first has read there before.
+#[test]
+fn px_cells() {
+    let list =
+        "0 PX1 0 0 0\n1 PX2 0 0 0\n2 PX1 0 0 36\n2 PX2 0 0 36\n0 PX1 0 0 36\n0 PX2 0 0 36\n\n";
+    let expected = [
+        "0 PX1 0 0 0 P3 0 0 0",
+        "0 PX1 0 0 36 FILL",
+        "0 PX2 0 0 36 FILL",
+        "1 PX2 0 0 0 P4 1 0 0",
+        "2 PX1 0 0 36 P3 1 4 4610",
+        "2 PX2 0 0 36 P4 1 4 4610",
+    ];
+    assert_eq!(owners(11, 3, list), expected);
+    assert_eq!(owners(2, 1, "0 PX1 0 0 0\n\n"), ["0 PX1 0 0 0 P3 0 0 0"]);
+}
+
+/// The coded bits of P1, PIDS, P3 and P4 of each L1 frame.
+fn coded(mode: &Mode, frames: &[u8]) -> Vec<[Vec<bool>; 4]> {
+    let lengths = mode.frame_lengths();
+    let rates = [
+        Rate::TwoFifths,
+        Rate::TwoFifths,
+        Rate::OneHalf,
+        Rate::OneHalf,
+    ];
+    let extended = |channel: Option<&second::interleaving::PxRow>| match channel {
+        Some(row) => row.frame_bits / 2,
+        None => 1,
+    };
+    let bits = [
+        P1_BITS,
+        PIDS_BITS,
+        extended(mode.p3.row),
+        extended(mode.p4.row),
+    ];
+    let code = |frame: &[u8]| {
+        let mut rest = frame;
+        std::array::from_fn(|channel| {
+            let (taken, later) = rest.split_at(lengths[channel]);
+            rest = later;
+            code_frames(rates[channel], bits[channel], taken)
+        })
+    };
+    frames.chunks(lengths.iter().sum()).map(code).collect()
+}
+
+/// The sheet: each value is the coded bit that its line names, and a bit of PX is shown in the
+/// L1 frame and the cell in which the way back looks for it.
+#[test]
+fn answers_of_drawn_lists() {
+    for number in [1, 2, 3, 11] {
+        let mode = Mode::of_number(number).unwrap();
+        let frames = drawn(number, 5);
+        let coded = coded(mode, &frames);
+        let mut list = Vec::new();
+        commands::draw_cells(number, number, 5, &mut list).unwrap();
+        let (ended, output) = sheet(number, 5, &list, &frames);
+        ended.unwrap();
+        let mut channels = [0; 5];
+        for line in output.lines().filter(|line| !line.starts_with('R')) {
+            let words: Vec<&str> = line.split(' ').collect();
+            let n = |place: usize| words[place].parse::<usize>().unwrap();
+            let (channel, bit) = match (words[1], words[4], words[5]) {
+                ("PM", "P1", _) => (0, coded[n(0)][0][n(6)]),
+                ("PM", _, _) => (1, coded[n(0)][1][200 * n(5) + n(6)]),
+                (_, _, "FILL") => (4, n(0) >= 2),
+                (px, ..) => {
+                    let channel = if px == "PX1" { 2 } else { 3 };
+                    let row = [mode.p3.row, mode.p4.row][channel - 2].unwrap();
+                    let sent = row.frame_bits * n(7) + n(8);
+                    let cell = (64 * n(2) + n(3)) * row.width() + n(4);
+                    assert_eq!(row.shown()[n(6) % 2][sent], (n(0) - n(6), cell));
+                    (channel, coded[n(6)][channel][sent])
+                }
+            };
+            channels[channel] += 1;
+            if channel < 4 {
+                assert_eq!(words.last(), Some(&["0", "1"][usize::from(bit)]), "{line}");
+            } else {
+                assert!(!bit, "{line}");
+            }
+        }
+        let none = channels.map(|count| count == 0);
+        let (p3, p4) = (mode.p3.row.is_none(), mode.p4.row.is_none());
+        assert_eq!(none, [false, false, p3, p4, p3]);
+    }
+}
+
+/// The sheet: refused lines come first; which they are depends on mode and count.
+#[test]
+fn refused_lines() {
+    let list =
+        "0 PX1 0 0 71\n1 PM 0 0\n0 PX1 0 0 72\n0 PX2 0 0 0\n0 PM 0 0 0\n0  PM 0 0\n9 PM 0 0\n\n";
+    for (mode, refused) in [
+        (1, vec![1, 3, 4, 5, 6, 7]),
+        (2, vec![3, 4, 5, 6, 7]),
+        (3, vec![4, 5, 6, 7]),
+        (11, vec![5, 6, 7]),
+    ] {
+        let (ended, output) = sheet(mode, 2, list.as_bytes(), &drawn(mode, 2));
+        ended.unwrap();
+        let lines: Vec<&str> = output.lines().collect();
+        let expected: Vec<String> = refused.iter().map(|n| format!("REFUSED {n}")).collect();
+        assert_eq!(lines[..refused.len()], expected);
+        assert_eq!(lines.len(), 7);
+        assert!(lines[6].starts_with("1 PM 0 0 P1 0 "));
+    }
+    let (ended, output) = sheet(1, 0, b"0 PM 0 0\n\n", b"");
+    ended.unwrap();
+    assert_eq!(output, "REFUSED 1\n");
+}
+
+/// The sheet: a short input leaves the lines before it, and a mode that is not covered none.
+#[test]
+fn short_input() {
+    let frames = drawn(3, 2);
+    let list = b"1 PM 0 0\nx\n0 PM 192 360\n\n";
+    let (ended, output) = sheet(3, 2, list, &frames[..frames.len() - 1]);
+    let Err(Stop::Refused { refusal, frame }) = ended else {
+        panic!("not refused");
+    };
+    assert_eq!((refusal.number, refusal.place, frame), (3, 2, 1));
+    assert!(output.starts_with("REFUSED 2\n0 PM 192 360 P1 0 0 "));
+    assert_eq!(output.lines().count(), 2);
+    let (ended, output) = sheet(4, 2, b"no list", b"");
+    assert!(matches!(ended, Err(Stop::Refused { refusal, frame: 0 }) if refusal.number == 1));
+    assert_eq!(output, "");
+}
+
+/// The sheet: the list ends at its first empty line, which is within the first 4,096 bytes.
+#[test]
+fn end_of_the_list() {
+    let frames = drawn(1, 1);
+    for (list, lines) in [("\n", 0), ("0 PM 0 0\n\n", 1)] {
+        let (ended, output) = sheet(1, 1, list.as_bytes(), &frames);
+        ended.unwrap();
+        assert_eq!(output.lines().count(), lines);
+    }
+    let longest = format!("0 PM {:0>4087} 1\n\n", 7);
+    assert_eq!(longest.len(), 4_096);
+    let (ended, output) = sheet(1, 1, longest.as_bytes(), &frames);
+    ended.unwrap();
+    assert!(output.starts_with("0 PM 7 1 P1 0 "));
+    for list in ["", "0 PM 0 0", "0 PM 0 0\n", &format!("0{longest}")] {
+        let frames: &[u8] = if list.len() > 4_096 { &frames } else { b"" };
+        let (ended, output) = sheet(1, 1, list.as_bytes(), frames);
+        assert!(matches!(ended, Err(Stop::NoList)));
+        assert_eq!(output, "");
+    }
+}
+
+/// Drawn lists: as long as a list may be, every line of the edges in them, and new with each seed.
+#[test]
+fn drawn_lists() {
+    for mode in [1, 2, 3, 11] {
+        let lists = [1, 2].map(|seed| {
+            let mut list = Vec::new();
+            commands::draw_cells(seed, mode, 5, &mut list).unwrap();
+            assert!((4_000..=4_096).contains(&list.len()));
+            assert!(list.ends_with(b"\n\n"));
+            for line in [&b"0 PM 512 0\n"[..], b"\xFF PM 0 0\n", b"5 PM 0 0\n"] {
+                assert!(list.windows(line.len()).any(|part| part == line));
+            }
+            list
+        });
+        assert!(lists[0] != lists[1]);
+    }
+}
