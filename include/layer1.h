@@ -39,8 +39,8 @@ extern "C" {
 #endif
 
 /* The most stack that a sending and a reading take, in bytes, as compiled (measured by wrapper/tests/stack.c); any other call takes less. */
-#define LAYER1_SEND_STACK 98304
-#define LAYER1_READ_STACK 151552
+#define LAYER1_SEND_STACK 61440
+#define LAYER1_READ_STACK 118784
 
 /* The places of the buffers of a sending or a reading. */
 enum layer1_place {
