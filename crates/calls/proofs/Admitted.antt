@@ -51,7 +51,7 @@ module _ (s : State) (o : Option ℕ) where
       go true (some k) e = absurd (omega arith)
       go false o e = absurd (omega arith)
 
-half-of : (half age : ℕ) → aged half age ≡ true → half < 2
+pub half-of : (half age : ℕ) → aged half age ≡ true → half < 2
 unfolding aged
 half-of half age = go (eqb age 0) (eqb age 1) (eqb age 2)
   where

@@ -15,4 +15,5 @@ pub use lengths::table_row;
 pub use starting::start_reader;
 pub use starting::start_sender;
 pub use states::Outcome;
+pub use states::is_valid;
 pub use states::next_of;

@@ -1,3 +1,5 @@
+mod CasesPX
+mod Origins
 mod Parts
 mod Stands
 mod Valued

@@ -1,3 +1,4 @@
 pub mod Finder
+pub mod FinderPX
 pub mod Rows
 pub mod Lookup

@@ -1,11 +1,14 @@
-// Document 01: what a cell of PM holds, a row of a matrix, and what a control block says.
+// Document 01: what a cell of PM holds, a row of a matrix, and what a control block says; and what a cell of PX1 or PX2 holds.
 mod blocks;
 mod finder;
+mod finder_px;
 mod rows;
 
 pub use blocks::LookedUp;
 pub use blocks::lookup;
 pub use finder::Found;
 pub use finder::find;
+pub use finder_px::FoundPx;
+pub use finder_px::find_px;
 pub use rows::pm_row;
 pub use rows::px_row;
