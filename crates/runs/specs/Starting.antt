@@ -31,6 +31,10 @@ next s = record { mode = s .mode; half = (s .half + 1) % 2; age = min 2 (s .age 
 abbrev pub fresh : ℕ → State
 fresh mode = record { mode = mode; half = 0; age = 0 }
 
+-- the state before L1 frame t of a run
+abbrev pub stateAt : (mode t : ℕ) → State
+stateAt mode t = record { mode = mode; half = t % 2; age = min 2 t }
+
 -- ---- a start, of a sender with the lengths `senderLen`, of a reader with `readerLen`
 
 -- its answer, the state, and the memory as it leaves it
