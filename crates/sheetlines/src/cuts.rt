@@ -2,7 +2,7 @@
 ghost use mathlib.Core.Path.{_≡_};
 ghost use Prim.Native.Nat.{_+_, _≤_};
 ghost use lib.ListN.{length, drop};
-ghost use Rattle.sheetlines.specs.Cuts.{after, before, newline, space};
+ghost use Rattle.sheetlines.specs.Cuts.{after, before, endsList, newline, space};
 
 // Where the first separator stands from `at` on: at the text's end, where there is none.
 fn end_of(text: &[u8], at: usize, separator: u8) -> usize
@@ -27,6 +27,23 @@ pub fn line_end(text: &[u8], at: usize) -> usize
         return end_of(text, at, b'\n');
     }
     at
+}
+
+// Whether a list ends here, in an empty line.
+pub fn ends_list(text: &[u8]) -> bool
+    ensures { λ r. ⌜ r ≡ endsList (now (text .entry)) ⌝ }
+{
+    let n = text.len();
+    if n == 0 {
+        return false;
+    }
+    if text[n - 1] != b'\n' {
+        return false;
+    }
+    if n == 1 {
+        return true;
+    }
+    text[n - 2] == b'\n'
 }
 
 // The first word of a line.

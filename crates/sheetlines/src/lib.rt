@@ -4,6 +4,7 @@ mod entries;
 mod questions;
 mod values;
 
+pub use cuts::ends_list;
 pub use cuts::line_end;
 pub use entries::Entry;
 pub use entries::asks_of;
