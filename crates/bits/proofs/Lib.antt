@@ -1,6 +1,7 @@
 pub mod Tests
 pub mod Numbers
 pub mod Written
+pub mod Around
 pub mod Once
 pub mod Packed
 pub mod Parts

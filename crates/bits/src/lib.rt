@@ -1,6 +1,6 @@
 // House packing: a bit of a packed buffer is reached by shift and mask, the first of eight weighing 128.
 ghost use mathlib.Core.Path.{_≡_};
-ghost use Prim.Native.Nat.{_*_, _<_};
+ghost use Prim.Native.Nat.{ℕ, _+_, _*_, _%_, _<_};
 ghost use lib.ListN.{length, replicate};
 ghost use Rattle.bits.specs.Bits.{bitAt, put as «put-bit»};
 ghost use Rattle.bits.specs.Tests.{same as «same-bytes»};
@@ -61,4 +61,16 @@ pub fn same(a: &[u8], b: &[u8]) -> bool
         i += 1;
     }
     true
+}
+
+// The place after r, of the places 0 to n - 1 counted around: what a remainder by n comes to, without the division.
+pub fn next_around(n: usize, r: usize) -> usize
+    requires { ⌜ r < n ⌝ }
+    ensures { λ s. ⌜ ((i : ℕ) → r ≡ i % n → s ≡ (i + 1) % n) × (s < n) ⌝ }
+{
+    let s = r + 1;
+    if s < n {
+        return s;
+    }
+    0
 }

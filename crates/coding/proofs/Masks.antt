@@ -23,6 +23,15 @@ pub unitBit-bit : (rate : Rate) (x i : ℕ) → unitBit rate x i < 2
 unfolding unitBit
 unitBit-bit rate x i = masked-bit rate _ _
 
+-- bit t of group q of a unit
+pub unit-bit-of : (rate : Rate) (x q t : ℕ) → t < 2
+    → unitBit rate x (2 * q + t) ≡ masked rate (x / 2 ^ ((7 - q) * groupSize rate)) (groupSize rate + t)
+unfolding unitBit
+unit-bit-of rate x q t h =
+    let high : (2 * q + t) / 2 ≡ q = omega arith in
+    let low : (2 * q + t) % 2 ≡ t = omega arith in
+    ap₂ (λ (j k : ℕ). masked rate (x / 2 ^ ((7 - j) * groupSize rate)) (groupSize rate + k)) high low
+
 pub group-lt : (rate : Rate) (w : ℕ) → groupOf rate w < 256
 unfolding groupOf
 group-lt TwoFifths w = omega (arith, number-lt 5 (masked TwoFifths w) (λ i l. masked-bit TwoFifths w i))

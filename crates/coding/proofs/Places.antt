@@ -25,6 +25,10 @@ apart-or-first : (v l d : ℕ) → d ≤ l → (v * l ≡ 0) ⊎ (d ≤ v * l)
 apart-or-first zero l d h = inl (zero-mul l)
 apart-or-first (suc v) l d h = inr (omega (arith, suc-mul v l))
 
+-- unit u of the frames is unit v of its frame
+abbrev pub UnitIs : (n u v : ℕ) → Type 0
+UnitIs n u v = (v ≡ u % (n / 2)) × (v < n / 2)
+
 module _ (n u : ℕ) (long : 12 ≤ 8 * n) (even : n % 2 ≡ 0) where
   abbrev pub frameOf : ℕ
   frameOf = u / (n / 2)

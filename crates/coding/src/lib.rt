@@ -100,10 +100,11 @@ fn unit_bits(rate: Rate, x: u64) -> u64
 {
     let l = size(rate);
     let mut word: u64 = 0;
-    let mut i: usize = 0;
-    while i < 16 {
-        word = (word << 1) | parity(rate, x >> ((7 - i / 2) * l), l + i % 2);
-        i += 1;
+    let mut q: usize = 0;
+    while q < 8 {
+        let w = x >> ((7 - q) * l);
+        word = (word << 2) | ((parity(rate, w, l) << 1) | parity(rate, w, l + 1));
+        q += 1;
     }
     word
 }
@@ -134,40 +135,40 @@ fn store(word: u64, m: usize, j: usize, out: &mut [u8])
     }
 }
 
-// The byte d places before byte j, counted around the end of its frame of n bytes.
-fn before(n: usize, j: usize, d: usize) -> usize
-    requires { ⌜ (0 < n) × (d ≤ n) × (j / n * n + n < 2 ^ 64) ⌝ }
-    ensures { λ r. ⌜ r ≡ j / n * n + back n (j % n) d ⌝ }
+// The byte d places before byte j, counted around the end of its frame of n bytes, of which it is byte r.
+fn before(n: usize, j: usize, r: usize, d: usize) -> usize
+    requires { ⌜ (0 < n) × (d ≤ n) × (j / n * n + n < 2 ^ 64) × (r ≡ j % n) ⌝ }
+    ensures { λ b. ⌜ b ≡ j / n * n + back n (j % n) d ⌝ }
 {
-    if j % n < d {
+    if r < d {
         return j + (n - d);
     }
     j - d
 }
 
-// Of frames of n bytes: the bits of m bytes from byte j on, and of the d before it, counted around the end of its frame.
-fn around(n: usize, j: usize, d: usize, m: usize, bytes: &[u8]) -> u64
-    requires { ⌜ Within n j d m (now bytes) ⌝ }
-    ensures { λ r. ⌜ r ≡ number (8 * d + 8 * m) («around-of» n j d (bitAt (now (bytes .entry)))) ⌝ }
+// Of frames of n bytes: the bits of m bytes from byte j on, which is byte r of its frame, and of the d before it, counted around the frame's end.
+fn around(n: usize, j: usize, r: usize, d: usize, m: usize, bytes: &[u8]) -> u64
+    requires { ⌜ Within n j d m (now bytes) × (r ≡ j % n) ⌝ }
+    ensures { λ w. ⌜ w ≡ number (8 * d + 8 * m) («around-of» n j d (bitAt (now (bytes .entry)))) ⌝ }
 {
-    (load(bytes, before(n, j, d), d) << (8 * m)) | load(bytes, j, m)
+    (load(bytes, before(n, j, r, d), d) << (8 * m)) | load(bytes, j, m)
 }
 
-// The coded bits of unit u of the frames.
-fn coded_unit(rate: Rate, table: &[u8; 256], n: usize, frames: &[u8], u: usize) -> u64
-    requires { ⌜ Groups rate (now table) × (12 ≤ 8 * n) × (n % 2 ≡ 0) × (u / (n / 2) * n + n ≤ length (now frames)) ⌝ }
+// The coded bits of unit u of the frames, which is unit v of its frame.
+fn coded_unit(rate: Rate, table: &[u8; 256], n: usize, frames: &[u8], u: usize, v: usize) -> u64
+    requires { ⌜ Groups rate (now table) × (12 ≤ 8 * n) × (n % 2 ≡ 0) × (u / (n / 2) * n + n ≤ length (now frames)) × (v ≡ u % (n / 2)) ⌝ }
     ensures { λ r. ⌜ r ≡ number (8 * groupSize rate) (λ i. codedEach rate (8 * n) (bitAt (now (frames .entry))) (8 * (groupSize rate * u) + i)) ⌝ }
 {
-    unit_coded(rate, table, around(n, 2 * u, 1, 2, frames))
+    unit_coded(rate, table, around(n, 2 * u, 2 * v, 1, 2, frames))
 }
 
-// The bits of unit u of the frames whose codings are `coded`.
-fn frame_unit(rate: Rate, n: usize, coded: &[u8], u: usize) -> u64
-    requires { ⌜ (12 ≤ 8 * n) × (n % 2 ≡ 0) × (u / (n / 2) * (n / 2 * groupSize rate) + n / 2 * groupSize rate ≤ length (now coded)) ⌝ }
+// The bits of unit u of the frames whose codings are `coded`, which is unit v of its frame.
+fn frame_unit(rate: Rate, n: usize, coded: &[u8], u: usize, v: usize) -> u64
+    requires { ⌜ (12 ≤ 8 * n) × (n % 2 ≡ 0) × (u / (n / 2) * (n / 2 * groupSize rate) + n / 2 * groupSize rate ≤ length (now coded)) × (v ≡ u % (n / 2)) ⌝ }
     ensures { λ r. ⌜ r ≡ number 16 (λ i. uncodedEach rate (8 * n) (bitAt (now (coded .entry))) (8 * (2 * u) + i)) ⌝ }
 {
     let l = size(rate);
-    unit_bits(rate, around(n / 2 * l, l * u, 2, l, coded))
+    unit_bits(rate, around(n / 2 * l, l * u, l * v, 2, l, coded))
 }
 
 // Codes frames of n bytes (section 9.3), each by itself.
@@ -178,9 +179,11 @@ pub fn encode(rate: Rate, n: usize, count: usize, frames: &[u8], out: &mut [u8])
     let l = size(rate);
     let table = groups(rate);
     let mut u: usize = 0;
+    let mut v: usize = 0;
     while u < frames.len() / 2 {
-        store(coded_unit(rate, &table, n, frames, u), l, l * u, out);
+        store(coded_unit(rate, &table, n, frames, u, v), l, l * u, out);
         u += 1;
+        v = bits::next_around(n / 2, v);
     }
 }
 
@@ -190,9 +193,11 @@ pub fn decode(rate: Rate, n: usize, count: usize, coded: &[u8], out: &mut [u8])
     ensures { λ _. ⌜ now (out .exit) ≡ packed (length (now (out .entry))) (uncodedEach rate (8 * n) (bitAt (now (coded .entry)))) ⌝ }
 {
     let mut u: usize = 0;
+    let mut v: usize = 0;
     while u < out.len() / 2 {
-        store(frame_unit(rate, n, coded, u), 2, 2 * u, out);
+        store(frame_unit(rate, n, coded, u, v), 2, 2 * u, out);
         u += 1;
+        v = bits::next_around(n / 2, v);
     }
 }
 
@@ -206,11 +211,13 @@ pub fn first_bad(rate: Rate, n: usize, count: usize, coded: &[u8], frames: &[u8]
     let table = groups(rate);
     let units = frames.len() / 2;
     let mut u: usize = 0;
+    let mut v: usize = 0;
     while u < units {
-        if coded_unit(rate, &table, n, frames, u) != load(coded, l * u, l) {
+        if coded_unit(rate, &table, n, frames, u, v) != load(coded, l * u, l) {
             return u / (n / 2);
         }
         u += 1;
+        v = bits::next_around(n / 2, v);
     }
     count
 }

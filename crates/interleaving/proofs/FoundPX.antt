@@ -1,14 +1,17 @@
--- What the finder of PX says of a cell: the coded bit that it names comes to stand there, so many L1 frames later. Assumes nothing.
+-- What the finder of PX says of a cell: the coded bit that it names comes to stand there, so many L1 frames later; and in an L1 frame of age 0 or 1 it
+-- names a bit from before the start exactly where the reader knows that only the zero fill can stand. Assumes nothing.
 use mathlib.Core.Path.{_≡_, refl, sym, ap, subst, _∙_}
 use Prim.Native.Nat.{ℕ, zero, suc, _+_, _-_, _*_, _/_, _%_, _<_, _≤_}
 use native.Mathlib.Decide.{decLt}
-use native.Mathlib.Nat.{div-add-mod', mod-lt}
+use native.Mathlib.Nat.{div-add-mod', le-div-iff-mul-le, mod-eq-of-lt, mod-lt}
 use native.Mathlib.Omega.{arith}
-use Rattle.interleaving.specs.PX.{codedBits, cells, stepOf, place, later}
+use lib.Dec.{ltb}
+use borrow.Author.Tests.{lt-ltb, le-ltb}
+use Rattle.interleaving.specs.PX.{codedBits, cells, stepOf, place, later, unreached}
 use Rattle.interleaving.specs.FinderPX.{source, since, origin, earlier, codedBit}
 use Rattle.interleaving.proofs.Mod.{mod-of, div-of, quotient-lt}
 use Rattle.interleaving.proofs.OncePX.{px-each-once}
-use Rattle.interleaving.proofs.Steps.{stepOf-lt}
+use Rattle.interleaving.proofs.Steps.{stepOf-lt, unreached-is}
 
 -- the step s wrote the cell that bit c of an L1 frame of N bits reads, w steps before: o is the bit that it wrote, counted from the L1 frame two earlier
 module _ (N half c s w o : ℕ) where
@@ -63,6 +66,23 @@ named-is N half c s w lh lc ls e =
     subst (λ s. Named N half c s w (2 * N + c - w)) split
     (halves N c (s % N) lc lj half (s / N) lh (quotient-lt s N 2 ls) w (e ∙ ap (λ s. (half * N + c + 2 * N - s) % (2 * N)) (sym split)))
 
+-- in half 0 or 1 the step of bit c reads a cell that the step s writes: o is the bit, from the turn of the matrix before where s is still to come
+early : (N half c s o : ℕ) → half < 2 → c < N → s < 2 * N → half * N + c < s → o ≡ c + (s - (half * N + c)) → half < 2 - o / N
+early N zero c s o lh lc ls l e = omega (arith, quotient-lt o N 2 (omega arith))
+early N (suc zero) c s o lh lc ls l e = omega (arith, quotient-lt o N 1 (omega arith))
+early N (suc (suc half)) c s o lh lc ls l e = absurd (omega arith)
+
+late : (N half c s o : ℕ) → half < 2 → c < N → s ≤ half * N + c → o ≡ 2 * N + c - (half * N + c - s) → 2 - o / N ≤ half
+late N zero c s o lh lc l e =
+    let pos : 0 < N = omega arith in
+    let h : 2 * N ≤ o = omega arith in
+    omega (arith, le-div-iff-mul-le pos .1 h)
+late N (suc zero) c s o lh lc l e =
+    let pos : 0 < N = omega arith in
+    let h : 1 * N ≤ o = omega arith in
+    omega (arith, le-div-iff-mul-le pos .1 h)
+late N (suc (suc half)) c s o lh lc l e = absurd (omega arith)
+
 -- the coded bit that the finder names stands in the cell c of the matrix so many L1 frames later; `later` counts from the matrix of its own L1 frame
 module _ (kind half c : ℕ) (hk : kind < 2) (lh : half < 2) (lc : c < codedBits kind) where
   all : cells kind ≡ 2 * codedBits kind
@@ -93,3 +113,31 @@ module _ (kind half c : ℕ) (hk : kind < 2) (lh : half < 2) (lc : c < codedBits
       ap (λ (s : ℕ). codedBit kind half c + (place kind s + cells kind - s) % cells kind) step
       ∙ ap (λ (p : ℕ). codedBit kind half c + (p + cells kind - source kind i) % cells kind) (px-each-once kind hk .back-there i below)
       ∙ apart
+
+  -- where its step comes before the one that writes the cell, and where not
+  pub origin-around : stepOf kind half c < source kind (stepOf kind half c) → origin kind half c ≡ c + (source kind (stepOf kind half c) - stepOf kind half c)
+  unfolding origin since i
+  origin-around h =
+      let ls : source kind (stepOf kind half c) < cells kind = px-each-once kind hk .back (stepOf kind half c) below in
+      let r : stepOf kind half c + cells kind - source kind (stepOf kind half c) < cells kind = omega arith in
+      rw (mod-eq-of-lt r) (omega (arith, below))
+
+  pub origin-behind : source kind (stepOf kind half c) ≤ stepOf kind half c
+      → origin kind half c ≡ 2 * codedBits kind + c - (stepOf kind half c - source kind (stepOf kind half c))
+  unfolding origin since i
+  origin-behind h =
+      rw (mod-of (cells kind) 1 (stepOf kind half c - source kind (stepOf kind half c)) (stepOf kind half c + cells kind - source kind (stepOf kind half c))
+      (omega arith) (omega (arith, below)))
+
+  -- in L1 frames 0 and 1 of a run, whose age is their half, the bit is from before the start exactly where the step can show only the zero fill
+  pub unreached-when : unreached kind (stepOf kind half c) ≡ ltb half (earlier kind half c)
+  unfolding i
+  unreached-when = unreached-is kind (stepOf kind half c) hk below ∙ go (decLt (stepOf kind half c) (source kind (stepOf kind half c)))
+    where
+      go : Dec (stepOf kind half c < source kind (stepOf kind half c)) → ltb (stepOf kind half c) (source kind (stepOf kind half c)) ≡ ltb half (earlier kind half c)
+      go (yes l) =
+          lt-ltb _ _ l
+          ∙ sym (lt-ltb _ _ (early (codedBits kind) half c _ _ lh lc (omega (arith, px-each-once kind hk .back (stepOf kind half c) below)) l (origin-around l)))
+      go (no l) =
+          let b : source kind (stepOf kind half c) ≤ stepOf kind half c = omega arith in
+          le-ltb _ _ b ∙ sym (le-ltb _ _ (late (codedBits kind) half c _ _ lh lc b (origin-behind b)))

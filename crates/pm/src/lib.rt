@@ -1,7 +1,7 @@
 // The PM interleaving process (section 10.4.1): P1 by Interleaver I, PIDS by Interleaver II, into one matrix of 368640 cells.
 ghost use mathlib.Core.Path.{_≡_};
-ghost use Prim.Native.Nat.{ℕ, _+_, _*_, _<_};
-ghost use lib.ListN.{length, getD};
+ghost use Prim.Native.Nat.{ℕ, _+_, _*_, _/_, _<_};
+ghost use lib.ListN.{length, getD, take};
 ghost use Rattle.bits.specs.Bits.{bitAt, packed, written, byteOf};
 ghost use Rattle.interleaving.specs.InverseI.{spot as «spot-of», kAt};
 ghost use Rattle.interleaving.specs.Source.{at};
@@ -149,25 +149,39 @@ fn shift(k: usize) -> usize
     k * 11 % 32 * 720 + (k * 11 + k / 288) % 36
 }
 
-// The cell of the bit u of the byte j of the coded P1 frame.
-fn cell_in_byte(cells: &[usize; 320], j: usize, u: usize) -> usize
-    requires { ⌜ (j < 45680) × (u < 8) × FirstCells (now cells) ⌝ }
+// The cell of the bit u of the byte j of the coded P1 frame; s is how far on the cells of its k lie, which 40 bytes share.
+fn cell_in_byte(cells: &[usize; 320], k: usize, s: usize, j: usize, u: usize) -> usize
+    requires { ⌜ (j < 45680) × (u < 8) × (k ≡ j / 40) × (s ≡ shiftOf k) × (s < 23040) × FirstCells (now cells) ⌝ }
     ensures { λ r. ⌜ r ≡ p1Place (8 * j + u) ⌝ }
 {
-    cells[j % 40 * 8 + u] + shift(j / 40)
+    cells[8 * (j - 40 * k) + u] + s
 }
 
 // Writes the byte j of the coded P1 frame into the matrix.
-fn scatter_byte(coded: &[u8], cells: &[usize; 320], j: usize, pm: &mut [u8])
-    requires { ⌜ (length (now coded) ≡ 45680) × (length (now pm) ≡ 46080) × (j < 45680) × FirstCells (now cells) ⌝ }
+fn scatter_byte(coded: &[u8], cells: &[usize; 320], k: usize, s: usize, j: usize, pm: &mut [u8])
+    requires { ⌜ (length (now coded) ≡ 45680) × (length (now pm) ≡ 46080) × (j < 45680) × (k ≡ j / 40) × (s ≡ shiftOf k) × (s < 23040) × FirstCells (now cells) ⌝ }
     ensures { λ _. ⌜ ((m : ℕ → ℕ) → bitAt (now (pm .entry)) ≡ written p1Place (bitAt (now (coded .entry))) (8 * j) m → bitAt (now (pm .exit)) ≡ written p1Place (bitAt (now (coded .entry))) (8 * j + 8) m) ⌝ }
 {
     let mut u = 0;
     while u < 8 {
         let bit = bits::get(coded, 8 * j + u);
-        let c = cell_in_byte(cells, j, u);
+        let c = cell_in_byte(cells, k, s, j, u);
         bits::put(pm, c, bit);
         u += 1;
+    }
+}
+
+// Writes the 40 bytes of one k of the coded P1 frame into the matrix.
+fn scatter_k(coded: &[u8], cells: &[usize; 320], k: usize, pm: &mut [u8])
+    requires { ⌜ (length (now coded) ≡ 45680) × (length (now pm) ≡ 46080) × (k < 1142) × FirstCells (now cells) ⌝ }
+    ensures { λ _. ⌜ ((m : ℕ → ℕ) → bitAt (now (pm .entry)) ≡ written p1Place (bitAt (now (coded .entry))) (320 * k) m → bitAt (now (pm .exit)) ≡ written p1Place (bitAt (now (coded .entry))) (320 * (k + 1)) m) ⌝ }
+{
+    let s = shift(k);
+    let end = 40 * k + 40;
+    let mut j = 40 * k;
+    while j < end {
+        scatter_byte(coded, cells, k, s, j, pm);
+        j += 1;
     }
 }
 
@@ -177,10 +191,10 @@ fn scatter_p1(coded: &[u8], pm: &mut [u8])
     ensures { λ _. ⌜ now (pm .exit) ≡ packed 46080 (written p1Place (bitAt (now (coded .entry))) 365440 (bitAt (now (pm .entry)))) ⌝ }
 {
     let cells = first_cells();
-    let mut j = 0;
-    while j < 45680 {
-        scatter_byte(coded, &cells, j, pm);
-        j += 1;
+    let mut k = 0;
+    while k < 1142 {
+        scatter_k(coded, &cells, k, pm);
+        k += 1;
     }
 }
 
@@ -208,18 +222,32 @@ pub fn interleave(p1: &[u8], pids: &[u8], pm: &mut [u8])
 }
 
 // The byte j of the coded P1 frame, read out of the matrix.
-fn gather_byte(pm: &[u8], cells: &[usize; 320], j: usize) -> u8
-    requires { ⌜ (length (now pm) ≡ 46080) × (j < 45680) × FirstCells (now cells) ⌝ }
+fn gather_byte(pm: &[u8], cells: &[usize; 320], k: usize, s: usize, j: usize) -> u8
+    requires { ⌜ (length (now pm) ≡ 46080) × (j < 45680) × (k ≡ j / 40) × (s ≡ shiftOf k) × (s < 23040) × FirstCells (now cells) ⌝ }
     ensures { λ r. ⌜ r ≡ byteOf (λ i. bitAt (now (pm .entry)) (p1Place i)) j ⌝ }
 {
     let mut a: u8 = 0;
     let mut u = 0;
     while u < 8 {
-        let c = cell_in_byte(cells, j, u);
+        let c = cell_in_byte(cells, k, s, j, u);
         a = (a << 1) | bits::get(pm, c);
         u += 1;
     }
     a
+}
+
+// Reads the 40 bytes of one k of the coded P1 frame out of the matrix.
+fn gather_k(pm: &[u8], cells: &[usize; 320], k: usize, coded: &mut [u8])
+    requires { ⌜ (length (now pm) ≡ 46080) × (length (now coded) ≡ 45680) × (k < 1142) × FirstCells (now cells) ⌝ }
+    ensures { λ _. ⌜ (take (40 * k) (now (coded .entry)) ≡ packed (40 * k) (λ i. bitAt (now (pm .entry)) (p1Place i)) → take (40 * (k + 1)) (now (coded .exit)) ≡ packed (40 * (k + 1)) (λ i. bitAt (now (pm .entry)) (p1Place i))) ⌝ }
+{
+    let s = shift(k);
+    let end = 40 * k + 40;
+    let mut j = 40 * k;
+    while j < end {
+        coded[j] = gather_byte(pm, cells, k, s, j);
+        j += 1;
+    }
 }
 
 // Reads the coded P1 bits out of the matrix.
@@ -228,10 +256,10 @@ pub fn gather_p1(pm: &[u8], coded: &mut [u8])
     ensures { λ _. ⌜ now (coded .exit) ≡ packed 45680 (λ i. bitAt (now (pm .entry)) (p1Place i)) ⌝ }
 {
     let cells = first_cells();
-    let mut j = 0;
-    while j < coded.len() {
-        coded[j] = gather_byte(pm, &cells, j);
-        j += 1;
+    let mut k = 0;
+    while k < 1142 {
+        gather_k(pm, &cells, k, coded);
+        k += 1;
     }
 }
 

@@ -1,4 +1,4 @@
 pub mod Words
 pub mod Entries
 pub mod Frames
-pub mod Rounds
+pub mod Turns

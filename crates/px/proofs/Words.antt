@@ -4,6 +4,8 @@ use Prim.Native.Nat.{ℕ, zero, suc, _+_, _-_, _*_, _/_, _%_, _^_, _≤_, _<_}
 use native.Mathlib.Nat.{mul-le-mul, div-le-self, le-trans, mod-lt, div-add-mod'}
 use native.Mathlib.Omega.{arith}
 use lib.Bits.{bitAnd, and-mask}
+use mir.Syntax.{w64}
+use mir.Val.{Fits}
 use Rattle.interleaving.specs.PX.{partitions, runs}
 use Rattle.interleaving.proofs.PXKinds.{kind-is}
 
@@ -27,12 +29,12 @@ row-of-is zero h c = omega arith
 row-of-is (suc zero) h c = omega arith
 row-of-is (suc (suc kind)) h c = omega arith
 
--- a round has 288 or 576 bytes
-pub rounds-is : (kind : ℕ) → kind < 2 → (j : ℕ) → j / 288 / 2 ^ kind ≡ j / (144 * partitions kind)
+-- a turn takes 288 or 576 bytes
+pub turns-is : (kind : ℕ) → kind < 2 → (j : ℕ) → j / 288 / 2 ^ kind ≡ j / (144 * partitions kind)
 unfolding partitions
-rounds-is zero h j = omega arith
-rounds-is (suc zero) h j = omega arith
-rounds-is (suc (suc kind)) h j = omega arith
+turns-is zero h j = omega arith
+turns-is (suc zero) h j = omega arith
+turns-is (suc (suc kind)) h j = omega arith
 
 -- the column of a cell, y its row
 pub column-is : (kind c y j : ℕ) → y ≡ c / (partitions kind * 36) → j ≡ partitions kind → c - y * (j * 36) ≡ c % (partitions kind * 36)
@@ -48,6 +50,8 @@ step-fits kind hk p x q j m hp hx q-is j-is m-is =
     let b : (q * j + p) * m ≤ 147468 * 4 = rw m-is (mul-le-mul s (K .M-le)) in
     (a, b)
 
--- the product of `entry` fits
-pub entry-fits : (p n j : ℕ) → j ≤ 4 → (32 * ((n / 1152 + (n % 1152 + p * 7)) % 32) + 11 * n % 1152 / 36) * (j * 36) ≤ 1023 * 144
-entry-fits p n j h = mul-le-mul {n₂ = 1023} {m₂ = 144} (omega arith) (omega arith)
+-- the products and sums of `entry` fit: w cells in a block, and the place e in it
+pub blocks-fit : (x w e : ℕ) → w ≤ 4608 → e ≤ 4750 → Fits w64 (x % 32 * w) × Fits w64 (x % 32 * w + e)
+blocks-fit x w e h l =
+    let p : x % 32 * w ≤ 31 * 4608 = mul-le-mul {n₂ = 31} {m₂ = 4608} (omega arith) h in
+    (omega arith, omega arith)

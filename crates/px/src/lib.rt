@@ -8,8 +8,7 @@ ghost use Rattle.interleaving.specs.InverseIV.{missed as «missed-of», count, 
 ghost use Rattle.interleaving.specs.PX.{partitions as «partitions-of», runs as «runs-of», codedBytes, codedBits, cells};
 ghost use Rattle.interleaving.specs.PX.{place as «place-of», stepOf, after, read, later as «later-of», isFill, firstFill};
 ghost use Rattle.interleaving.specs.FinderPX.{source as «source-of»};
-ghost use Rattle.px.specs.Entries.{entry as «entry-of»};
-ghost use Rattle.px.specs.Rounds.{FirstRound};
+ghost use Rattle.px.specs.Entries.{entry as «entry-of», Spots, Parts, Counts};
 
 // Tables 10-15 and 10-16: J, M, and the bytes of an L1 frame's coded bits. Kind 0 is MP2, and kind 1 is MP3 and MP11.
 const J: [usize; 2] = [2, 4];
@@ -62,27 +61,6 @@ fn counter(kind: usize, p: usize, x: usize) -> usize
     x / 8 * m + (x & (m - 1)) - missed(m, p)
 }
 
-// 10.2.6.2 to 10.2.6.4: the cell of the entry n of the partition p.
-fn entry(kind: usize, p: usize, n: usize) -> usize
-    requires { ⌜ (kind < 2) × (p < 4) × (n < 36864) ⌝ }
-    ensures { λ r. ⌜ r ≡ «entry-of» kind p n ⌝ }
-{
-    let j = partitions(kind);
-    let b = (n / 1152 + (n % 1152 + p * 7)) % 32;
-    let y = 11 * n % 1152;
-    (32 * b + y / 36) * (j * 36) + (36 * p + y % 36)
-}
-
-// 10.2.6: the cell that the step i writes.
-pub fn place(kind: usize, i: usize) -> usize
-    requires { ⌜ (kind < 2) × (i < cells kind) ⌝ }
-    ensures { λ r. ⌜ r ≡ «place-of» kind i ⌝ }
-{
-    let x = i + 2 * (runs(kind) / 4);
-    let p = (x % 8) >> (2 - kind);
-    entry(kind, p, counter(kind, p, x))
-}
-
 // 10.2.6.2 to 10.2.6.4 turned round: the entry of the partition p that stands at a block, a row and a column.
 fn entry_at(p: usize, b: usize, r: usize, c: usize) -> usize
     requires { ⌜ (p < 4) × (b < 32) × (r < 32) × (c < 36) ⌝ }
@@ -122,21 +100,16 @@ fn step_of(kind: usize, half: usize, j: usize) -> usize
     half * coded_bits(kind) + j
 }
 
-// Where the coded bit j of an L1 frame stands in its matrix and the two that follow, laid end to end.
-fn later(kind: usize, half: usize, j: usize) -> usize
-    requires { ⌜ (kind < 2) × (half < 2) × (j < codedBits kind) ⌝ }
-    ensures { λ r. ⌜ (r ≡ «later-of» kind half j) × (r < 3 * codedBits kind) ⌝ }
+// The byte j of an L1 frame, counted through the two L1 frames of the internal matrix.
+fn byte_of(kind: usize, half: usize, j: usize) -> usize
+    requires { ⌜ (kind < 2) × (half < 2) × (j < codedBytes kind) ⌝ }
+    ensures { λ r. ⌜ (r ≡ half * codedBytes kind + j) × (r < 2 * codedBytes kind) ⌝ }
 {
-    let i = step_of(kind, half, j);
-    let c = place(kind, i);
-    if c < i {
-        return j + (c + 2 * coded_bits(kind) - i);
-    }
-    j + (c - i)
+    half * BYTES[kind] + j
 }
 
-// The bits of a round, in which each partition takes 1152 entries. A test is quicker than a table here, which is used for every bit.
-fn round(kind: usize) -> usize
+// The cells of a block of 32 rows. A test is quicker than a table here, which is used for every bit.
+fn block(kind: usize) -> usize
     requires { ⌜ kind < 2 ⌝ }
     ensures { λ r. ⌜ (r ≡ 1152 * «partitions-of» kind) × (r ≤ 4608) ⌝ }
 {
@@ -146,64 +119,118 @@ fn round(kind: usize) -> usize
     4608
 }
 
-// Where the coded bits of an L1 frame's first round stand. The next round's cells are the same ones of the blocks that follow.
-fn first_round(kind: usize, half: usize) -> [u32; 4608]
-    requires { ⌜ (kind < 2) × (half < 2) ⌝ }
-    ensures { λ r. ⌜ FirstRound kind half r ⌝ }
+// 10.2.6.3 and 10.2.6.4: where the 1152 entries of a turn stand in their block, from the partition's first cell.
+fn spots(kind: usize) -> [u16; 1152]
+    requires { ⌜ kind < 2 ⌝ }
+    ensures { λ r. ⌜ Spots kind r ⌝ }
 {
-    let mut at = [0u32; 4608];
-    let n = round(kind);
-    let mut t = 0;
-    while t < n {
-        at[t] = later(kind, half, t) as u32;
-        t += 1;
+    let mut at = [0u16; 1152];
+    let width = 36 * partitions(kind);
+    let mut n = 0;
+    while n < 1152 {
+        let y = 11 * n % 1152;
+        at[n] = (y / 36 * width + y % 36) as u16;
+        n += 1;
     }
     at
 }
 
-// Where the bit u of the byte j of an L1 frame's coded bits stands: as far on in its round as in the first. A round has 288 or 576 bytes.
-fn later_in_byte(kind: usize, half: usize, at: &[u32; 4608], j: usize, u: usize) -> usize
-    requires { ⌜ (kind < 2) × (half < 2) × (j < codedBytes kind) × (u < 8) × FirstRound kind half (now at) ⌝ }
-    ensures { λ r. ⌜ (r ≡ «later-of» kind half (8 * j + u)) × (r < 3 * codedBits kind) ⌝ }
+// 10.2.6.2 to 10.2.6.4: the cell of the entry n of a turn of the partition p.
+fn entry(kind: usize, at: &[u16; 1152], p: usize, turn: usize, n: usize) -> usize
+    requires { ⌜ (kind < 2) × (p < 4) × (turn < 32) × (n < 1152) × Spots kind (now at) ⌝ }
+    ensures { λ r. ⌜ r ≡ «entry-of» kind p (1152 * turn + n) ⌝ }
 {
-    let s = ((j / 288) >> kind) * round(kind);
-    at[8 * j + u - s] as usize + s
+    let b = (turn + (n + p * 7)) % 32;
+    b * block(kind) + (at[n] as usize + 36 * p)
 }
 
-// The cell that the bit u of the byte j of an L1 frame's coded bits is written to.
-fn cell_in_byte(kind: usize, half: usize, at: &[u32; 4608], j: usize, u: usize) -> usize
-    requires { ⌜ (kind < 2) × (half < 2) × (j < codedBytes kind) × (u < 8) × FirstRound kind half (now at) ⌝ }
-    ensures { λ r. ⌜ (r ≡ «place-of» kind (stepOf kind half (8 * j + u))) × (r < cells kind) ⌝ }
+// 10.2.6.1: the partitions of the eight steps of a byte, the same for every byte.
+fn parts(kind: usize) -> [usize; 8]
+    requires { ⌜ kind < 2 ⌝ }
+    ensures { λ r. ⌜ Parts kind r ⌝ }
 {
-    let n = coded_bits(kind);
-    let c = half * n + later_in_byte(kind, half, at, j, u);
-    if c < 2 * n {
-        return c;
+    let mut parts = [0usize; 8];
+    let m = runs(kind);
+    let mut u = 0;
+    while u < 8 {
+        parts[u] = ((u + 2 * (m / 4)) % 8) >> (2 - kind);
+        u += 1;
     }
-    c - 2 * n
+    parts
+}
+
+// 10.2.6.1: how far on the counters of the eight steps of a byte are. The next byte's are M on.
+fn counts(kind: usize) -> [usize; 8]
+    requires { ⌜ kind < 2 ⌝ }
+    ensures { λ r. ⌜ Counts kind r ⌝ }
+{
+    let mut counts = [0usize; 8];
+    let m = runs(kind);
+    let mut u = 0;
+    while u < 8 {
+        let x = u + 2 * (m / 4);
+        counts[u] = counter(kind, (x % 8) >> (2 - kind), x);
+        u += 1;
+    }
+    counts
+}
+
+// A turn of 1152 entries of each partition, and an entry in it.
+struct Turn {
+    turn: usize,
+    entry: usize,
+}
+
+// The turn of the byte q, and its first entry. A turn takes 288 or 576 bytes.
+fn turn_of(kind: usize, q: usize) -> Turn
+    requires { ⌜ (kind < 2) × (q < 2 * codedBytes kind) ⌝ }
+    ensures { λ r. ⌜ (1152 * r .turn + r .entry ≡ q * «runs-of» kind) × (r .turn < 32) × (r .entry + «runs-of» kind ≤ 1152) ⌝ }
+{
+    let turn = (q / 288) >> kind;
+    let entry = (q - turn * (block(kind) / 8)) * runs(kind);
+    Turn { turn, entry }
+}
+
+// 10.2.6: the cell that the step u of a byte writes; n is the byte's first entry in its turn.
+fn cell_in_byte(
+    kind: usize,
+    at: &[u16; 1152],
+    parts: &[usize; 8],
+    counts: &[usize; 8],
+    turn: usize,
+    n: usize,
+    u: usize,
+) -> usize
+    requires { ⌜ (kind < 2) × (turn < 32) × (n + «runs-of» kind ≤ 1152) × (u < 8) × Spots kind (now at) × Parts kind (now parts) × Counts kind (now counts) ⌝ }
+    ensures { λ r. ⌜ ((q : ℕ) → 1152 * turn + n ≡ q * «runs-of» kind → r ≡ «place-of» kind (8 * q + u)) ⌝ }
+{
+    entry(kind, at, parts[u], turn, n + counts[u])
 }
 
 // 10.2.2.2, the eight steps of the byte j of an L1 frame: each writes its coded bit, and then reads the cell of its own number. The bits read, as a byte.
 fn exchange_byte(
     kind: usize,
     half: usize,
-    at: &[u32; 4608],
+    at: &[u16; 1152],
+    parts: &[usize; 8],
+    counts: &[usize; 8],
     j: usize,
     coded: &[u8],
     memory: &mut [u8],
 ) -> u8
-    requires { ⌜ (kind < 2) × (half < 2) × (j < codedBytes kind) × FirstRound kind half (now at) ⌝ }
+    requires { ⌜ (kind < 2) × (half < 2) × (j < codedBytes kind) × Spots kind (now at) × Parts kind (now parts) × Counts kind (now counts) ⌝ }
     requires { ⌜ (length (now coded) ≡ codedBytes kind) × (length (now memory) ≡ 2 * codedBytes kind) ⌝ }
     ensures { λ r. ⌜ ((m : List ℕ) → bitAt (now (memory .entry)) ≡ after kind half (bitAt (now (coded .entry))) (bitAt m) (8 * j) → (bitAt (now (memory .exit)) ≡ after kind half (bitAt (now (coded .entry))) (bitAt m) (8 * j + 8)) × (r ≡ byteOf (read kind half (bitAt (now (coded .entry))) (bitAt m)) j)) ⌝ }
 {
+    let q = byte_of(kind, half, j);
+    let t = turn_of(kind, q);
     let mut a: u8 = 0;
     let mut u = 0;
     while u < 8 {
-        let i = step_of(kind, half, 8 * j + u);
-        let c = cell_in_byte(kind, half, at, j, u);
+        let c = cell_in_byte(kind, at, parts, counts, t.turn, t.entry, u);
         let b = bits::get(coded, 8 * j + u);
         bits::put(memory, c, b);
-        a = (a << 1) | bits::get(memory, i);
+        a = (a << 1) | bits::get(memory, 8 * q + u);
         u += 1;
     }
     a
@@ -216,24 +243,49 @@ pub fn pass(kind: usize, half: usize, coded: &[u8], memory: &mut [u8], px: &mut 
     ensures { λ _. ⌜ now (memory .exit) ≡ packed (2 * codedBytes kind) (after kind half (bitAt (now (coded .entry))) (bitAt (now (memory .entry))) (codedBits kind)) ⌝ }
     ensures { λ _. ⌜ now (px .exit) ≡ packed (codedBytes kind) (read kind half (bitAt (now (coded .entry))) (bitAt (now (memory .entry)))) ⌝ }
 {
-    let at = first_round(kind, half);
+    let at = spots(kind);
+    let parts = parts(kind);
+    let counts = counts(kind);
     let mut j = 0;
     while j < px.len() {
-        px[j] = exchange_byte(kind, half, &at, j, coded, memory);
+        px[j] = exchange_byte(kind, half, &at, &parts, &counts, j, coded, memory);
         j += 1;
     }
 }
 
+// Where the coded bit j of an L1 frame stands in its matrix and the two that follow, laid end to end: i is its step, c the cell that it writes, and n the cells.
+fn later(n: usize, i: usize, c: usize, j: usize) -> usize
+    requires { ⌜ (i < n) × (c < n) × (j ≤ i) × (n < 147457) ⌝ }
+    ensures { λ r. ⌜ ((kind half : ℕ) → n ≡ cells kind → i ≡ stepOf kind half j → c ≡ «place-of» kind i → r ≡ «later-of» kind half j) ⌝ }
+{
+    if c < i {
+        return j + (c + n - i);
+    }
+    j + (c - i)
+}
+
 // The byte j of an L1 frame's coded bits out of its matrix and the two that follow.
-fn gather_byte(kind: usize, half: usize, at: &[u32; 4608], j: usize, three: &[u8]) -> u8
-    requires { ⌜ (kind < 2) × (half < 2) × (j < codedBytes kind) × FirstRound kind half (now at) × (length (now three) ≡ 3 * codedBytes kind) ⌝ }
+fn gather_byte(
+    kind: usize,
+    half: usize,
+    at: &[u16; 1152],
+    parts: &[usize; 8],
+    counts: &[usize; 8],
+    j: usize,
+    three: &[u8],
+) -> u8
+    requires { ⌜ (kind < 2) × (half < 2) × (j < codedBytes kind) × Spots kind (now at) × Parts kind (now parts) × Counts kind (now counts) × (length (now three) ≡ 3 * codedBytes kind) ⌝ }
     ensures { λ r. ⌜ r ≡ byteOf (λ i. bitAt (now (three .entry)) («later-of» kind half i)) j ⌝ }
 {
+    let n = 2 * coded_bits(kind);
+    let q = byte_of(kind, half, j);
+    let t = turn_of(kind, q);
     let mut a: u8 = 0;
     let mut u = 0;
     while u < 8 {
-        let n = later_in_byte(kind, half, at, j, u);
-        a = (a << 1) | bits::get(three, n);
+        let c = cell_in_byte(kind, at, parts, counts, t.turn, t.entry, u);
+        let l = later(n, 8 * q + u, c, 8 * j + u);
+        a = (a << 1) | bits::get(three, l);
         u += 1;
     }
     a
@@ -244,10 +296,12 @@ pub fn gather(kind: usize, half: usize, three: &[u8], coded: &mut [u8])
     requires { ⌜ (kind < 2) × (half < 2) × (length (now three) ≡ 3 * codedBytes kind) × (length (now coded) ≡ codedBytes kind) ⌝ }
     ensures { λ _. ⌜ now (coded .exit) ≡ packed (codedBytes kind) (λ j. bitAt (now (three .entry)) («later-of» kind half j)) ⌝ }
 {
-    let at = first_round(kind, half);
+    let at = spots(kind);
+    let parts = parts(kind);
+    let counts = counts(kind);
     let mut j = 0;
     while j < coded.len() {
-        coded[j] = gather_byte(kind, half, &at, j, three);
+        coded[j] = gather_byte(kind, half, &at, &parts, &counts, j, three);
         j += 1;
     }
 }

@@ -1,18 +1,21 @@
--- What the finder of PX says, case by case. Assumes nothing.
-use mathlib.Core.Path.{_≡_}
+-- What the finder of PX says, case by case, and what that means. Assumes nothing.
+use mathlib.Core.Path.{_≡_, sym, _∙_}
 use mathlib.Core.Bool.{true, false}
 use Prim.Native.Nat.{ℕ, _+_, _-_, _*_, _/_, _%_, _<_, _≤_}
+use native.Mathlib.Decide.{decLt}
+use native.Mathlib.Nat.{div-add-mod'}
 use native.Mathlib.Omega.{arith}
 use borrow.Author.Tests.{eq-eqb, ne-eqb, lt-ltb, le-ltb}
-use Rattle.interleaving.specs.PX.{codedBits}
-use Rattle.interleaving.specs.FinderPX.{origin}
+use Rattle.interleaving.specs.PX.{codedBits, stepOf, unreached}
+use Rattle.interleaving.specs.FinderPX.{origin, earlier, codedBit}
+use Rattle.interleaving.proofs.FoundPX.{unreached-when}
 use Rattle.runs.specs.declared.Answer.the-variants.{StateNotValid, WrongLength}
 use Rattle.runs.specs.declared.Kind.{Kind}
 use Rattle.runs.specs.declared.State.{State}
 use Rattle.runs.specs.Lengths.{tableRow}
 use Rattle.runs.specs.Starting.{valid}
 use Rattle.queries.specs.declared.finder_px.FoundPx.the-variants.{Coded, Fill, Refused}
-use Rattle.queries.specs.FinderPX.{kindOfNumber, columnsOf, cellOf, frameCoded, told, foundPX}
+use Rattle.queries.specs.FinderPX.{kindOfNumber, columnsOf, frameCoded, told, foundPX}
 use Rattle.queries.proofs.Origins.{rows-hold, frame-holds}
 
 module _ (s : State) (channel pair row column : ℕ) where
@@ -63,3 +66,44 @@ module _ (k : Kind) (half age y column row x o : ℕ) (row-is : row ≡ tableRow
       → Coded (2 - o / (8 * (64 * x))) (o % (8 * (64 * x)) / (64 * x)) (o % (8 * (64 * x)) % (64 * x)) ≡ told k half age (y * columnsOf k + column)
   unfolding told
   coded-told h = rw (named, all, one, le-ltb _ _ h)
+
+-- ---- and what it means
+
+module _ (k : Kind) (half age cell : ℕ) where
+  pub fill-means : told k half age cell ≡ Fill → age < earlier (tableRow k) half cell
+  unfolding told
+  fill-means e = go (decLt age (earlier (tableRow k) half cell))
+    where
+      go : Dec (age < earlier (tableRow k) half cell) → age < earlier (tableRow k) half cell
+      go (yes l) = l
+      go (no l) =
+          let x = rw (le-ltb age (earlier (tableRow k) half cell) (omega arith)) at e in
+          let z : _≡_ {A = ℕ} 0 1 = cc in
+          absurd (omega arith)
+
+  pub coded-means : (n frame bit : ℕ) → told k half age cell ≡ Coded n frame bit
+      → (n ≡ earlier (tableRow k) half cell) × (n ≤ age) × (frame * frameCoded k + bit ≡ codedBit (tableRow k) half cell)
+  unfolding told
+  coded-means n frame bit e = go (decLt age (earlier (tableRow k) half cell))
+    where
+      go : Dec (age < earlier (tableRow k) half cell)
+          → (n ≡ earlier (tableRow k) half cell) × (n ≤ age) × (frame * frameCoded k + bit ≡ codedBit (tableRow k) half cell)
+      go (yes l) =
+          let x = rw (lt-ltb age (earlier (tableRow k) half cell) l) at e in
+          let z : _≡_ {A = ℕ} 0 1 = cc in
+          absurd (omega arith)
+      go (no l) =
+          let x = rw (le-ltb age (earlier (tableRow k) half cell) (omega arith)) at e in
+          let en : n ≡ earlier (tableRow k) half cell = cc in
+          let ef : frame ≡ codedBit (tableRow k) half cell / frameCoded k = cc in
+          let eb : bit ≡ codedBit (tableRow k) half cell % frameCoded k = cc in
+          (en, omega arith, rw (ef, eb) (div-add-mod' _ _))
+
+-- in L1 frames 0 and 1, whose age is their half, the finder says fill of exactly the cells that can show nothing else: a reading refuses a 1 there
+pub fill-where : (k : Kind) (half cell : ℕ) → tableRow k < 2 → half < 2 → cell < codedBits (tableRow k)
+    → (told k half half cell ≡ Fill → unreached (tableRow k) (stepOf (tableRow k) half cell) ≡ true)
+    × (unreached (tableRow k) (stepOf (tableRow k) half cell) ≡ true → told k half half cell ≡ Fill)
+unfolding told
+fill-where k half cell u lh lc =
+    let same = unreached-when (tableRow k) half cell u lh lc in
+    (λ f. same ∙ lt-ltb half _ (fill-means k half half cell f), λ r. rw (sym same ∙ r))

@@ -1,5 +1,6 @@
 mod CasesPX
 mod Origins
 mod Parts
+pub mod Sheets
 mod Stands
 mod Valued

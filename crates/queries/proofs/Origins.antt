@@ -1,11 +1,11 @@
 -- The coded bit that stands in a cell of PX1 or PX2, as the code counts it, and the numbers of a kind from the cells of its rows. Assumes nothing.
-use mathlib.Core.Path.{_≡_, refl, ap, _∙_}
+use mathlib.Core.Path.{_≡_, refl, sym, ap, _∙_}
 use Prim.Native.Nat.{ℕ, _+_, _-_, _*_, _≤_, _<_}
-use native.Mathlib.Nat.{mod-eq-of-lt}
 use native.Mathlib.Omega.{arith}
 use Rattle.interleaving.specs.PX.{codedBytes, codedBits, cells, stepOf}
-use Rattle.interleaving.specs.FinderPX.{source, since, origin}
-use Rattle.interleaving.proofs.Mod.{digits-lt, mod-of}
+use Rattle.interleaving.specs.FinderPX.{source, origin}
+use Rattle.interleaving.proofs.FoundPX.{origin-around, origin-behind}
+use Rattle.interleaving.proofs.Mod.{digits-lt}
 use Rattle.interleaving.proofs.OncePX.{px-each-once}
 use Rattle.interleaving.proofs.PXKinds.{codedBytes-le}
 use Rattle.interleaving.proofs.Steps.{stepOf-lt}
@@ -54,16 +54,6 @@ cell-small k n y column e ly lc = omega (arith, cell-lt k n y column e ly lc, ro
 
 -- ---- the coded bit
 
--- i is the step that reads the cell, and s the step that writes it
-module _ (kind half cell i s : ℕ) (i-is : i ≡ stepOf kind half cell) (s-is : s ≡ source kind i) (li : i < cells kind) (ls : s < cells kind) where
-  around : i < s → cell + (s - i) ≡ origin kind half cell
-  unfolding origin since
-  around h = rw (← i-is, ← s-is, mod-eq-of-lt (let l : i + cells kind - s < cells kind = omega arith in l)) (omega arith)
-
-  behind : s ≤ i → 2 * codedBits kind + cell - (i - s) ≡ origin kind half cell
-  unfolding origin since
-  behind h = rw (← i-is, ← s-is, mod-of (cells kind) 1 (i - s) (i + cells kind - s) (omega arith) (omega arith))
-
 -- n is the number of an L1 frame's coded bits
 module _ (kind n half cell : ℕ) (hk : kind < 2) (n-is : n ≡ codedBits kind) (lh : half < 2) (lc : cell < codedBits kind) where
   pub step-lt : half * n + cell < cells kind
@@ -72,16 +62,17 @@ module _ (kind n half cell : ℕ) (hk : kind < 2) (n-is : n ≡ codedBits kind) 
   pub step-small : half * n + cell < 147456
   step-small = omega (arith, step-lt, codedBytes-le kind hk)
 
+  -- s is the step that writes the cell
   module _ (s : ℕ) (s-is : s ≡ source kind (half * n + cell)) where
-    i-is : half * n + cell ≡ stepOf kind half cell
-    i-is = ap (λ (x : ℕ). half * x + cell) n-is
+    written-by : s ≡ source kind (stepOf kind half cell)
+    written-by = s-is ∙ ap (λ (x : ℕ). source kind (half * x + cell)) n-is
 
     s-lt : s < cells kind
     s-lt = rw s-is (px-each-once kind hk .back _ step-lt)
 
-    pub origin-around : half * n + cell < s → (cell + (s - (half * n + cell)) ≡ origin kind half cell) × (cell + (s - (half * n + cell)) < 3 * codedBits kind)
-    origin-around h = (around kind half cell _ s i-is s-is step-lt s-lt h, omega (arith, s-lt))
+    pub around : half * n + cell < s → (cell + (s - (half * n + cell)) ≡ origin kind half cell) × (cell + (s - (half * n + cell)) < 3 * codedBits kind)
+    around h = (rw (n-is, written-by) (sym (origin-around kind half cell hk lh lc (rw (n-is, written-by) at h))), omega (arith, s-lt))
 
-    pub origin-behind : s ≤ half * n + cell
+    pub behind : s ≤ half * n + cell
         → (2 * n + cell - (half * n + cell - s) ≡ origin kind half cell) × (2 * n + cell - (half * n + cell - s) < 3 * codedBits kind)
-    origin-behind h = (ap (λ (x : ℕ). 2 * x + cell - (half * n + cell - s)) n-is ∙ behind kind half cell _ s i-is s-is step-lt s-lt h, omega arith)
+    behind h = (rw (n-is, written-by) (sym (origin-behind kind half cell hk lh lc (rw (n-is, written-by) at h))), omega arith)

@@ -1,4 +1,5 @@
 pub mod Finder
 pub mod FinderPX
+pub mod Sheets
 pub mod Rows
 pub mod Lookup

@@ -75,12 +75,12 @@ module _ (mode : ℕ) (cov : covered mode ≡ true) (F : ℕ → Frames) (n : �
 -- ---- the matrices fix the frames
 
 module _ (mode : ℕ) where
-  pm-at : (a : SenderRun mode) (t : ℕ) → t < count mode a
+  pub pm-at : (a : SenderRun mode) (t : ℕ) → t < count mode a
       → matricesAt mode a t .pm ≡ pmOf (frameAt mode a t .p1) (frameAt mode a t .pids)
   unfolding defined signalOf
   pm-at a t h = ap (λ (x : Matrices). x .pm) (matrices-at mode a t h)
 
-  px-at : (a : SenderRun mode) (e : Extended) (t : ℕ) → t < count mode a
+  pub px-at : (a : SenderRun mode) (e : Extended) (t : ℕ) → t < count mode a
       → matrixOf (matricesAt mode a t) e ≡ matrixIn mode (frameAt mode a) e t
   unfolding matrixIn
   px-at a e t h = ap (λ (x : Matrices). matrixOf x e) (matrices-at mode a t h)

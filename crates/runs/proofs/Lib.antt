@@ -11,6 +11,7 @@ pub mod States
 pub mod Succeeds
 pub mod Sender
 pub mod Fixed
+pub mod Shown
 pub mod Memory
 pub mod Reader
 pub mod ReaderRun

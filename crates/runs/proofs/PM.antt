@@ -39,11 +39,11 @@ module _ (a b : Buffer) where
   cell-is c h =
       bitAt-packed 46080 _ (λ i _. matrix-lt p1-coded pids-coded (channel-bit TwoFifths 146176 (bitAt a)) (channel-bit TwoFifths 80 (bitAt b)) i) c h
 
-  p1-at : (i : ℕ) → i < 365440 → bitAt (pmOf a b) (p1Place i) ≡ p1-coded i
+  pub p1-at : (i : ℕ) → i < 365440 → bitAt (pmOf a b) (p1Place i) ≡ p1-coded i
   unfolding matrix
   p1-at i h = cell-is (p1Place i) (pm.pm-each-once .there (first i) h) ∙ pm.stands p1-coded pids-coded (λ c. 0) (first i) h
 
-  pids-at : (i : ℕ) → i < 3200 → bitAt (pmOf a b) (pidsPlace i) ≡ pids-coded i
+  pub pids-at : (i : ℕ) → i < 3200 → bitAt (pmOf a b) (pidsPlace i) ≡ pids-coded i
   unfolding matrix
   pids-at i h = cell-is (pidsPlace i) (pm.pm-each-once .there (second i) h) ∙ pm.stands p1-coded pids-coded (λ c. 0) (second i) h
 

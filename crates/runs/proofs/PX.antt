@@ -8,7 +8,7 @@ use native.Mathlib.Omega.{arith}
 use lib.ListN.{length, replicate}
 use lib.Dec.{eqb}
 use borrow.Author.Tests.{eqb-true}
-use Rattle.bits.specs.Bits.{Bytes, bitAt, written}
+use Rattle.bits.specs.Bits.{Bytes, bitAt}
 use Rattle.bits.proofs.Written.{written-lt, written-mem, written-never}
 use Rattle.bits.proofs.Packed.{bitAt-lt, bitAt-packed, length-packed, packed-of}
 use Rattle.bits.proofs.Parts.{bitAt-zeros}
@@ -40,14 +40,14 @@ module _ (k : Kind) where
 
   -- ---- L1 frames in a row, from frame 0 in half t % 2 upon the memory m
 
-  memories : ℕ → Buffer → (ℕ → Buffer) → ℕ → Buffer
+  unfoldable pub memories : ℕ → Buffer → (ℕ → Buffer) → ℕ → Buffer
   memories t m A zero = m
   memories t m A (suc i) = memOf k ((t + i) % 2) (memories t m A i) (A i)
 
-  matrices : ℕ → Buffer → (ℕ → Buffer) → ℕ → Buffer
+  unfoldable pub matrices : ℕ → Buffer → (ℕ → Buffer) → ℕ → Buffer
   matrices t m A i = pxOf k ((t + i) % 2) (memories t m A i) (A i)
 
-  abbrev codes : (ℕ → Buffer) → ℕ → ℕ → ℕ
+  abbrev pub codes : (ℕ → Buffer) → ℕ → ℕ → ℕ
   codes A i = channel Half (frameBits k) (bitAt (A i))
 
   memories-are : (t : ℕ) (m : Buffer) (A : ℕ → Buffer) (i c : ℕ) → c < 2 * bitsOf k
@@ -58,7 +58,7 @@ module _ (k : Kind) where
       bitAt-packed (senderLen k) _ (λ j _. after-lt ((t + i) % 2) (memories t m A i) (A i) (bitsOf k) j) c (omega (arith, memory-bits k))
       ∙ written-mem _ _ (bitsOf k) _ _ c (memories-are t m A i c h)
 
-  matrices-are : (t : ℕ) (m : Buffer) (A : ℕ → Buffer) (i j : ℕ) → j < bitsOf k
+  pub matrices-are : (t : ℕ) (m : Buffer) (A : ℕ → Buffer) (i j : ℕ) → j < bitsOf k
       → bitAt (matrices t m A i) j ≡ outAt (bitsOf k) (place (tableRow k)) t (bitAt m) (codes A) i j
   unfolding matrices outAt pxOf read after codedOf
   matrices-are t m A i j h =
@@ -122,22 +122,24 @@ module _ (k : Kind) where
 
   -- ---- L1 frames 0 and 1 upon a memory of zeros
 
+  -- a cell that no bit has reached shows 0
+  pub fill-zero : (A : ℕ → Buffer) (t c : ℕ) → t < 2 → c < bitsOf k → unreached (tableRow k) (base (bitsOf k) t + c) ≡ true
+      → bitAt (matrices 0 (replicate (senderLen k) 0) A t) c ≡ 0
+  unfolding unreached
+  fill-zero A t c two h e =
+      matrices-are 0 (replicate (senderLen k) 0) A t c h
+      ∙ fill (bitsOf k) (place (tableRow k)) (bitAt (replicate (senderLen k) 0)) (codes A) t c two h
+      (written-never (place (tableRow k)) (suc (base (bitsOf k) t + c)) (base (bitsOf k) t + c) (eqb-true _ 0 e))
+      ∙ bitAt-zeros (senderLen k) (base (bitsOf k) t + c)
+
   fill-clear : (A : ℕ → Buffer) (t c : ℕ) → t < 2 → c < bitsOf k
       → unreached (tableRow k) (base (bitsOf k) t + c) && eqb (bitAt (matrices 0 (replicate (senderLen k) 0) A t) c) 1 ≡ false
-  unfolding unreached
-  fill-clear A t c two h = go (eqb shown 0) refl
+  fill-clear A t c two h = go (unreached (tableRow k) (base (bitsOf k) t + c)) refl
     where
-      shown : ℕ
-      shown = written (place (tableRow k)) (λ s. 1) (suc (base (bitsOf k) t + c)) (λ s. 0) (base (bitsOf k) t + c)
-
-      go : (b : Bool) → eqb shown 0 ≡ b → b && eqb (bitAt (matrices 0 (replicate (senderLen k) 0) A t) c) 1 ≡ false
+      go : (b : Bool) → unreached (tableRow k) (base (bitsOf k) t + c) ≡ b
+          → b && eqb (bitAt (matrices 0 (replicate (senderLen k) 0) A t) c) 1 ≡ false
       go false e = refl
-      go true e =
-          ap (λ (x : ℕ). eqb x 1)
-          (matrices-are 0 (replicate (senderLen k) 0) A t c h
-          ∙ fill (bitsOf k) (place (tableRow k)) (bitAt (replicate (senderLen k) 0)) (codes A) t c two h
-          (written-never (place (tableRow k)) (suc (base (bitsOf k) t + c)) (base (bitsOf k) t + c) (eqb-true shown 0 e))
-          ∙ bitAt-zeros (senderLen k) (base (bitsOf k) t + c))
+      go true e = ap (λ (x : ℕ). eqb x 1) (fill-zero A t c two h e)
 
   pub fill-first : (a : Buffer) (c : ℕ) → c < 8 * matrixLen k → fillBad k 0 (pxOf k 0 (replicate (senderLen k) 0) a) c ≡ false
   unfolding fillBad isFill matrices memories

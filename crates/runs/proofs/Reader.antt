@@ -15,7 +15,7 @@ use Rattle.runs.specs.declared.Extended.the-variants.{P3, P4}
 use Rattle.runs.specs.Lengths.{kindOf, matrixLen, readerLen}
 use Rattle.runs.specs.Lent.{Frames, Signal, Lent, Memory, frameOf, memoryOf, signalOf, memoryNext}
 use Rattle.runs.specs.Causes.{wrong}
-use Rattle.runs.specs.Starting.{memorySizes}
+use Rattle.runs.specs.Starting.{stateAt, memorySizes}
 use Rattle.runs.specs.Sending.{lentSizes}
 use Rattle.runs.specs.Reading.{pushed, readStep, received, fillPlace, framePlace}
 use Rattle.runs.specs.Runs.{Fitting}
@@ -25,7 +25,7 @@ use Rattle.runs.specs.WholeRuns.{Returned}
 use Rattle.runs.proofs.PX.{fill-first, fill-second}
 use Rattle.runs.proofs.PM.{p1-back, p1-good, pids-back, pids-good}
 use Rattle.runs.proofs.Passing.{beside-good, first-none, wrong-append}
-use Rattle.runs.proofs.States.{old, stateAt, valid-at}
+use Rattle.runs.proofs.States.{old, valid-at}
 use Rattle.runs.proofs.Succeeds.{Clear, read-succeeds}
 use Rattle.runs.proofs.Fixed.{extended-back, extended-good, in-length, matrixIn}
 use Rattle.runs.proofs.Memory.{push-length, push-three, pushed-of, readMemory}

@@ -11,13 +11,14 @@ use Rattle.control.specs.Modes.{covered}
 use Rattle.runs.specs.declared.State.{State}
 use Rattle.runs.specs.Answers.{numberOf}
 use Rattle.runs.specs.Lent.{Frames, Signal, Lent, Memory, Result}
+use Rattle.runs.specs.Starting.{stateAt}
 use Rattle.runs.specs.Reading.{readStep, received}
 use Rattle.runs.specs.Runs.{Call, calls, Fitting}
 use Rattle.runs.specs.Defined.{defined, table}
 use Rattle.runs.specs.Handed.{Given, Handed, done, other, given}
 use Rattle.runs.specs.WholeRuns.{Returned, noResult}
 use Rattle.runs.proofs.Lists.{cons-both}
-use Rattle.runs.proofs.States.{next-at, stateAt}
+use Rattle.runs.proofs.States.{next-at}
 use Rattle.runs.proofs.Memory.{read-refused, readMemory}
 use Rattle.runs.proofs.Reader.{read-given, read-gives}
 

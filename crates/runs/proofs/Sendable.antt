@@ -11,11 +11,11 @@ use Rattle.runs.specs.declared.Extended.the-variants.{P3, P4}
 use Rattle.runs.specs.Lengths.{kindOf, matrixLen, senderLen, pmLen, controlLen}
 use Rattle.runs.specs.Lent.{Frames, Lent, Memory, Result, ByteFrames, memoryNext}
 use Rattle.runs.specs.Causes.{wrong}
-use Rattle.runs.specs.Starting.{Started, memorySizes, zeros}
+use Rattle.runs.specs.Starting.{Started, stateAt, memorySizes, zeros}
 use Rattle.runs.specs.Sending.{lentSizes, sendStep, sent}
 use Rattle.runs.specs.Runs.{calls, succeeded, Every, Fitting, SenderRun, sendings, framesSent}
 use Rattle.runs.proofs.Passing.{wrong-append, wrong-cons, wrong-nil}
-use Rattle.runs.proofs.States.{next-at, start-ok, stateAt, valid-at}
+use Rattle.runs.proofs.States.{next-at, start-ok, valid-at}
 use Rattle.runs.proofs.Succeeds.{send-succeeds}
 use Rattle.runs.proofs.Sender.{MemoryRight, framesIn, memory-right}
 use Rattle.runs.proofs.Readable.{start-clear}

@@ -1,15 +1,16 @@
 -- A run of a sender, call by call: what it has sent is the definition of what is sent. Assumes nothing.
-use Prim.Native.Nat.{ℕ, zero, suc, _%_, _<_}
+use Prim.Native.Nat.{ℕ, zero, suc, _+_, _%_, _<_}
 use mathlib.Core.Path.{_≡_, refl, sym, ap, ap₂, _∙_, fun-ext}
 use mathlib.Core.Bool.{true, cond}
 use mathlib.Core.Option.{Option, none, some}
 use mathlib.Core.List.{List, [], _∷_, _++_, map}
-use native.Mathlib.Nat.{add-zero, not-suc-le-zero, le-of-suc-le-suc}
+use native.Mathlib.Nat.{add-zero, add-suc, suc-add, zero-add, not-suc-le-zero, le-of-suc-le-suc}
 use lib.ListN.{length, getD, length-replicate}
 use lib.Dec.{eqb}
 use Rattle.control.specs.Modes.{covered}
 use Rattle.runs.specs.declared.Answer.{Answer}
 use Rattle.runs.specs.declared.Answer.the-variants.{WrongLength}
+use Rattle.runs.specs.declared.State.{State}
 use Rattle.runs.specs.declared.Extended.{Extended}
 use Rattle.runs.specs.declared.Extended.the-variants.{P3, P4}
 use Rattle.runs.specs.declared.Kind.{Kind}
@@ -17,14 +18,14 @@ use Rattle.runs.specs.Lengths.{kindOf, senderLen}
 use Rattle.runs.specs.Lent.{Frames, Signal, Lent, Memory, Result, memoryOf, ByteFrames, signalOf, memoryNext}
 use Rattle.runs.specs.Answers.{numberOf, onSuccess}
 use Rattle.runs.specs.Causes.{Size, at, judge, wrong}
-use Rattle.runs.specs.Starting.{memorySizes, zeros}
+use Rattle.runs.specs.Starting.{fresh, stateAt, memorySizes, zeros}
 use Rattle.runs.specs.Sending.{lentSizes, refused, sendAnswer, sendStep, sent}
 use Rattle.runs.specs.Runs.{Call, calls, succeeded, Every, Fitting, SenderRun, sendings, framesSent, signalsSent, noFrames, noSignal, count, frameAt, matricesAt}
 use Rattle.runs.specs.Defined.{defined, table}
 use Rattle.runs.proofs.PX.{memory-length}
 use Rattle.runs.proofs.Lists.{length-map, table-at, table-shift}
 use Rattle.runs.proofs.Passing.{wrong-head}
-use Rattle.runs.proofs.States.{defined-shift, defined-start, definedFrom, memoryFrom, next-at, start-ok, stateAt, valid-at}
+use Rattle.runs.proofs.States.{defined-shift, defined-start, definedFrom, memoryFrom, next-at, start-ok, valid-at}
 
 lent-right : (mode : ℕ) (l : Lent) (rest : List Size) → ByteFrames (l .frames) → wrong 0 (lentSizes mode l ++ rest) ≡ none → Fitting mode (l .frames)
 unfolding lentSizes
@@ -44,9 +45,13 @@ framesIn ss = map (λ (c : Call). c .lent .frames) ss
 abbrev signalsIn : List Call → List Signal
 signalsIn ss = map (λ (c : Call). c .result .lent .signal) ss
 
+abbrev pub statesIn : List Call → List State
+statesIn ss = map (λ (c : Call). c .result .state) ss
+
 record Ran (mode T : ℕ) (m : Memory) (ss : List Call) : Type 0 where
   signals : signalsIn ss ≡ table 0 (length ss) (definedFrom mode T m (λ t. getD (framesIn ss) t noFrames))
   rights : (t : ℕ) → t < length ss → Fitting mode (getD (framesIn ss) t noFrames)
+  states : (t : ℕ) → t < length ss → getD (statesIn ss) t (fresh mode) ≡ stateAt mode (suc (T + t))
 
 -- one more call that succeeded, in front
 ran-cons : (mode T : ℕ) (m : Memory) (l : Lent) (ss : List Call) → Fitting mode (l .frames)
@@ -57,6 +62,10 @@ ran-cons mode T m l ss right ih =
     record {
       signals = ap₂ (λ (x : Signal) (xs : List Signal). x ∷ xs) here (ih .signals ∙ rest);
       rights = λ t. elim t [ zero ↦ λ h. right | suc k ↦ λ h. ih .rights k (le-of-suc-le-suc h) ];
+      states = λ t. elim t [
+        | zero ↦ λ h. next-at mode T ∙ ap (λ (k : ℕ). stateAt mode (suc k)) (sym (add-zero T))
+        | suc k ↦ λ h. ih .states k (le-of-suc-le-suc h) ∙ ap (λ (k : ℕ). stateAt mode (suc k)) (suc-add T k ∙ sym (add-suc T k))
+      ];
     }
   where
     F : ℕ → Frames
@@ -96,7 +105,7 @@ send-cases mode cov T m l bytes A bad good = rw (valid-at mode cov T) (go (wrong
 send-run : (mode : ℕ) → covered mode ≡ true → (ls : List Lent) → Every (λ (l : Lent). ByteFrames (l .frames)) ls
     → (T : ℕ) (m : Memory) → MemoryRight senderLen mode m → Ran mode T m (succeeded (calls sendStep (stateAt mode T) m ls))
 unfolding calls succeeded table sent
-send-run mode cov [] s T m right = record { signals = refl; rights = λ t h. absurd (not-suc-le-zero h) }
+send-run mode cov [] s T m right = record { signals = refl; rights = λ t h. absurd (not-suc-le-zero h); states = λ t h. absurd (not-suc-le-zero h) }
 send-run mode cov (l ∷ ls) s T m right =
     send-cases mode cov T m l (s .0)
     (λ r. Ran mode T m
@@ -128,6 +137,10 @@ as-defined-is mode a =
 pub right-at : (mode : ℕ) (a : SenderRun mode) (t : ℕ) → t < count mode a → Fitting mode (frameAt mode a t)
 unfolding frameAt framesSent
 right-at mode a t h = sent-facts mode a .rights t (rw (count-is mode a) at h)
+
+-- the state that the sending of L1 frame t returned is the one before L1 frame t + 1
+pub state-after : (mode : ℕ) (a : SenderRun mode) (t : ℕ) → t < count mode a → getD (statesIn (succeeded (sendings mode a))) t (fresh mode) ≡ stateAt mode (suc t)
+state-after mode a t h = sent-facts mode a .states t (rw (count-is mode a) at h) ∙ ap (λ (k : ℕ). stateAt mode (suc k)) (zero-add t)
 
 pub matrices-at : (mode : ℕ) (a : SenderRun mode) (t : ℕ) → t < count mode a
     → matricesAt mode a t ≡ defined mode (frameAt mode a) t .matrices

@@ -10,13 +10,12 @@ use borrow.Author.Tests.{lt-ltb}
 use Rattle.control.specs.Modes.{covered}
 use Rattle.runs.specs.declared.Answer.{Answer}
 use Rattle.runs.specs.declared.Answer.the-variants.{ModeNotCovered, WrongLength}
-use Rattle.runs.specs.declared.State.{State}
 use Rattle.runs.specs.declared.Kind.{Kind}
 use Rattle.runs.specs.Lengths.{senderLen}
 use Rattle.runs.specs.Lent.{Frames, Signal, Memory, signalOf, memoryNext}
 use Rattle.runs.specs.Answers.{numberOf, onSuccess}
 use Rattle.runs.specs.Causes.{at, judge, when, wrong}
-use Rattle.runs.specs.Starting.{Started, aged, valid, next, fresh, memorySizes, zeros, startAnswer, started, start}
+use Rattle.runs.specs.Starting.{Started, aged, valid, next, fresh, stateAt, memorySizes, zeros, startAnswer, started, start}
 use Rattle.runs.specs.Defined.{memoryBefore, defined}
 
 -- ---- a start that succeeded
@@ -38,9 +37,6 @@ start-ok len mode m = go (covered mode) (wrong 0 (memorySizes len mode m))
     go false o e = absurd (omega arith)
 
 -- ---- states
-
-abbrev pub stateAt : ℕ → ℕ → State
-stateAt mode t = record { mode = mode; half = t % 2; age = min 2 t }
 
 pub old : (k : ℕ) → min 2 (suc (suc k)) ≡ 2
 old k = omega arith

@@ -12,6 +12,7 @@ use lib.ListN.{getD, length}
 use lib.Bits.{bitXor}
 use borrow.Author.Tests.{eq-eqb, ne-eqb}
 use Rattle.bits.specs.Bits.{number, bitAt, packed}
+use Rattle.bits.proofs.Around.{next-inside, next-first}
 use Rattle.bits.proofs.Packed.{bitAt-lt}
 use Rattle.bits.proofs.Numbers.{number-cong}
 use Rattle.bits.proofs.Stores.{number-xor, byte-number}
@@ -21,31 +22,23 @@ use Rattle.scrambling.specs.Scrambler.{register, sequence, scrambled, sc
 abbrev pub Follows : ℕ → ℕ → ℕ → Type 0
 Follows n i reg = (i % n ≡ 0 → ⊥) → reg ≡ register (8 * (i % n))
 
-pub started : (n i reg : ℕ) → Follows n i reg → cond (eqb (i % n) 0) 1023 reg ≡ register (8 * (i % n))
+pub started : (n i r reg : ℕ) → r ≡ i % n → Follows n i reg → cond (eqb r 0) 1023 reg ≡ register (8 * (i % n))
 unfolding register
-started n i reg h =
+started n i r reg r-is h =
     elim (ℕ-discrete (i % n) 0) [
-      | yes e ↦ rw (eq-eqb (i % n) 0 e, e)
-      | no f ↦ rw (ne-eqb (i % n) 0 f) (h f)
+      | yes e ↦ rw (r-is, eq-eqb (i % n) 0 e, e)
+      | no f ↦ rw (r-is, ne-eqb (i % n) 0 f) (h f)
     ]
 
 pub followed : (n i reg : ℕ) → 0 < n → reg ≡ register (8 * (i % n) + 8) → Follows n (i + 1) reg
 followed n i reg hn e f =
     elim (decLt (i % n + 1) n) [
       | yes l ↦
-          let r : (i + 1) % n ≡ i % n + 1 = ap (λ (k : ℕ). k % n) (whole i) ∙ digits-mod (i / n) l in
+          let r = next-inside n i l in
           let s : 8 * (i % n) + 8 ≡ 8 * ((i + 1) % n) = omega arith in
           e ∙ ap register s
-      | no l ↦
-          let full : i % n + 1 ≡ n = omega (arith, mod-lt i hn) in
-          absurd (f (ap (λ (k : ℕ). k % n) (next full) ∙ digits-mod (i / n + 1) hn))
+      | no l ↦ absurd (f (next-first n i (omega (arith, mod-lt i hn))))
     ]
-  where
-    whole : (i : ℕ) → i + 1 ≡ i / n * n + (i % n + 1)
-    whole i = omega (arith, div-add-mod' i n)
-
-    next : i % n + 1 ≡ n → i + 1 ≡ (i / n + 1) * n + 0
-    next full = omega (arith, div-add-mod' i n)
 
 sequence-lt : (m : ℕ) → sequence m < 2
 unfolding sequence

@@ -19,7 +19,7 @@ before-requires c κs = search needs
 load-requires : tie.Need-load-requires
 load-requires c κs =
     let a = c .before .before .args in
-    let w = c .before .before .pre in
+    let w = c .before .before .pre .0 in
     (omega (arith, c .before2 .ensures, back-fits (a .n) (a .j % a .n) (a .d) (omega arith) (omega arith) (w .apart)), omega arith)
 
 mul-result : tie.Need-mul-result
@@ -36,7 +36,7 @@ load-requires-2 c κs =
 returns : tie.Need-returns
 returns c =
     let a = c .before .before .before .before .args in
-    let w = c .before .before .before .before .pre in
+    let w = c .before .before .before .before .pre .0 in
     let f : ℕ → ℕ = bitAt (a .bytes .now) in
     number-push (around (a .n) (a .j) (a .d) f) (around-bit (a .n) (a .j) (a .d) f (bitAt-lt (a .bytes .now))) 64 (8 * a .d) (8 * a .m) _ _ (omega arith)
     (c .before .load .ensures ∙ number-cong _ _ _ (λ i l. ap (λ (k : ℕ). f (8 * k + i)) (c .before .before .before2 .ensures)

@@ -7,9 +7,6 @@ use Rattle.coding.proofs.Turns.{back-inside, back-past}
 use Rattle.coding.proofs.before.Statement.{statement}
 use Rattle.coding.proofs.before.Tie as tie
 
-rem-if1 : tie.Need-rem-if1
-rem-if1 c = search needs
-
 sub-result : tie.Need-sub-result
 sub-result c = search needs
 
@@ -19,7 +16,7 @@ add-result c = let a = c .before .args in omega (arith, div-add-mod' (a .j) (a .
 returns : tie.Need-returns
 returns c =
     let a = c .before .args in
-    omega (arith, div-add-mod' (a .j) (a .n), back-past (a .n) (a .j % a .n) (a .d) (c .if1 .taken) (omega arith))
+    omega (arith, div-add-mod' (a .j) (a .n), back-past (a .n) (a .j % a .n) (a .d) (omega arith) (omega arith))
 
 sub-result-2 : tie.Need-sub-result-2
 sub-result-2 c = let a = c .before .args in omega (arith, div-add-mod' (a .j) (a .n))
@@ -27,7 +24,7 @@ sub-result-2 c = let a = c .before .args in omega (arith, div-add-mod' (a .j) (a
 returns-2 : tie.Need-returns-2
 returns-2 c =
     let a = c .before .args in
-    omega (arith, div-add-mod' (a .j) (a .n), back-inside (a .n) (a .j % a .n) (a .d) (c .if1 .left) (mod-lt (a .j) (omega arith)))
+    omega (arith, div-add-mod' (a .j) (a .n), back-inside (a .n) (a .j % a .n) (a .d) (omega arith) (mod-lt (a .j) (omega arith)))
 
 pub before-spec : {M : Type 1} → statement M
-before-spec = tie.close (tie.spec rem-if1 sub-result add-result returns sub-result-2 returns-2)
+before-spec = tie.close (tie.spec sub-result add-result returns sub-result-2 returns-2)

@@ -12,10 +12,10 @@ use Rattle.pm.proofs.gather_byte.Statement.{statement}
 use Rattle.pm.proofs.gather_byte.Tie as tie
 
 abbrev Inv-loop : tie.InvT-loop
-Inv-loop pm cells j a₀ u₀ a u = (u ≤ 8) × (a ≡ number u (λ k. bitAt pm (p1Place (8 * j + k))))
+Inv-loop pm cells k s j a₀ u₀ a u = (u ≤ 8) × (a ≡ number u (λ i. bitAt pm (p1Place (8 * j + i))))
 
 abbrev μ-loop : tie.MeasureT-loop
-μ-loop pm cells j a₀ u₀ a u = 8 - u
+μ-loop pm cells k s j a₀ u₀ a u = 8 - u
 
 loop-holds : tie.Need-loop-holds Inv-loop μ-loop
 unfolding number

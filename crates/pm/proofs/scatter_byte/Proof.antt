@@ -14,12 +14,12 @@ use Rattle.pm.proofs.scatter_byte.Statement.{statement}
 use Rattle.pm.proofs.scatter_byte.Tie as tie
 
 abbrev Inv-loop : tie.InvT-loop
-Inv-loop coded cells j pm₀ u₀ pm u =
+Inv-loop coded cells k s j pm₀ u₀ pm u =
     (u ≤ 8) × (length pm ≡ 46080)
     × ((m : ℕ → ℕ) → bitAt pm₀ ≡ written p1Place (bitAt coded) (8 * j) m → bitAt pm ≡ written p1Place (bitAt coded) (8 * j + u) m)
 
 abbrev μ-loop : tie.MeasureT-loop
-μ-loop coded cells j pm₀ u₀ pm u = 8 - u
+μ-loop coded cells k s j pm₀ u₀ pm u = 8 - u
 
 loop-holds : tie.Need-loop-holds Inv-loop μ-loop
 loop-holds c = (search needs, search needs, λ m e. rw add-zero e)

@@ -1,4 +1,4 @@
--- `pm::scatter_p1` meets its contract. The loop's invariant: the bits of the first j bytes are written. Assumes nothing.
+-- `pm::scatter_p1` meets its contract. The loop's invariant: the bits of the first k are written. Assumes nothing.
 use mathlib.Core.Path.{_≡_}
 use Prim.Native.Nat.{_≤_, _+_, _-_, _*_}
 use native.Mathlib.Omega.{arith}
@@ -11,11 +11,11 @@ use Rattle.pm.proofs.scatter_p1.Statement.{statement}
 use Rattle.pm.proofs.scatter_p1.Tie as tie
 
 abbrev Inv-loop : tie.InvT-loop
-Inv-loop coded pm₀ cells j₀ pm j =
-    (j ≤ 45680) × (length pm ≡ 46080) × Bytes pm × (bitAt pm ≡ written p1Place (bitAt coded) (8 * j) (bitAt pm₀))
+Inv-loop coded pm₀ cells k₀ pm k =
+    (k ≤ 1142) × (length pm ≡ 46080) × Bytes pm × (bitAt pm ≡ written p1Place (bitAt coded) (320 * k) (bitAt pm₀))
 
 abbrev μ-loop : tie.MeasureT-loop
-μ-loop coded pm₀ cells j₀ pm j = 45680 - j
+μ-loop coded pm₀ cells k₀ pm k = 1142 - k
 
 first-cells-requires : tie.Need-first-cells-requires Inv-loop μ-loop
 first-cells-requires c κs = search needs
@@ -24,23 +24,22 @@ loop-holds : tie.Need-loop-holds Inv-loop μ-loop
 unfolding written
 loop-holds c = (search needs, search needs, λ j. omega (arith, c .before .slice-known .given j), search needs)
 
-scatter-byte-requires : tie.Need-scatter-byte-requires Inv-loop μ-loop
-scatter-byte-requires c κs = (search needs, search needs, search needs, c .before .before .before .before .first-cells .ensures)
+scatter-k-requires : tie.Need-scatter-k-requires Inv-loop μ-loop
+scatter-k-requires c κs = (search needs, search needs, search needs, c .before .before .before .before .first-cells .ensures)
 
-add-j : tie.Need-add-j Inv-loop μ-loop
-add-j c = search needs
+add-k : tie.Need-add-k Inv-loop μ-loop
+add-k c = search needs
 
 loop-less : tie.Need-loop-less Inv-loop μ-loop
 loop-less c = search needs
 
 loop-again : tie.Need-loop-again Inv-loop μ-loop
 loop-again c =
-    let loop = c .before .before .before .before .before .before .loop in
-    let next : 8 * (loop .j + 1) ≡ 8 * loop .j + 8 = omega arith in (
+    let loop = c .before .before .before .before .before .before .loop in (
       search needs,
       search needs,
       λ j. omega (arith, c .slice-known2 .given j),
-      rw next (c .before .before .scatter-byte .ensures _ (loop .inv .3)),
+      c .before .before .scatter-k .ensures _ (loop .inv .3),
     )
 
 same-length : tie.Need-same-length Inv-loop μ-loop
@@ -49,7 +48,7 @@ same-length c = search needs
 returns : tie.Need-returns Inv-loop μ-loop
 returns c =
     let inv = c .before .loop .inv in
-    let all : 8 * c .before .loop .j ≡ 365440 = omega arith in
+    let all : 320 * c .before .loop .k ≡ 365440 = omega arith in
     packed-as 46080 _ _ (inv .1) (inv .2) (rw all at (inv .3))
 
 pub scatter-p1-spec : {M : Type 1} → statement M
@@ -60,8 +59,8 @@ scatter-p1-spec =
     μ-loop
     first-cells-requires
     loop-holds
-    scatter-byte-requires
-    add-j
+    scatter-k-requires
+    add-k
     loop-less
     loop-again
     same-length

@@ -1,13 +1,14 @@
--- `px::entry` meets its contract: the law `entry-is`. Assumes nothing.
+-- `px::entry` meets its contract: the law `entry-turn`. Assumes nothing.
+use mathlib.Core.Path.{_≡_}
+use Prim.Native.Nat.{_+_, _*_, _<_}
 use native.Mathlib.Omega.{arith}
-use Rattle.px.proofs.Words.{entry-fits}
-use Rattle.px.proofs.Entries.{entry-is}
+use lib.ListN.{getD}
+use Rattle.px.specs.Entries.{spot}
+use Rattle.px.proofs.Turns.{entry-turn, spot-lt}
+use Rattle.px.proofs.Words.{blocks-fit}
 use borrow.Author.Needs.{needs}
 use Rattle.px.proofs.entry.Statement.{statement}
 use Rattle.px.proofs.entry.Tie as tie
-
-partitions-requires : tie.Need-partitions-requires
-partitions-requires c κs = search needs
 
 mul-b : tie.Need-mul-b
 mul-b c = search needs
@@ -18,47 +19,61 @@ add-b c = search needs
 add-b-2 : tie.Need-add-b-2
 add-b-2 c = search needs
 
-mul-y : tie.Need-mul-y
-mul-y c = search needs
+block-requires : tie.Need-block-requires
+block-requires c κs = search needs
 
 mul-result : tie.Need-mul-result
-mul-result c = search needs
-
-add-result : tie.Need-add-result
-add-result c = search needs
+mul-result c = blocks-fit _ _ 0 (c .block .ensures .1) (omega arith) .0
 
 mul-result-2 : tie.Need-mul-result-2
 mul-result-2 c = search needs
 
-mul-result-3 : tie.Need-mul-result-3
-mul-result-3 c = omega (arith, entry-fits (c .before .args .p) (c .before .args .n) _ (c .partitions .ensures .2))
+element-copy-out-result : tie.Need-element-copy-out-result
+element-copy-out-result c = search needs
 
-mul-result-4 : tie.Need-mul-result-4
-mul-result-4 c = search needs
+-- what the table gives, and its bound
+read : (c : tie.After-result)
+    → (getD (c .before .before .args .at .now) (c .before .before .args .n) 0 ≡ spot (c .before .before .args .kind) (c .before .before .args .n))
+    × (spot (c .before .before .args .kind) (c .before .before .args .n) < 4608)
+read c =
+    let a = c .before .before .args in
+    let pre = c .before .before .pre in
+    (pre .4 (a .n) (pre .3), spot-lt (a .kind) (a .n) (pre .0))
+
+cast-result : tie.Need-cast-result
+cast-result c = omega (arith, read c .0, read c .1)
+
+mul-result-3 : tie.Need-mul-result-3
+mul-result-3 c = search needs
+
+add-result : tie.Need-add-result
+add-result c = omega (arith, read c .0, read c .1)
 
 add-result-2 : tie.Need-add-result-2
-add-result-2 c = search needs
-
-add-result-3 : tie.Need-add-result-3
-add-result-3 c = omega (arith, entry-fits (c .before .args .p) (c .before .args .n) _ (c .partitions .ensures .2))
+add-result-2 c =
+    let a = c .before .before .args in
+    let e = getD (a .at .now) (a .n) 0 + 36 * a .p in
+    blocks-fit _ _ e (c .before .block .ensures .1) (omega (arith, read c .0, read c .1)) .1
 
 returns : tie.Need-returns
-returns c = rw (c .partitions .ensures .0) (entry-is (c .before .args .kind) (c .before .args .p) (c .before .args .n))
+returns c =
+    let a = c .before .before .args in
+    let pre = c .before .before .pre in
+    rw (read c .0, c .before .block .ensures .0) (entry-turn (a .kind) (a .p) (a .turn) (a .n) (pre .0) (pre .3))
 
 pub entry-spec : {M : Type 1} → statement M
 entry-spec =
     tie.close
     (tie.spec
-    partitions-requires
     mul-b
     add-b
     add-b-2
-    mul-y
+    block-requires
     mul-result
-    add-result
     mul-result-2
+    element-copy-out-result
+    cast-result
     mul-result-3
-    mul-result-4
+    add-result
     add-result-2
-    add-result-3
     returns)

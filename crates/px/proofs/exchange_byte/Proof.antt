@@ -1,14 +1,15 @@
 -- `px::exchange_byte` meets its contract. The loop's invariant: u steps more are taken, and a is the number of the bits that they read. Assumes nothing.
 use mathlib.Core.Path.{_≡_, refl, ap, _∙_}
 use mathlib.Core.List.{List}
-use Prim.Native.Nat.{ℕ, _+_, _-_, _*_, _≤_}
+use Prim.Native.Nat.{ℕ, _+_, _-_, _*_, _≤_, _<_}
 use native.Mathlib.Nat.{add-zero}
 use native.Mathlib.Omega.{arith}
 use lib.ListN.{length}
 use Rattle.bits.specs.Bits.{bitAt, number}
 use Rattle.bits.proofs.Packed.{bitAt-lt}
 use Rattle.bits.proofs.Stores.{number-turn}
-use Rattle.interleaving.specs.PX.{codedBytes, after, read}
+use Rattle.interleaving.specs.PX.{cells, codedBytes, stepOf, place, after, read}
+use Rattle.interleaving.proofs.OncePX.{place-lt}
 use Rattle.interleaving.proofs.PXKinds.{codedBytes-le}
 use Rattle.px.proofs.Frames.{after-next, read-next, read-lt}
 use borrow.Author.Needs.{needs}
@@ -16,43 +17,54 @@ use Rattle.px.proofs.exchange_byte.Statement.{statement}
 use Rattle.px.proofs.exchange_byte.Tie as tie
 
 abbrev Inv-loop : tie.InvT-loop
-Inv-loop kind half at j coded memory₀ a₀ u₀ memory a u =
+Inv-loop kind half at parts counts j coded memory₀ q t a₀ u₀ memory a u =
     (u ≤ 8) × (length memory ≡ 2 * codedBytes kind)
     × ((m : List ℕ) → bitAt memory₀ ≡ after kind half (bitAt coded) (bitAt m) (8 * j)
     → (bitAt memory ≡ after kind half (bitAt coded) (bitAt m) (8 * j + u)) × (a ≡ number u (λ k. read kind half (bitAt coded) (bitAt m) (8 * j + k))))
 
 abbrev μ-loop : tie.MeasureT-loop
-μ-loop kind half at j coded memory₀ a₀ u₀ memory a u = 8 - u
+μ-loop kind half at parts counts j coded memory₀ q t a₀ u₀ memory a u = 8 - u
+
+byte-of-requires : tie.Need-byte-of-requires Inv-loop μ-loop
+byte-of-requires c κs = search needs
+
+turn-of-requires : tie.Need-turn-of-requires Inv-loop μ-loop
+turn-of-requires c κs = search needs
 
 loop-holds : tie.Need-loop-holds Inv-loop μ-loop
 unfolding number
 loop-holds c = (search needs, search needs, λ m e. (rw add-zero e, refl))
 
-mul-step-of : tie.Need-mul-step-of Inv-loop μ-loop
-mul-step-of c = omega (arith, codedBytes-le (c .before .before .before .before .args .kind) (c .before .before .before .before .pre .0 .0))
-
-add-step-of : tie.Need-add-step-of Inv-loop μ-loop
-add-step-of c = omega (arith, codedBytes-le (c .before .before .before .before .args .kind) (c .before .before .before .before .pre .0 .0))
-
-step-of-requires : tie.Need-step-of-requires Inv-loop μ-loop
-step-of-requires c κs = search needs
-
 cell-in-byte-requires : tie.Need-cell-in-byte-requires Inv-loop μ-loop
 cell-in-byte-requires c κs =
-    let pre = c .before .before .before .before .before .pre .0 in
-    (pre .0, pre .1, pre .2, c .before .loop-test .taken, pre .3)
+    let pre = c .before .before .before .before .before .before .pre .0 in
+    let turn = c .before .before .turn-of .ensures in
+    (pre .0, turn .1, turn .2, c .loop-test .taken, pre .3, pre .4, pre .5)
 
 mul-get : tie.Need-mul-get Inv-loop μ-loop
-mul-get c = omega (arith, codedBytes-le (c .before .before .before .before .before .before .args .kind) (c .before .before .before .before .before .before .pre .0 .0))
+mul-get c = omega (arith, codedBytes-le (c .before .before .before .before .before .before .before .args .kind) (c .before .before .before .before .before .before .before .pre .0 .0))
 
 add-get : tie.Need-add-get Inv-loop μ-loop
-add-get c = omega (arith, codedBytes-le (c .before .before .before .before .before .before .args .kind) (c .before .before .before .before .before .before .pre .0 .0))
+add-get c = omega (arith, codedBytes-le (c .before .before .before .before .before .before .before .args .kind) (c .before .before .before .before .before .before .before .pre .0 .0))
 
 get-requires : tie.Need-get-requires Inv-loop μ-loop
 get-requires c κs = search needs
 
 put-requires : tie.Need-put-requires Inv-loop μ-loop
-put-requires c κs = omega (arith, bitAt-lt (c .before .before .before .before .before .before .before .before .args .coded .now) (8 * c .before .before .before .before .before .before .before .before .args .j + c .before .before .before .before .before .loop .u))
+put-requires c κs =
+    let start = c .before .before .before .before .before .before .before .before .before in
+    let a = start .args in
+    let q = c .before .before .before .before .before .before .byte-of in
+    let u = c .before .before .before .before .loop .u in
+    let below : 8 * q .result + u < cells (a .kind) = omega (arith, q .ensures .1) in
+    let cell = c .before .before .cell-in-byte .ensures (q .result) (c .before .before .before .before .before .turn-of .ensures .0) in
+    (omega (arith, place-lt (a .kind) (start .pre .0 .0) (8 * q .result + u) below), omega (arith, bitAt-lt (a .coded .now) (8 * a .j + u)))
+
+mul-get-2 : tie.Need-mul-get-2 Inv-loop μ-loop
+mul-get-2 c = omega (arith, c .before .before .before .before .before .before .before .before .before .before .byte-of .ensures .1, codedBytes-le (c .before .before .before .before .before .before .before .before .before .before .before .before .before .args .kind) (c .before .before .before .before .before .before .before .before .before .before .before .before .before .pre .0 .0))
+
+add-get-2 : tie.Need-add-get-2 Inv-loop μ-loop
+add-get-2 c = omega (arith, c .before .before .before .before .before .before .before .before .before .before .byte-of .ensures .1, codedBytes-le (c .before .before .before .before .before .before .before .before .before .before .before .before .before .args .kind) (c .before .before .before .before .before .before .before .before .before .before .before .before .before .pre .0 .0))
 
 get-requires-2 : tie.Need-get-requires-2 Inv-loop μ-loop
 get-requires-2 c κs = search needs
@@ -65,22 +77,23 @@ loop-less c = search needs
 
 loop-again : tie.Need-loop-again Inv-loop μ-loop
 loop-again c =
-    let a = c .before .before .before .before .before .before .before .before .before .before .before .before .before .args in
-    let loop = c .before .before .before .before .before .before .before .before .before .before .loop in
+    let a = c .before .before .before .before .before .before .before .before .before .before .before .before .before .before .args in
+    let loop = c .before .before .before .before .before .before .before .before .before .loop in
     let n : ℕ = 8 * a .j + loop .u in
-    let i = c .before .before .before .before .before .before .before .before .step-of in
-    let cell = c .before .before .before .before .before .before .before .cell-in-byte .ensures .0 in
+    let q = c .before .before .before .before .before .before .before .before .before .before .before .byte-of in
+    let i : 8 * q .result + loop .u ≡ stepOf (a .kind) (a .half) n = omega (arith, q .ensures .0) in
+    let cell = c .before .before .before .before .before .before .before .cell-in-byte .ensures (q .result) (c .before .before .before .before .before .before .before .before .before .before .turn-of .ensures .0) ∙ ap (place (a .kind)) i in
     let bit = c .before .before .before .before .before .before .get .ensures in
     let stored = c .before .before .before .before .put .ensures in
-    let read-cell = c .get2 .ensures ∙ ap (λ (g : ℕ → ℕ). g (i .result)) stored in
+    let read-cell = c .get2 .ensures ∙ ap (λ (g : ℕ → ℕ). g (8 * q .result + loop .u)) stored in
     let f = bitAt (a .coded .now) in
     let next : 8 * a .j + (loop .u + 1) ≡ n + 1 = omega arith in (
       search needs,
       search needs,
       λ m e.
           let was = loop .inv .2 m e in
-          let read-bit = read-next (a .kind) (a .half) f (bitAt m) _ n _ _ _ (was .0) (i .ensures .0) cell bit read-cell in (
-            rw next (after-next (a .kind) (a .half) f (bitAt m) _ n _ _ _ (was .0) (i .ensures .0) cell bit stored),
+          let read-bit = read-next (a .kind) (a .half) f (bitAt m) _ n _ _ _ (was .0) i cell bit read-cell in (
+            rw next (after-next (a .kind) (a .half) f (bitAt m) _ n _ _ _ (was .0) i cell bit stored),
             number-turn (read (a .kind) (a .half) f (bitAt m)) (read-lt (a .kind) (a .half) f (bitAt m) (bitAt-lt (a .coded .now)) (bitAt-lt m)) _ _ _ _ (omega arith)
                 (was .1) read-bit,
           ),
@@ -100,15 +113,16 @@ exchange-byte-spec =
     (tie.spec
     Inv-loop
     μ-loop
+    byte-of-requires
+    turn-of-requires
     loop-holds
-    mul-step-of
-    add-step-of
-    step-of-requires
     cell-in-byte-requires
     mul-get
     add-get
     get-requires
     put-requires
+    mul-get-2
+    add-get-2
     get-requires-2
     add-u
     loop-less

@@ -1,7 +1,7 @@
--- `origin` meets its contract: the laws `origin-around` and `origin-behind`. Assumes nothing.
+-- `origin` meets its contract: the laws `around` and `behind`. Assumes nothing.
 use native.Mathlib.Omega.{arith}
 use Rattle.interleaving.proofs.PXKinds.{codedBytes-le}
-use Rattle.queries.proofs.Origins.{step-lt, step-small, origin-around, origin-behind}
+use Rattle.queries.proofs.Origins.{step-lt, step-small, around, behind}
 use borrow.Author.Needs.{needs}
 use Rattle.queries.proofs.finder_px.origin.Statement.{statement}
 use Rattle.queries.proofs.finder_px.origin.Tie as tie
@@ -34,7 +34,7 @@ returns : tie.Need-returns
 returns c =
     let a = c .before .before .args in
     let p = c .before .before .pre in
-    origin-around (a .kind) (a .n) (a .half) (a .cell) (p .0) (p .1) (p .2) (p .3) _ (c .before .source .ensures) (c .if1 .taken)
+    around (a .kind) (a .n) (a .half) (a .cell) (p .0) (p .1) (p .2) (p .3) _ (c .before .source .ensures) (c .if1 .taken)
 
 mul-result : tie.Need-mul-result
 mul-result c = omega (arith, codedBytes-le (c .before .before .args .kind) (c .before .before .pre .0))
@@ -52,7 +52,7 @@ returns-2 : tie.Need-returns-2
 returns-2 c =
     let a = c .before .before .args in
     let p = c .before .before .pre in
-    origin-behind (a .kind) (a .n) (a .half) (a .cell) (p .0) (p .1) (p .2) (p .3) _ (c .before .source .ensures) (omega arith)
+    behind (a .kind) (a .n) (a .half) (a .cell) (p .0) (p .1) (p .2) (p .3) _ (c .before .source .ensures) (omega arith)
 
 pub origin-spec : {M : Type 1} → statement M
 origin-spec =

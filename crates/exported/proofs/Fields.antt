@@ -1,0 +1,83 @@
+-- The fields of a word are what it was made of: the shifts and masks of `include/layer1.h`, as quotients and remainders. Assumes nothing.
+use Prim.Native.Nat.{ℕ, _^_, _/_, _%_, _<_}
+use mathlib.Core.Path.{_≡_}
+use native.Mathlib.Omega.{arith}
+use Rattle.runs.specs.declared.Answer.{Answer}
+use Rattle.runs.specs.declared.Answer.the-variants.{Success, ModeNotCovered, StateNotValid, WrongLength, WrongControl, P1NotCoded, PidsNotCoded, FillNotZero, ExtendedNotCoded}
+use Rattle.runs.specs.declared.State.{State}
+use Rattle.runs.specs.Answers.{numberOf, placeOf}
+use Rattle.queries.specs.Finder.{Channel, none, p1, pids}
+use Rattle.queries.specs.Finder as Finder
+use Rattle.queries.specs.FinderPX.{Content, none as nothing, coded, fill}
+use Rattle.queries.specs.FinderPX as FinderPX
+use Rattle.queries.specs.Lookup as Lookup
+use Rattle.exported.specs.Words.{channelNumber, contentNumber, outcomeWord, foundWord, foundPxWord, lookedUpWord}
+use Rattle.exported.proofs.Findings.{Small, SmallPX}
+
+pub number-lt : (a : Answer) → numberOf a < 2 ^ 8
+number-lt Success = omega arith
+number-lt ModeNotCovered = omega arith
+number-lt StateNotValid = omega arith
+number-lt (WrongLength k) = omega arith
+number-lt (WrongControl k) = omega arith
+number-lt P1NotCoded = omega arith
+number-lt (PidsNotCoded k) = omega arith
+number-lt (FillNotZero k) = omega arith
+number-lt (ExtendedNotCoded k) = omega arith
+
+-- the byte of a word at a power of two
+abbrev pub byte : ℕ → ℕ → ℕ
+byte word at = word / at % 2 ^ 8
+
+pub outcome-fields : (a : Answer) (s : State) → s .mode < 2 ^ 8 → s .half < 2 ^ 8 → s .age < 2 ^ 8
+    → (outcomeWord a s % 2 ^ 8 ≡ numberOf a)
+    × (byte (outcomeWord a s) (2 ^ 8) ≡ s .mode)
+    × (byte (outcomeWord a s) (2 ^ 16) ≡ s .half)
+    × (byte (outcomeWord a s) (2 ^ 24) ≡ s .age)
+    × (outcomeWord a s / 2 ^ 32 ≡ placeOf a)
+unfolding outcomeWord
+outcome-fields a s m h g =
+    let n = number-lt a in
+    (omega arith, omega arith, omega arith, omega arith, omega arith)
+
+-- the number that stands for a channel or a content
+channel-lt : (c : Channel) → channelNumber c < 2 ^ 8
+channel-lt none = omega arith
+channel-lt p1 = omega arith
+channel-lt pids = omega arith
+
+content-lt : (c : Content) → contentNumber c < 2 ^ 8
+content-lt nothing = omega arith
+content-lt coded = omega arith
+content-lt fill = omega arith
+
+pub found-fields : (v : Finder.Values) → v .number < 2 ^ 8 → Small v
+    → (foundWord v % 2 ^ 8 ≡ v .number)
+    × (byte (foundWord v) (2 ^ 8) ≡ channelNumber (v .channel))
+    × (byte (foundWord v) (2 ^ 16) ≡ v .frame)
+    × (byte (foundWord v) (2 ^ 32) ≡ v .place)
+    × (foundWord v / 2 ^ 40 ≡ v .bit)
+unfolding foundWord
+found-fields v n (p, f, b) =
+    let c = channel-lt (v .channel) in
+    (omega arith, omega arith, omega arith, omega arith, omega arith)
+
+pub found-px-fields : (v : FinderPX.Values) → v .number < 2 ^ 8 → SmallPX v
+    → (foundPxWord v % 2 ^ 8 ≡ v .number)
+    × (byte (foundPxWord v) (2 ^ 8) ≡ contentNumber (v .content))
+    × (byte (foundPxWord v) (2 ^ 16) ≡ v .frame)
+    × (byte (foundPxWord v) (2 ^ 24) ≡ v .before)
+    × (byte (foundPxWord v) (2 ^ 32) ≡ v .place)
+    × (foundPxWord v / 2 ^ 40 ≡ v .bit)
+unfolding foundPxWord
+found-px-fields v n (p, f, e, b) =
+    let c = content-lt (v .content) in
+    (omega arith, omega arith, omega arith, omega arith, omega arith, omega arith)
+
+pub looked-up-fields : (v : Lookup.Values) → v .number < 2 ^ 8 → v .mode < 2 ^ 8 → v .count < 2 ^ 8
+    → (lookedUpWord v % 2 ^ 8 ≡ v .number)
+    × (byte (lookedUpWord v) (2 ^ 8) ≡ v .mode)
+    × (byte (lookedUpWord v) (2 ^ 16) ≡ v .count)
+    × (lookedUpWord v / 2 ^ 32 ≡ v .place)
+unfolding lookedUpWord
+looked-up-fields v n m c = (omega arith, omega arith, omega arith, omega arith)

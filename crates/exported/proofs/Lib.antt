@@ -1,0 +1,5 @@
+mod Places
+mod Outcomes
+mod Findings
+mod Fields
+mod Parts

@@ -1,0 +1,47 @@
+-- `layer1_read` meets its contract: `layer1::read` gave it, and every place fits its field. Assumes nothing.
+use Rattle.exported.proofs.Outcomes.{left-by, small}
+use Rattle.exported.proofs.Places.{read-place}
+use borrow.Author.Needs.{needs}
+use Rattle.exported.proofs.reads.layer1_read.Statement.{statement}
+use Rattle.exported.proofs.reads.layer1_read.Tie as tie
+
+read-requires : tie.Need-read-requires
+read-requires c κs = search needs
+
+outcome-word-requires : tie.Need-outcome-word-requires
+outcome-word-requires c κs = small _ _ _ _ (c .before .before .before .before .before .before .before .before .before .before .before .before .read .ensures) (read-place _ _ _)
+
+same-length : tie.Need-same-length
+same-length c = search needs
+
+same-length-2 : tie.Need-same-length-2
+same-length-2 c = search needs
+
+same-length-3 : tie.Need-same-length-3
+same-length-3 c = search needs
+
+same-length-4 : tie.Need-same-length-4
+same-length-4 c = search needs
+
+same-length-5 : tie.Need-same-length-5
+same-length-5 c = search needs
+
+same-length-6 : tie.Need-same-length-6
+same-length-6 c = search needs
+
+returns : tie.Need-returns
+returns c = left-by _ _ _ _ (c .before .before .before .before .before .before .before .before .before .before .before .before .before .read .ensures) _ (c .outcome-word .ensures)
+
+pub layer1-read-spec : {M : Type 1} → statement M
+layer1-read-spec =
+    tie.close
+    (tie.spec
+    read-requires
+    outcome-word-requires
+    same-length
+    same-length-2
+    same-length-3
+    same-length-4
+    same-length-5
+    same-length-6
+    returns)

@@ -1,0 +1,54 @@
+-- House matter: what a function of the C library returns beside its buffers is one word of 64 bits. Each field is a number below the distance to the next one, number 0 is success.
+use Prim.Native.Nat.{ℕ, _+_, _*_, _^_, _/_, _%_}
+use mathlib.Core.Bool.{cond}
+use mathlib.Core.List.{List}
+use lib.Dec.{eqb}
+use lib.ListN.{length, take, drop}
+use Rattle.runs.specs.declared.Answer.{Answer}
+use Rattle.runs.specs.declared.State.{State}
+use Rattle.runs.specs.Answers.{numberOf, placeOf}
+use Rattle.queries.specs.Finder.{Channel, none, p1, pids}
+use Rattle.queries.specs.Finder as Finder
+use Rattle.queries.specs.FinderPX.{Content, none as nothing, coded, fill}
+use Rattle.queries.specs.FinderPX as FinderPX
+use Rattle.queries.specs.Lookup as Lookup
+
+-- a start, a sending, a reading: the answer and the state
+unfoldable pub outcomeWord : Answer → State → ℕ
+outcomeWord a s = numberOf a + 2 ^ 8 * s .mode + 2 ^ 16 * s .half + 2 ^ 24 * s .age + 2 ^ 32 * placeOf a
+
+-- the channels of PM by number
+abbrev pub channelNumber : Channel → ℕ
+channelNumber none = 0
+channelNumber p1 = 1
+channelNumber pids = 2
+
+-- the cell finder of PM
+unfoldable pub foundWord : Finder.Values → ℕ
+foundWord v = v .number + 2 ^ 8 * channelNumber (v .channel) + 2 ^ 16 * v .frame + 2 ^ 32 * v .place + 2 ^ 40 * v .bit
+
+-- what stands in a cell of PX1 or PX2
+abbrev pub contentNumber : Content → ℕ
+contentNumber nothing = 0
+contentNumber coded = 1
+contentNumber fill = 2
+
+-- the cell finder of PX1 and PX2
+unfoldable pub foundPxWord : FinderPX.Values → ℕ
+foundPxWord v = v .number + 2 ^ 8 * contentNumber (v .content) + 2 ^ 16 * v .frame + 2 ^ 24 * v .before + 2 ^ 32 * v .place + 2 ^ 40 * v .bit
+
+-- a lookup
+unfoldable pub lookedUpWord : Lookup.Values → ℕ
+lookedUpWord v = v .number + 2 ^ 8 * v .mode + 2 ^ 16 * v .count + 2 ^ 32 * v .place
+
+-- a row of n bytes that is handed back: where it starts and how many bytes it has, and 0 where it is empty
+unfoldable pub rowWord : (n row : ℕ) → List ℕ → ℕ
+rowWord n row part = cond (eqb (length part) 0) 0 (row * n + 2 ^ 32 * length part)
+
+-- the part of a matrix that such a word tells
+abbrev pub partAt : ℕ → List ℕ → List ℕ
+partAt word matrix = take (word / 2 ^ 32) (drop (word % 2 ^ 32) matrix)
+
+-- it is a part of PX2 for channel 4, and else of PX1
+abbrev pub chosen : ℕ → List ℕ → List ℕ → List ℕ
+chosen channel px1 px2 = cond (eqb channel 4) px2 px1

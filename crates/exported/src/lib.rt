@@ -1,0 +1,20 @@
+// The entry points of `layer1` for C: numbers and byte slices alone cross, a state as its three numbers, and what a call returns beside its buffers is a word of fields (specs/Words.antt). `include/layer1.h` declares them.
+mod lengths;
+mod questions;
+mod reads;
+mod rows;
+mod sends;
+mod starts;
+mod words;
+
+pub use lengths::layer1_reader_length;
+pub use lengths::layer1_sender_length;
+pub use questions::layer1_find;
+pub use questions::layer1_find_px;
+pub use questions::layer1_lookup;
+pub use reads::layer1_read;
+pub use rows::layer1_pm_row;
+pub use rows::layer1_px_row;
+pub use sends::layer1_send;
+pub use starts::layer1_start_reader;
+pub use starts::layer1_start_sender;

@@ -1,0 +1,47 @@
+// Document 01: the cell finders, and what a control block says.
+use crate::words::found_px_word;
+use crate::words::found_word;
+use crate::words::looked_up_word;
+use layer1::State;
+ghost use mathlib.Core.Path.{_≡_};
+ghost use Rattle.queries.specs.Finder.{found, values};
+ghost use Rattle.queries.specs.FinderPX.{foundPX, values as valuesPX};
+ghost use Rattle.queries.specs.Lookup.{lookupOf, values as valuesOfBlock};
+ghost use Rattle.exported.specs.Left.{stateOf};
+ghost use Rattle.exported.specs.Words.{foundPxWord, foundWord, lookedUpWord};
+
+// Whose coded bit stands in a cell of PM.
+#[no_mangle]
+pub extern "C" fn layer1_find(row: usize, column: usize) -> u64
+    ensures { λ r. ⌜ r ≡ foundWord (values (found row column)) ⌝ }
+{
+    let cell = layer1::find(row, column);
+    found_word(cell)
+}
+
+// Whose coded bit stands in a cell of PX1 (channel 3) or PX2 (channel 4) of the L1 frame that a state comes before.
+#[no_mangle]
+pub extern "C" fn layer1_find_px(
+    mode: u8,
+    half: u8,
+    age: u8,
+    channel: u8,
+    pair: usize,
+    row: usize,
+    column: usize,
+) -> u64
+    ensures { λ r. ⌜ r ≡ foundPxWord (valuesPX (foundPX (stateOf mode half age) channel pair row column)) ⌝ }
+{
+    let state = State { mode, half, age };
+    let cell = layer1::find_px(state, channel, pair, row, column);
+    found_px_word(cell)
+}
+
+// The mode and the block count of one control block.
+#[no_mangle]
+pub extern "C" fn layer1_lookup(block: &[u8]) -> u64
+    ensures { λ r. ⌜ r ≡ lookedUpWord (valuesOfBlock (lookupOf (now (block .entry)))) ⌝ }
+{
+    let said = layer1::lookup(block);
+    looked_up_word(said)
+}

@@ -1,0 +1,46 @@
+// Document 01: reading an L1 frame.
+use crate::words::outcome_word;
+use layer1::State;
+ghost use mathlib.Core.Path.{_≡_};
+ghost use Rattle.runs.specs.Reading.{readStep};
+ghost use Rattle.calls.specs.Called.{lent, memory};
+ghost use Rattle.exported.specs.Left.{left, leftBy, stateOf};
+
+// Reads an L1 frame.
+#[no_mangle]
+pub extern "C" fn layer1_read(
+    mode: u8,
+    half: u8,
+    age: u8,
+    p1: &mut [u8],
+    pids: &mut [u8],
+    p3: &mut [u8],
+    p4: &mut [u8],
+    pm: &[u8],
+    px1: &[u8],
+    px2: &[u8],
+    control: &[u8],
+    memory3: &mut [u8],
+    memory4: &mut [u8],
+) -> u64
+    ensures { λ r. ⌜ left r (memory (now (memory3 .exit)) (now (memory4 .exit)))
+        (lent (now (p1 .exit)) (now (pids .exit)) (now (p3 .exit)) (now (p4 .exit)) (now (pm .entry)) (now (px1 .entry)) (now (px2 .entry)) (now (control .entry)))
+        ≡ leftBy (readStep (stateOf mode half age) (memory (now (memory3 .entry)) (now (memory4 .entry)))
+        (lent (now (p1 .entry)) (now (pids .entry)) (now (p3 .entry)) (now (p4 .entry)) (now (pm .entry)) (now (px1 .entry)) (now (px2 .entry)) (now (control .entry)))) ⌝ }
+{
+    let state = State { mode, half, age };
+    let outcome = layer1::read(
+        state,
+        p1,
+        pids,
+        p3,
+        p4,
+        pm,
+        px1,
+        px2,
+        control,
+        memory3,
+        memory4,
+    );
+    outcome_word(outcome)
+}

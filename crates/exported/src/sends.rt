@@ -1,0 +1,46 @@
+// Document 01: sending an L1 frame.
+use crate::words::outcome_word;
+use layer1::State;
+ghost use mathlib.Core.Path.{_≡_};
+ghost use Rattle.runs.specs.Sending.{sendStep};
+ghost use Rattle.calls.specs.Called.{lent, memory};
+ghost use Rattle.exported.specs.Left.{left, leftBy, stateOf};
+
+// Sends an L1 frame.
+#[no_mangle]
+pub extern "C" fn layer1_send(
+    mode: u8,
+    half: u8,
+    age: u8,
+    p1: &[u8],
+    pids: &[u8],
+    p3: &[u8],
+    p4: &[u8],
+    pm: &mut [u8],
+    px1: &mut [u8],
+    px2: &mut [u8],
+    control: &mut [u8],
+    memory3: &mut [u8],
+    memory4: &mut [u8],
+) -> u64
+    ensures { λ r. ⌜ left r (memory (now (memory3 .exit)) (now (memory4 .exit)))
+        (lent (now (p1 .entry)) (now (pids .entry)) (now (p3 .entry)) (now (p4 .entry)) (now (pm .exit)) (now (px1 .exit)) (now (px2 .exit)) (now (control .exit)))
+        ≡ leftBy (sendStep (stateOf mode half age) (memory (now (memory3 .entry)) (now (memory4 .entry)))
+        (lent (now (p1 .entry)) (now (pids .entry)) (now (p3 .entry)) (now (p4 .entry)) (now (pm .entry)) (now (px1 .entry)) (now (px2 .entry)) (now (control .entry)))) ⌝ }
+{
+    let state = State { mode, half, age };
+    let outcome = layer1::send(
+        state,
+        p1,
+        pids,
+        p3,
+        p4,
+        pm,
+        px1,
+        px2,
+        control,
+        memory3,
+        memory4,
+    );
+    outcome_word(outcome)
+}

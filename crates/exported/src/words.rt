@@ -1,0 +1,86 @@
+// The words that the entry points return. Every place, frame and bit is small enough for its field, by the definitions.
+use layer1::Found;
+use layer1::FoundPx;
+use layer1::LookedUp;
+use layer1::Outcome;
+use layer1::number;
+use layer1::place;
+ghost use mathlib.Core.Path.{_≡_};
+ghost use Prim.Native.Nat.{_^_, _≤_, _<_};
+ghost use lib.ListN.{length};
+ghost use Rattle.runs.specs.Answers.{placeOf};
+ghost use Rattle.queries.specs.Finder.{values};
+ghost use Rattle.queries.specs.FinderPX.{values as valuesPX};
+ghost use Rattle.queries.specs.Lookup.{values as valuesOfBlock};
+ghost use Rattle.exported.specs.Words.{foundPxWord, foundWord, lookedUpWord, outcomeWord, rowWord};
+
+// The word of a start, a sending or a reading.
+pub fn outcome_word(outcome: Outcome) -> u64
+    requires { ⌜ placeOf (outcome .answer) < 2 ^ 32 ⌝ }
+    ensures { λ r. ⌜ r ≡ outcomeWord (outcome .answer) (outcome .state) ⌝ }
+{
+    let answer = outcome.answer;
+    let state = outcome.state;
+    let low = number(answer) as u64 + 256 * (state.mode as u64);
+    let high = 65536 * (state.half as u64) + 16777216 * (state.age as u64);
+    low + high + 4294967296 * (place(answer) as u64)
+}
+
+// The word of a finding in PM.
+pub fn found_word(cell: Found) -> u64
+    requires { ⌜ (values cell .place < 2 ^ 8) × (values cell .frame < 2 ^ 8) × (values cell .bit < 2 ^ 24) ⌝ }
+    ensures { λ r. ⌜ r ≡ foundWord (values cell) ⌝ }
+{
+    match cell {
+        Found::P1 { bit } => 256 + 1099511627776 * (bit as u64),
+        Found::Pids { frame, bit } => {
+            512 + 65536 * (frame as u64) + 1099511627776 * (bit as u64)
+        }
+        Found::Refused { answer } => number(answer) as u64 + 4294967296 * (place(answer) as u64),
+    }
+}
+
+// The word of a finding in PX1 or PX2.
+pub fn found_px_word(cell: FoundPx) -> u64
+    requires { ⌜ (valuesPX cell .place < 2 ^ 8) × (valuesPX cell .frame < 2 ^ 8) × (valuesPX cell .before < 2 ^ 8) × (valuesPX cell .bit < 2 ^ 24) ⌝ }
+    ensures { λ r. ⌜ r ≡ foundPxWord (valuesPX cell) ⌝ }
+{
+    match cell {
+        FoundPx::Coded {
+            earlier,
+            frame,
+            bit,
+        } => {
+            let low = 256 + 65536 * (frame as u64) + 16777216 * (earlier as u64);
+            low + 1099511627776 * (bit as u64)
+        }
+        FoundPx::Fill => 512,
+        FoundPx::Refused { answer } => {
+            number(answer) as u64 + 4294967296 * (place(answer) as u64)
+        }
+    }
+}
+
+// The word of a lookup.
+pub fn looked_up_word(said: LookedUp) -> u64
+    requires { ⌜ valuesOfBlock said .place < 2 ^ 8 ⌝ }
+    ensures { λ r. ⌜ r ≡ lookedUpWord (valuesOfBlock said) ⌝ }
+{
+    match said {
+        LookedUp::Found { mode, count } => 256 * (mode as u64) + 65536 * (count as u64),
+        LookedUp::Refused { answer } => {
+            number(answer) as u64 + 4294967296 * (place(answer) as u64)
+        }
+    }
+}
+
+// The word of a row of n bytes.
+pub fn row_word(n: usize, row: usize, part: &[u8]) -> u64
+    requires { ⌜ (n < 256) × (length (now part) < 256) × (0 < length (now part) → row < 512) ⌝ }
+    ensures { λ r. ⌜ r ≡ rowWord n row (now (part .entry)) ⌝ }
+{
+    if part.len() == 0 {
+        return 0;
+    }
+    (row * n) as u64 + 4294967296 * (part.len() as u64)
+}

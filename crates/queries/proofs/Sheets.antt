@@ -1,0 +1,142 @@
+-- What the two finders say of a cell holds of every L1 frame of every sender's run. Assumes nothing.
+use mathlib.Core.Path.{_≡_, refl, sym, _∙_}
+use mathlib.Core.Logic.{inl, inr}
+use mathlib.Core.Bool.{true}
+use Prim.Native.Nat.{ℕ, _+_, _-_, _*_, _%_, _≤_, _<_, min}
+use native.Mathlib.Decide.{decLt, ℕ-discrete}
+use native.Mathlib.Omega.{arith}
+use borrow.Author.Tests.{lt-ltb, le-ltb}
+use Rattle.bits.specs.Bits.{bitAt}
+use Rattle.coding.specs.declared.Rate.the-variants.{TwoFifths}
+use Rattle.coding.specs.Channel.{channel}
+use Rattle.interleaving.specs.PX.{codedBits}
+use Rattle.runs.specs.declared.Answer.{Answer}
+use Rattle.runs.specs.declared.Answer.the-variants.{WrongLength}
+use Rattle.runs.specs.declared.Extended.{Extended}
+use Rattle.runs.specs.declared.Extended.the-variants.{P3, P4}
+use Rattle.runs.specs.declared.Kind.{Kind}
+use Rattle.runs.specs.declared.State.{State}
+use Rattle.runs.specs.Chain.{codedOf}
+use Rattle.runs.specs.Lengths.{kindOf, tableRow}
+use Rattle.runs.specs.Lent.{frameOf, matrixOf}
+use Rattle.runs.specs.Runs.{SenderRun, count, frameAt, matricesAt}
+use Rattle.runs.specs.Starting.{stateAt, valid}
+use Rattle.runs.proofs.Sender.{covered-of}
+use Rattle.runs.proofs.Shown.{p1-shown, pids-shown, coded-shown, fill-shown}
+use Rattle.runs.proofs.States.{valid-at}
+use Rattle.queries.specs.declared.finder.Found.the-variants.{P1, Pids, Refused as no-cell}
+use Rattle.queries.specs.declared.finder_px.FoundPx.{FoundPx}
+use Rattle.queries.specs.declared.finder_px.FoundPx.the-variants.{Coded, Fill, Refused}
+use Rattle.queries.specs.Finder.{found}
+use Rattle.queries.specs.FinderPX.{kindOfNumber, columnsOf, cellOf, frameCoded, told, foundPX}
+use Rattle.queries.specs.Sheets.{Sheet, numberOf}
+use Rattle.queries.proofs.CasesPX as px
+use Rattle.queries.proofs.Origins.{used, cell-lt}
+use Rattle.queries.proofs.Stands.{found-stands}
+
+-- ---- PM
+
+-- a cell that the finder does not refuse is one of the 512 rows of 720
+pm-inside : (row column : ℕ) → ((r : Answer) → found row column ≡ no-cell r → ⊥) → (row < 512) × (column < 720)
+unfolding found
+pm-inside row column accepted = go (decLt row 512) (decLt column 720)
+  where
+    go : Dec (row < 512) → Dec (column < 720) → (row < 512) × (column < 720)
+    go (yes h) (yes l) = (h, l)
+    go (yes h) (no l) = absurd (accepted (WrongLength 1) (rw (lt-ltb row 512 h, le-ltb column 720 (omega arith))))
+    go (no h) l = absurd (accepted (WrongLength 0) (rw (le-ltb row 512 (omega arith))))
+
+module _ (mode : ℕ) (a : SenderRun mode) (t : ℕ) (h : t < count mode a) (row column : ℕ) where
+  p1-in : (bit : ℕ) → found row column ≡ P1 bit
+      → bitAt (matricesAt mode a t .pm) (row * 720 + column) ≡ channel TwoFifths 146176 (bitAt (frameAt mode a t .p1)) bit
+  p1-in bit e =
+      let (lr, lc) = pm-inside row column (λ r n. let z : _≡_ {A = ℕ} 0 1 = cc in omega arith) in
+      elim (found-stands row column lr lc) [
+        | inl (i, x) ↦
+            let named = x .named in
+            let same : i ≡ bit = cc in
+            rw (← x .stands, ← same) (p1-shown mode a t h i (x .inside))
+        | inr (frame, i, x) ↦
+            let named = x .named in
+            let z : _≡_ {A = ℕ} 0 1 = cc in
+            absurd (omega arith)
+      ]
+
+  pids-in : (frame bit : ℕ) → found row column ≡ Pids frame bit
+      → bitAt (matricesAt mode a t .pm) (row * 720 + column) ≡ channel TwoFifths 80 (bitAt (frameAt mode a t .pids)) (frame * 200 + bit)
+  pids-in frame bit e =
+      let (lr, lc) = pm-inside row column (λ r n. let z : _≡_ {A = ℕ} 0 1 = cc in omega arith) in
+      elim (found-stands row column lr lc) [
+        | inl (i, x) ↦
+            let named = x .named in
+            let z : _≡_ {A = ℕ} 0 1 = cc in
+            absurd (omega arith)
+        | inr (f, i, x) ↦
+            let named = x .named in
+            let same-frame : f ≡ frame = cc in
+            let same : i ≡ bit = cc in
+            rw (← x .stands, ← same-frame, ← same) (pids-shown mode a t h (f * 200 + i) (omega (arith, x .inside .0, x .inside .1)))
+      ]
+
+-- ---- PX1 and PX2
+
+number-is : (mode : ℕ) (e : Extended) → kindOf mode e ≡ kindOfNumber mode (numberOf e)
+unfolding kindOfNumber
+number-is mode P3 = refl
+number-is mode P4 = refl
+
+-- a cell that the finder does not refuse
+record Inside (s : State) (k : Kind) (channel pair row column : ℕ) : Type 0 where
+  sends : tableRow k < 2
+  cell : cellOf k pair row column < codedBits (tableRow k)
+  says : told k (s .half) (s .age) (cellOf k pair row column) ≡ foundPX s channel pair row column
+
+module _ (s : State) (v : valid s ≡ true) (channel : ℕ) (k : Kind) (k-is : k ≡ kindOfNumber (s .mode) channel) (pair row column : ℕ) where
+  inside : ((r : Answer) → foundPX s channel pair row column ≡ Refused r → ⊥) → Inside s k channel pair row column
+  inside accepted = go (ℕ-discrete (columnsOf k) 0) (decLt pair 8) (decLt row 64) (decLt column (columnsOf k))
+    where
+      go : Dec (columnsOf k ≡ 0) → Dec (pair < 8) → Dec (row < 64) → Dec (column < columnsOf k) → Inside s k channel pair row column
+      go (yes z) lp lr lc = absurd (accepted _ (sym (px.channel-refused s channel pair row column v k k-is _ refl z)))
+      go (no n) (no lp) lr lc = absurd (accepted _ (sym (px.pair-refused s channel pair row column v k k-is _ refl n (omega arith))))
+      go (no n) (yes lp) (no lr) lc = absurd (accepted _ (sym (px.row-refused s channel pair row column v k k-is _ refl n lp (omega arith))))
+      go (no n) (yes lp) (yes lr) (no lc) =
+          absurd (accepted _ (sym (px.column-refused s channel pair row column v k k-is _ refl n lp lr (omega arith))))
+      go (no n) (yes lp) (yes lr) (yes lc) =
+          record {
+            sends = used k n;
+            cell = cell-lt k _ (pair * 64 + row) column refl (omega arith) lc;
+            says = px.inside s channel pair row column v k k-is _ refl n lp lr lc;
+          }
+
+module _ (mode : ℕ) (a : SenderRun mode) (t : ℕ) (h : t < count mode a) (e : Extended) (pair row column : ℕ) where
+  abbrev named : FoundPx
+  named = foundPX (stateAt mode t) (numberOf e) pair row column
+
+  at : ((r : Answer) → named ≡ Refused r → ⊥) → Inside (stateAt mode t) (kindOf mode e) (numberOf e) pair row column
+  at = inside (stateAt mode t) (valid-at mode (covered-of mode a) t) (numberOf e) (kindOf mode e) (number-is mode e) pair row column
+
+  coded-in : (n frame bit : ℕ) → named ≡ Coded n frame bit
+      → (n ≤ t)
+      × (bitAt (matrixOf (matricesAt mode a t) e) (cellOf (kindOf mode e) pair row column)
+      ≡ codedOf (kindOf mode e) (frameOf (frameAt mode a (t - n)) e) (frame * frameCoded (kindOf mode e) + bit))
+  coded-in n frame bit f =
+      let x = at (λ r q. let z : _≡_ {A = ℕ} 0 1 = cc in omega arith) in
+      let (en, le, ej) = px.coded-means (kindOf mode e) (t % 2) (min 2 t) (cellOf (kindOf mode e) pair row column) n frame bit (x .says ∙ f) in
+      (omega arith, rw (en, ej) (coded-shown mode a t h e (x .sends) (cellOf (kindOf mode e) pair row column) (x .cell) (omega arith)))
+
+  fill-in : named ≡ Fill → bitAt (matrixOf (matricesAt mode a t) e) (cellOf (kindOf mode e) pair row column) ≡ 0
+  fill-in f =
+      let x = at (λ r q. let z : _≡_ {A = ℕ} 0 1 = cc in omega arith) in
+      fill-shown mode a t h e (x .sends) (cellOf (kindOf mode e) pair row column) (x .cell)
+      (px.fill-means (kindOf mode e) (t % 2) (min 2 t) (cellOf (kindOf mode e) pair row column) (x .says ∙ f))
+
+-- ---- the theorem
+
+pub sheets : (mode : ℕ) (a : SenderRun mode) (t : ℕ) → t < count mode a → Sheet mode a t
+sheets mode a t h =
+    record {
+      p1-cell = p1-in mode a t h;
+      pids-cell = pids-in mode a t h;
+      coded-cell = coded-in mode a t h;
+      fill-cell = fill-in mode a t h;
+    }

@@ -1,0 +1,111 @@
+-- What the cells of a sender's run show: in PM the coded bit of its L1 frame, in PX1 and PX2 the one that the finder names, or the zero fill.
+-- Assumes nothing.
+use Prim.Native.Nat.{ℕ, zero, suc, _+_, _-_, _*_, _/_, _%_, _≤_, _<_, min}
+use mathlib.Core.Path.{_≡_, refl, sym, ap, ap₂, _∙_}
+use native.Mathlib.Nat.{zero-add, mod-eq-of-lt}
+use native.Mathlib.Omega.{arith}
+use lib.ListN.{replicate}
+use borrow.Author.Tests.{lt-ltb}
+use Rattle.bits.specs.Bits.{bitAt}
+use Rattle.coding.specs.declared.Rate.the-variants.{TwoFifths}
+use Rattle.coding.specs.Channel.{channel}
+use Rattle.interleaving.specs.PM.{p1Place, pidsPlace}
+use Rattle.interleaving.specs.PX.{codedBits, later}
+use Rattle.interleaving.specs.FinderPX.{earlier, codedBit}
+use Rattle.interleaving.proofs.FoundPX.{bit-lt, earlier-le, stands-later, unreached-when}
+use Rattle.interleaving.proofs.Frames.{matrix, coded-bit-back}
+use Rattle.interleaving.proofs.Mod.{div-of, mod-of}
+use Rattle.runs.specs.declared.Extended.{Extended}
+use Rattle.runs.specs.declared.Extended.the-variants.{P3, P4}
+use Rattle.runs.specs.declared.Kind.{Kind}
+use Rattle.runs.specs.Lengths.{kindOf, tableRow, senderLen}
+use Rattle.runs.specs.Chain.{Buffer, codedOf}
+use Rattle.runs.specs.Lent.{Frames, frameOf, matrixOf, memoryOf}
+use Rattle.runs.specs.Runs.{SenderRun, count, frameAt, matricesAt}
+use Rattle.runs.specs.Defined.{memoryBefore, defined}
+use Rattle.runs.proofs.Rows.{bitsOf}
+use Rattle.runs.proofs.PM.{p1-at, pids-at}
+use Rattle.runs.proofs.PX.{memories, matrices, codes, matrices-are, fill-zero}
+use Rattle.runs.proofs.Fixed.{matrixIn, matrix-of, memory-of, pm-at, px-at}
+
+-- ---- an extended channel from a fresh start, L1 frame t bringing the frames A t
+
+module _ (k : Kind) (A : ℕ → Buffer) where
+  abbrev shown : ℕ → Buffer
+  shown = matrices k 0 (replicate (senderLen k) 0) A
+
+  module _ (u : tableRow k < 2) (t c : ℕ) (l : c < bitsOf k) where
+    abbrev kind : ℕ
+    kind = tableRow k
+
+    -- so many L1 frames earlier, the bit of that L1 frame
+    abbrev n : ℕ
+    n = earlier kind (t % 2) c
+
+    abbrev j : ℕ
+    j = codedBit kind (t % 2) c
+
+    lh : t % 2 < 2
+    lh = omega arith
+
+    coded-in : n ≤ t → bitAt (shown t) c ≡ codedOf k (A (t - n)) j
+    unfolding codedOf
+    coded-in h =
+        matrices-are k 0 (replicate (senderLen k) 0) A t c l
+        ∙ sym (ap₂ (λ (x y : ℕ). matrix kind 0 (bitAt (replicate (senderLen k) 0)) (codes k A) x y) frame cell)
+        ∙ coded-bit-back kind 0 (bitAt (replicate (senderLen k) 0)) (codes k A) u (t - n) j (bit-lt kind (t % 2) c u lh l) .1
+      where
+        half : (0 + (t - n)) % 2 ≡ (t % 2 + n) % 2
+        half = omega arith
+
+        at : later kind ((0 + (t - n)) % 2) j ≡ n * codedBits kind + c
+        at = ap (λ (x : ℕ). later kind x j) half ∙ stands-later kind (t % 2) c u lh l
+
+        frame : t - n + later kind ((0 + (t - n)) % 2) j / codedBits kind ≡ t
+        frame = omega (arith, div-of (codedBits kind) n c _ at l)
+
+        cell : later kind ((0 + (t - n)) % 2) j % codedBits kind ≡ c
+        cell = mod-of (codedBits kind) n c _ at l
+
+    fill-in : min 2 t < n → bitAt (shown t) c ≡ 0
+    fill-in h =
+        fill-zero k A t c two l
+        (rw (mod-eq-of-lt two) (unreached-when kind t c u two l ∙ lt-ltb t (earlier kind t c) (rw (mod-eq-of-lt two) at below)))
+      where
+        two : t < 2
+        two = omega (arith, earlier-le kind (t % 2) c u lh l)
+
+        below : t < earlier kind (t % 2) c
+        below = omega arith
+
+-- ---- the matrices of a run
+
+module _ (mode : ℕ) (F : ℕ → Frames) (e : Extended) where
+  memory-in : (t : ℕ) → memoryOf (memoryBefore mode F t) e ≡ memories (kindOf mode e) 0 (replicate (senderLen (kindOf mode e)) 0) (λ i. frameOf (F i) e) t
+  unfolding memoryBefore memories
+  memory-in zero = elim e [ P3 ↦ refl | P4 ↦ refl ]
+  memory-in (suc t) = memory-of mode (t % 2) (memoryBefore mode F t) (F t) e ∙ rw (zero-add t, memory-in t)
+
+  matrix-in : (t : ℕ) → matrixIn mode F e t ≡ shown (kindOf mode e) (λ i. frameOf (F i) e) t
+  unfolding matrixIn defined matrices
+  matrix-in t = matrix-of mode (t % 2) (memoryBefore mode F t) (F t) e ∙ rw (zero-add t, memory-in t)
+
+module _ (mode : ℕ) (a : SenderRun mode) (t : ℕ) (h : t < count mode a) where
+  pub p1-shown : (i : ℕ) → i < 365440 → bitAt (matricesAt mode a t .pm) (p1Place i) ≡ channel TwoFifths 146176 (bitAt (frameAt mode a t .p1)) i
+  p1-shown i l = ap (λ (x : Buffer). bitAt x (p1Place i)) (pm-at mode a t h) ∙ p1-at _ _ i l
+
+  pub pids-shown : (i : ℕ) → i < 3200 → bitAt (matricesAt mode a t .pm) (pidsPlace i) ≡ channel TwoFifths 80 (bitAt (frameAt mode a t .pids)) i
+  pids-shown i l = ap (λ (x : Buffer). bitAt x (pidsPlace i)) (pm-at mode a t h) ∙ pids-at _ _ i l
+
+  module _ (e : Extended) (u : tableRow (kindOf mode e) < 2) (c : ℕ) (l : c < bitsOf (kindOf mode e)) where
+    cell-is : bitAt (matrixOf (matricesAt mode a t) e) c ≡ bitAt (shown (kindOf mode e) (λ i. frameOf (frameAt mode a i) e) t) c
+    cell-is = ap (λ (x : Buffer). bitAt x c) (px-at mode a e t h ∙ matrix-in mode (frameAt mode a) e t)
+
+    -- the coded bit that the finder names, where it is of the run, and a 0 where it is from before the start
+    pub coded-shown : earlier (tableRow (kindOf mode e)) (t % 2) c ≤ t
+        → bitAt (matrixOf (matricesAt mode a t) e) c
+        ≡ codedOf (kindOf mode e) (frameOf (frameAt mode a (t - earlier (tableRow (kindOf mode e)) (t % 2) c)) e) (codedBit (tableRow (kindOf mode e)) (t % 2) c)
+    coded-shown n = cell-is ∙ coded-in (kindOf mode e) (λ i. frameOf (frameAt mode a i) e) u t c l n
+
+    pub fill-shown : min 2 t < earlier (tableRow (kindOf mode e)) (t % 2) c → bitAt (matrixOf (matricesAt mode a t) e) c ≡ 0
+    fill-shown n = cell-is ∙ fill-in (kindOf mode e) (λ i. frameOf (frameAt mode a i) e) u t c l n

@@ -1,0 +1,129 @@
+/* The FM Layer 1 bit chain of SY_IDD_1011s revision G, with the house matters of document 01, for C.
+ *
+ * The functions are those of the proved crate `exported`: its contracts (crates/exported/src, crates/exported/specs) say exactly what
+ * each returns and what it leaves in every buffer. Every call returns, and refuses what document 01 refuses; none has a condition on
+ * numbers, lengths or the bytes themselves.
+ *
+ * What the caller must guarantee, since the proofs assume it:
+ * - a pointer points to as many readable bytes as the length beside it says, and writable ones where it is not const;
+ * - it is not NULL, also where the length is 0: any address will do there;
+ * - a buffer that is written overlaps no other buffer of the call;
+ * - nothing else reads a buffer that is written, or writes any buffer of the call, while the call runs: on another thread, in a signal
+ *   handler or through a mapping. Calls with other buffers may run at the same time: the library has no state of its own;
+ * - the stack has room for LAYER1_SEND_STACK or LAYER1_READ_STACK bytes, below what the caller itself uses.
+ * Nothing is allocated, and nothing of C but memcpy and memset is called.
+ *
+ * A run: a start, then sendings, or then readings. Each is handed the state in the word of the last call, and the memory as it left it.
+ * Every buffer has exactly the length that layer1_sender_length or layer1_reader_length gives for the mode and its place; an unused
+ * channel's has length 0. A refused call leaves the state and all buffers as they were.
+ *
+ * The numbers of document 01's table of causes, and the place that comes with each:
+ *   0  success                                                                  0
+ *   1  start: the mode is not 1, 2, 3 or 11                                     0
+ *   2  the state is not valid                                                   0
+ *   3  a length is wrong, or a row, column, block pair or channel out of range  the first such buffer or argument, from 0
+ *   4  a control block is not the one of this mode and count                    the lowest such block
+ *   5  the P1 cells are no coded frame                                          0
+ *   6  the PIDS cells are no coded frame                                        the lowest such frame
+ *   7  a cell that can show only the zero fill is 1                             the lowest such cell, through PX1, then PX2
+ *   8  a P3 or P4 frame of the L1 frame two earlier is no coded frame           0 to 7 for P3, 8 to 15 for P4, the lowest
+ */
+#ifndef LAYER1_H
+#define LAYER1_H
+
+#include <stddef.h>
+#include <stdint.h>
+
+#ifdef __cplusplus
+extern "C" {
+#endif
+
+/* The most stack that a sending and a reading take, in bytes, as compiled (measured by wrapper/tests/stack.c); any other call takes less. */
+#define LAYER1_SEND_STACK 98304
+#define LAYER1_READ_STACK 151552
+
+/* The places of the buffers of a sending or a reading. */
+enum layer1_place {
+    LAYER1_P1,
+    LAYER1_PIDS,
+    LAYER1_P3,
+    LAYER1_P4,
+    LAYER1_PM,
+    LAYER1_PX1,
+    LAYER1_PX2,
+    LAYER1_CONTROL,
+    LAYER1_MEMORY3,
+    LAYER1_MEMORY4
+};
+
+/* Starts a sender, a reader: zeroes its memory and returns the state before the first L1 frame. Returns an outcome word. */
+uint64_t layer1_start_sender(uint8_t mode, uint8_t *memory3, size_t memory3_len, uint8_t *memory4, size_t memory4_len);
+uint64_t layer1_start_reader(uint8_t mode, uint8_t *memory3, size_t memory3_len, uint8_t *memory4, size_t memory4_len);
+
+/* Sends an L1 frame: writes PM, PX1, PX2 and control from the transfer frames, and the sender's memory. Returns an outcome word. */
+uint64_t layer1_send(uint8_t mode, uint8_t half, uint8_t age,
+                     const uint8_t *p1, size_t p1_len, const uint8_t *pids, size_t pids_len,
+                     const uint8_t *p3, size_t p3_len, const uint8_t *p4, size_t p4_len,
+                     uint8_t *pm, size_t pm_len, uint8_t *px1, size_t px1_len, uint8_t *px2, size_t px2_len,
+                     uint8_t *control, size_t control_len,
+                     uint8_t *memory3, size_t memory3_len, uint8_t *memory4, size_t memory4_len);
+
+/* Reads an L1 frame: writes its P1 and PIDS frames and, from the third on, the P3 and P4 frames of the one two earlier, and the reader's
+ * memory. Returns an outcome word. */
+uint64_t layer1_read(uint8_t mode, uint8_t half, uint8_t age,
+                     uint8_t *p1, size_t p1_len, uint8_t *pids, size_t pids_len,
+                     uint8_t *p3, size_t p3_len, uint8_t *p4, size_t p4_len,
+                     const uint8_t *pm, size_t pm_len, const uint8_t *px1, size_t px1_len, const uint8_t *px2, size_t px2_len,
+                     const uint8_t *control, size_t control_len,
+                     uint8_t *memory3, size_t memory3_len, uint8_t *memory4, size_t memory4_len);
+
+/* The length of the buffer at a place of a sending, of a reading; 0 past the last place. For a mode that is not covered, that of MP3. */
+size_t layer1_sender_length(uint8_t mode, size_t place);
+size_t layer1_reader_length(uint8_t mode, size_t place);
+
+/* Whose coded bit stands in a cell of PM. Returns a finding word. */
+uint64_t layer1_find(size_t row, size_t column);
+
+/* Whose coded bit stands in a cell of PX1 (channel 3) or PX2 (channel 4), in a block pair's matrix, of the L1 frame that this state comes
+ * before. Returns a finding word. Refused under 3: the channel at place 0, the block pair at 1, the row at 2, the column at 3. */
+uint64_t layer1_find_px(uint8_t mode, uint8_t half, uint8_t age, uint8_t channel, size_t pair, size_t row, size_t column);
+
+/* The mode and the block count of one control block of 256 bytes. Returns a lookup word. */
+uint64_t layer1_lookup(const uint8_t *block, size_t block_len);
+
+/* A row of PM, a row of PX1 (channel 3) or PX2 (channel 4) of MP11. Returns a row word; there is no number, and a refused row is empty. */
+uint64_t layer1_pm_row(size_t row, const uint8_t *pm, size_t pm_len);
+uint64_t layer1_px_row(uint8_t channel, size_t row, const uint8_t *px1, size_t px1_len, const uint8_t *px2, size_t px2_len);
+
+/* Every word but a row's. */
+static inline unsigned layer1_number(uint64_t word) { return word & 0xff; }
+
+/* An outcome word. */
+static inline uint8_t layer1_mode(uint64_t word) { return (uint8_t)(word >> 8); }
+static inline uint8_t layer1_half(uint64_t word) { return (uint8_t)(word >> 16); }
+static inline uint8_t layer1_age(uint64_t word) { return (uint8_t)(word >> 24); }
+static inline uint32_t layer1_place(uint64_t word) { return (uint32_t)(word >> 32); }
+
+/* A finding word. The channel of layer1_find: 0 none, 1 P1, 2 PIDS; the content of layer1_find_px: 0 none, 1 a coded bit, 2 the zero fill;
+ * and how many L1 frames earlier that bit was sent. */
+static inline unsigned layer1_found_channel(uint64_t word) { return word >> 8 & 0xff; }
+static inline unsigned layer1_found_content(uint64_t word) { return word >> 8 & 0xff; }
+static inline unsigned layer1_found_frame(uint64_t word) { return word >> 16 & 0xff; }
+static inline unsigned layer1_found_before(uint64_t word) { return word >> 24 & 0xff; }
+static inline unsigned layer1_found_place(uint64_t word) { return word >> 32 & 0xff; }
+static inline uint32_t layer1_found_bit(uint64_t word) { return (uint32_t)(word >> 40); }
+
+/* A lookup word. */
+static inline uint8_t layer1_looked_up_mode(uint64_t word) { return (uint8_t)(word >> 8); }
+static inline uint8_t layer1_looked_up_count(uint64_t word) { return (uint8_t)(word >> 16); }
+static inline uint32_t layer1_looked_up_place(uint64_t word) { return (uint32_t)(word >> 32); }
+
+/* A row word: where the row starts in its matrix, and how many bytes it has. */
+static inline size_t layer1_row_start(uint64_t word) { return word & 0xffffffff; }
+static inline size_t layer1_row_length(uint64_t word) { return word >> 32; }
+
+#ifdef __cplusplus
+}
+#endif
+
+#endif

@@ -1,0 +1,18 @@
+//! Links libexported.a, which `rt staticlib exported` writes: in LAYER1_LIB_DIR, or else in target/staticlib beside this folder.
+
+use std::env;
+use std::path::PathBuf;
+
+fn main() {
+    println!("cargo:rerun-if-env-changed=LAYER1_LIB_DIR");
+    let folder = env::var_os("LAYER1_LIB_DIR").map_or_else(
+        || PathBuf::from(env::var_os("CARGO_MANIFEST_DIR").unwrap()).join("../target/staticlib"),
+        PathBuf::from,
+    );
+    println!(
+        "cargo:rerun-if-changed={}",
+        folder.join("libexported.a").display()
+    );
+    println!("cargo:rustc-link-search=native={}", folder.display());
+    println!("cargo:rustc-link-lib=static=exported");
+}

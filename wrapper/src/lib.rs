@@ -1,0 +1,293 @@
+//! The FM Layer 1 bit chain for Rust: safe functions over the C library of the proved crates.
+//!
+//! The borrow rules give what the header `include/layer1.h` asks of a caller: slices point to as many bytes as they say, also where they
+//! are empty, and one that is written overlaps no other.
+
+mod raw;
+
+/// Document 01: a run's state. One that is not valid is refused (2).
+#[derive(Clone, Copy, Debug, PartialEq, Eq)]
+pub struct State {
+    pub mode: u8,
+    pub half: u8,
+    pub age: u8,
+}
+
+/// What a start, a sending or a reading returns: number and place of document 01's table of causes, and the state.
+#[derive(Clone, Copy, Debug, PartialEq, Eq)]
+pub struct Outcome {
+    pub number: u8,
+    pub place: u32,
+    pub state: State,
+}
+
+/// The two sides of a run.
+#[derive(Clone, Copy, Debug, PartialEq, Eq)]
+pub enum Side {
+    Sender,
+    Reader,
+}
+
+/// The buffers lent to a sending, in the order of their places.
+pub struct Sending<'a> {
+    pub p1: &'a [u8],
+    pub pids: &'a [u8],
+    pub p3: &'a [u8],
+    pub p4: &'a [u8],
+    pub pm: &'a mut [u8],
+    pub px1: &'a mut [u8],
+    pub px2: &'a mut [u8],
+    pub control: &'a mut [u8],
+    pub memory3: &'a mut [u8],
+    pub memory4: &'a mut [u8],
+}
+
+/// The buffers lent to a reading, in the order of their places.
+pub struct Reading<'a> {
+    pub p1: &'a mut [u8],
+    pub pids: &'a mut [u8],
+    pub p3: &'a mut [u8],
+    pub p4: &'a mut [u8],
+    pub pm: &'a [u8],
+    pub px1: &'a [u8],
+    pub px2: &'a [u8],
+    pub control: &'a [u8],
+    pub memory3: &'a mut [u8],
+    pub memory4: &'a mut [u8],
+}
+
+/// The channels that meet in PM.
+#[derive(Clone, Copy, Debug, PartialEq, Eq)]
+pub enum Channel {
+    P1,
+    Pids,
+}
+
+/// Whose coded bit stands in a cell of PM; no channel and zeros when refused.
+#[derive(Clone, Copy, Debug, PartialEq, Eq)]
+pub struct Found {
+    pub number: u8,
+    pub place: u8,
+    pub channel: Option<Channel>,
+    pub frame: u8,
+    pub bit: u32,
+}
+
+/// What stands in a cell of PX1 or PX2.
+#[derive(Clone, Copy, Debug, PartialEq, Eq)]
+pub enum Content {
+    Coded,
+    Fill,
+}
+
+/// Whose coded bit stands in a cell of PX1 or PX2, and how many L1 frames earlier it was sent; no content and zeros when refused.
+#[derive(Clone, Copy, Debug, PartialEq, Eq)]
+pub struct FoundPx {
+    pub number: u8,
+    pub place: u8,
+    pub content: Option<Content>,
+    pub before: u8,
+    pub frame: u8,
+    pub bit: u32,
+}
+
+/// What a control block says; mode and count 0 when refused.
+#[derive(Clone, Copy, Debug, PartialEq, Eq)]
+pub struct LookedUp {
+    pub number: u8,
+    pub place: u32,
+    pub mode: u8,
+    pub count: u8,
+}
+
+/// The eight bits of a word from this one on.
+fn byte(word: u64, bit: u32) -> u8 {
+    (word >> bit) as u8
+}
+
+/// The fields of an outcome word.
+fn outcome(word: u64) -> Outcome {
+    Outcome {
+        number: byte(word, 0),
+        place: (word >> 32) as u32,
+        state: State {
+            mode: byte(word, 8),
+            half: byte(word, 16),
+            age: byte(word, 24),
+        },
+    }
+}
+
+/// Starts a sender or a reader: zeroes its memory.
+pub fn start(side: Side, mode: u8, memory3: &mut [u8], memory4: &mut [u8]) -> Outcome {
+    let call = match side {
+        Side::Sender => raw::layer1_start_sender,
+        Side::Reader => raw::layer1_start_reader,
+    };
+    // SAFETY: each pointer and length are those of one slice, and the borrow rules keep them apart.
+    outcome(unsafe {
+        call(
+            mode,
+            memory3.as_mut_ptr(),
+            memory3.len(),
+            memory4.as_mut_ptr(),
+            memory4.len(),
+        )
+    })
+}
+
+/// Sends an L1 frame.
+pub fn send(state: State, lent: &mut Sending) -> Outcome {
+    // SAFETY: as in `start`.
+    outcome(unsafe {
+        raw::layer1_send(
+            state.mode,
+            state.half,
+            state.age,
+            lent.p1.as_ptr(),
+            lent.p1.len(),
+            lent.pids.as_ptr(),
+            lent.pids.len(),
+            lent.p3.as_ptr(),
+            lent.p3.len(),
+            lent.p4.as_ptr(),
+            lent.p4.len(),
+            lent.pm.as_mut_ptr(),
+            lent.pm.len(),
+            lent.px1.as_mut_ptr(),
+            lent.px1.len(),
+            lent.px2.as_mut_ptr(),
+            lent.px2.len(),
+            lent.control.as_mut_ptr(),
+            lent.control.len(),
+            lent.memory3.as_mut_ptr(),
+            lent.memory3.len(),
+            lent.memory4.as_mut_ptr(),
+            lent.memory4.len(),
+        )
+    })
+}
+
+/// Reads an L1 frame.
+pub fn read(state: State, lent: &mut Reading) -> Outcome {
+    // SAFETY: as in `start`.
+    outcome(unsafe {
+        raw::layer1_read(
+            state.mode,
+            state.half,
+            state.age,
+            lent.p1.as_mut_ptr(),
+            lent.p1.len(),
+            lent.pids.as_mut_ptr(),
+            lent.pids.len(),
+            lent.p3.as_mut_ptr(),
+            lent.p3.len(),
+            lent.p4.as_mut_ptr(),
+            lent.p4.len(),
+            lent.pm.as_ptr(),
+            lent.pm.len(),
+            lent.px1.as_ptr(),
+            lent.px1.len(),
+            lent.px2.as_ptr(),
+            lent.px2.len(),
+            lent.control.as_ptr(),
+            lent.control.len(),
+            lent.memory3.as_mut_ptr(),
+            lent.memory3.len(),
+            lent.memory4.as_mut_ptr(),
+            lent.memory4.len(),
+        )
+    })
+}
+
+/// The length of the buffer at a place of a sending or a reading; 0 past the last.
+pub fn length(side: Side, mode: u8, place: usize) -> usize {
+    let call = match side {
+        Side::Sender => raw::layer1_sender_length,
+        Side::Reader => raw::layer1_reader_length,
+    };
+    // SAFETY: only numbers cross.
+    unsafe { call(mode, place) }
+}
+
+/// Finds whose coded bit stands in a cell of PM.
+pub fn find(row: usize, column: usize) -> Found {
+    // SAFETY: only numbers cross.
+    let word = unsafe { raw::layer1_find(row, column) };
+    Found {
+        number: byte(word, 0),
+        place: byte(word, 32),
+        channel: match byte(word, 8) {
+            1 => Some(Channel::P1),
+            2 => Some(Channel::Pids),
+            _ => None,
+        },
+        frame: byte(word, 16),
+        bit: (word >> 40) as u32,
+    }
+}
+
+/// Finds whose coded bit stands in a cell of PX1 (channel 3) or PX2 (channel 4) of the L1 frame that a state comes before.
+pub fn find_px(state: State, channel: u8, pair: usize, row: usize, column: usize) -> FoundPx {
+    // SAFETY: only numbers cross.
+    let word = unsafe {
+        raw::layer1_find_px(
+            state.mode, state.half, state.age, channel, pair, row, column,
+        )
+    };
+    FoundPx {
+        number: byte(word, 0),
+        place: byte(word, 32),
+        content: match byte(word, 8) {
+            1 => Some(Content::Coded),
+            2 => Some(Content::Fill),
+            _ => None,
+        },
+        before: byte(word, 24),
+        frame: byte(word, 16),
+        bit: (word >> 40) as u32,
+    }
+}
+
+/// Looks up the mode and the block count of one control block.
+pub fn lookup(block: &[u8]) -> LookedUp {
+    // SAFETY: the pointer and the length are those of a slice.
+    let word = unsafe { raw::layer1_lookup(block.as_ptr(), block.len()) };
+    LookedUp {
+        number: byte(word, 0),
+        place: (word >> 32) as u32,
+        mode: byte(word, 8),
+        count: byte(word, 16),
+    }
+}
+
+/// The part of a matrix that a row word tells.
+fn part(word: u64, matrix: &[u8]) -> &[u8] {
+    let start = (word & 0xffff_ffff) as usize;
+    &matrix[start..start + (word >> 32) as usize]
+}
+
+/// A row of PM, or an empty part.
+pub fn pm_row(row: usize, pm: &[u8]) -> &[u8] {
+    // SAFETY: the pointer and the length are those of a slice.
+    part(
+        unsafe { raw::layer1_pm_row(row, pm.as_ptr(), pm.len()) },
+        pm,
+    )
+}
+
+/// A row of PX1 (channel 3) or PX2 (channel 4) of MP11, or an empty part.
+pub fn px_row<'a>(channel: u8, row: usize, px1: &'a [u8], px2: &'a [u8]) -> &'a [u8] {
+    // SAFETY: each pointer and length are those of one slice; nothing is written.
+    let word = unsafe {
+        raw::layer1_px_row(
+            channel,
+            row,
+            px1.as_ptr(),
+            px1.len(),
+            px2.as_ptr(),
+            px2.len(),
+        )
+    };
+    part(word, if channel == 4 { px2 } else { px1 })
+}

@@ -1,0 +1,90 @@
+//! The functions of `include/layer1.h`.
+
+extern "C" {
+    pub fn layer1_start_sender(
+        mode: u8,
+        memory3: *mut u8,
+        memory3_len: usize,
+        memory4: *mut u8,
+        memory4_len: usize,
+    ) -> u64;
+    pub fn layer1_start_reader(
+        mode: u8,
+        memory3: *mut u8,
+        memory3_len: usize,
+        memory4: *mut u8,
+        memory4_len: usize,
+    ) -> u64;
+    pub fn layer1_send(
+        mode: u8,
+        half: u8,
+        age: u8,
+        p1: *const u8,
+        p1_len: usize,
+        pids: *const u8,
+        pids_len: usize,
+        p3: *const u8,
+        p3_len: usize,
+        p4: *const u8,
+        p4_len: usize,
+        pm: *mut u8,
+        pm_len: usize,
+        px1: *mut u8,
+        px1_len: usize,
+        px2: *mut u8,
+        px2_len: usize,
+        control: *mut u8,
+        control_len: usize,
+        memory3: *mut u8,
+        memory3_len: usize,
+        memory4: *mut u8,
+        memory4_len: usize,
+    ) -> u64;
+    pub fn layer1_read(
+        mode: u8,
+        half: u8,
+        age: u8,
+        p1: *mut u8,
+        p1_len: usize,
+        pids: *mut u8,
+        pids_len: usize,
+        p3: *mut u8,
+        p3_len: usize,
+        p4: *mut u8,
+        p4_len: usize,
+        pm: *const u8,
+        pm_len: usize,
+        px1: *const u8,
+        px1_len: usize,
+        px2: *const u8,
+        px2_len: usize,
+        control: *const u8,
+        control_len: usize,
+        memory3: *mut u8,
+        memory3_len: usize,
+        memory4: *mut u8,
+        memory4_len: usize,
+    ) -> u64;
+    pub fn layer1_sender_length(mode: u8, place: usize) -> usize;
+    pub fn layer1_reader_length(mode: u8, place: usize) -> usize;
+    pub fn layer1_find(row: usize, column: usize) -> u64;
+    pub fn layer1_find_px(
+        mode: u8,
+        half: u8,
+        age: u8,
+        channel: u8,
+        pair: usize,
+        row: usize,
+        column: usize,
+    ) -> u64;
+    pub fn layer1_lookup(block: *const u8, block_len: usize) -> u64;
+    pub fn layer1_pm_row(row: usize, pm: *const u8, pm_len: usize) -> u64;
+    pub fn layer1_px_row(
+        channel: u8,
+        row: usize,
+        px1: *const u8,
+        px1_len: usize,
+        px2: *const u8,
+        px2_len: usize,
+    ) -> u64;
+}
