@@ -1,6 +1,7 @@
 // What the programs of a run share.
 mod buffers;
 mod command_line;
+mod frames;
 
 pub use buffers::Four;
 pub use buffers::read_four;
@@ -11,6 +12,8 @@ pub use command_line::Arguments;
 pub use command_line::argument_is;
 pub use command_line::read_arguments;
 pub use command_line::usage;
+pub use frames::send_next;
+pub use frames::start_sending;
 use libc::STDERR_FILENO;
 use runs::State;
 ghost use Prim.Native.Nat.{_<_};

@@ -24,7 +24,7 @@ pub enum FoundPx {
 }
 
 // How a mode sends the channel of a number, 3 for P3 and 4 for P4.
-fn kind_of_number(mode: u8, channel: u8) -> Kind
+pub fn kind_of_number(mode: u8, channel: u8) -> Kind
     ensures { λ r. ⌜ r ≡ kindOfNumber mode channel ⌝ }
 {
     if channel == 3 {
@@ -37,7 +37,7 @@ fn kind_of_number(mode: u8, channel: u8) -> Kind
 }
 
 // The cells of a row.
-fn columns(kind: Kind) -> usize
+pub fn columns(kind: Kind) -> usize
     ensures { λ r. ⌜ (r ≡ columnsOf kind) × (r ≤ 144) ⌝ }
 {
     match kind {

@@ -9,6 +9,8 @@ pub use blocks::lookup;
 pub use finder::Found;
 pub use finder::find;
 pub use finder_px::FoundPx;
+pub use finder_px::columns;
 pub use finder_px::find_px;
+pub use finder_px::kind_of_number;
 pub use rows::pm_row;
 pub use rows::px_row;

@@ -3,49 +3,7 @@ use programs::Arguments;
 use programs::Step;
 use runs::State;
 
-// Sends L1 frame `frame`.
-fn send_one(
-    state: State,
-    frame: u64,
-    p1: &[u8],
-    pids: &[u8],
-    p3: &[u8],
-    p4: &[u8],
-    pm: &mut [u8],
-    px1: &mut [u8],
-    px2: &mut [u8],
-    control: &mut [u8],
-    memory3: &mut [u8],
-    memory4: &mut [u8],
-) -> Step {
-    let sent = layer1::send(
-        state,
-        p1,
-        pids,
-        p3,
-        p4,
-        pm,
-        px1,
-        px2,
-        control,
-        memory3,
-        memory4,
-    );
-    let answer = sent.answer;
-    let next = sent.state;
-    let number = layer1::number(answer);
-    if number != 0 {
-        programs::refuse(number, layer1::place(answer), frame);
-        return Step {
-            state: next,
-            go_on: false,
-        };
-    }
-    let go_on = programs::write_four(pm, px1, px2, control);
-    Step { state: next, go_on }
-}
-
-// Reads and sends L1 frame `frame`. An input that ends early lends a buffer that is too short, which `send` refuses.
+// Sends L1 frame `frame` and writes it.
 fn turn(
     state: State,
     frame: u64,
@@ -60,25 +18,26 @@ fn turn(
     memory3: &mut [u8],
     memory4: &mut [u8],
 ) -> Step {
-    let came = programs::read_four(p1, pids, p3, p4);
-    let a = came.first;
-    let b = came.second;
-    let c = came.third;
-    let d = came.fourth;
-    send_one(
+    let sent = programs::send_next(
         state,
         frame,
-        &p1[..a],
-        &pids[..b],
-        &p3[..c],
-        &p4[..d],
+        p1,
+        pids,
+        p3,
+        p4,
         pm,
         px1,
         px2,
         control,
         memory3,
         memory4,
-    )
+    );
+    if !sent.go_on {
+        return sent;
+    }
+    let next = sent.state;
+    let go_on = programs::write_four(pm, px1, px2, control);
+    Step { state: next, go_on }
 }
 
 // Starts a sender, and sends L1 frames till one is refused or `count` are sent.
@@ -96,11 +55,8 @@ fn send_all(
     memory3: &mut [u8],
     memory4: &mut [u8],
 ) {
-    let started = layer1::start_sender(mode, memory3, memory4);
-    let answer = started.answer;
-    let number = layer1::number(answer);
-    if number != 0 {
-        programs::refuse(number, layer1::place(answer), 0);
+    let started = programs::start_sending(mode, memory3, memory4);
+    if !started.go_on {
         return;
     }
     let mut state = started.state;

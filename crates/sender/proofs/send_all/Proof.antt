@@ -8,7 +8,7 @@ use Rattle.sender.proofs.send_all.Statement.{statement}
 use Rattle.sender.proofs.send_all.Tie as tie
 
 abbrev Inv-loop : tie.InvT-loop
-Inv-loop mode count p1₀ pids₀ p3₀ p4₀ pm₀ px1₀ px2₀ control₀ memory3₀ memory4₀ number₀ state₀ left₀ p1 pids p3 p4 pm px1 px2 control memory3 memory4 state left =
+Inv-loop mode count p1₀ pids₀ p3₀ p4₀ pm₀ px1₀ px2₀ control₀ memory3₀ memory4₀ state₀ left₀ p1 pids p3 p4 pm px1 px2 control memory3 memory4 state left =
     (left ≤ count)
     × (length p1 ≡ length p1₀)
     × (length pids ≡ length pids₀)
@@ -22,19 +22,10 @@ Inv-loop mode count p1₀ pids₀ p3₀ p4₀ pm₀ px1₀ px2₀ control₀ mem
     × (length memory4 ≡ length memory4₀)
 
 abbrev μ-loop : tie.MeasureT-loop
-μ-loop mode count p1₀ pids₀ p3₀ p4₀ pm₀ px1₀ px2₀ control₀ memory3₀ memory4₀ number₀ state₀ left₀ p1 pids p3 p4 pm px1 px2 control memory3 memory4 state left = left
+μ-loop mode count p1₀ pids₀ p3₀ p4₀ pm₀ px1₀ px2₀ control₀ memory3₀ memory4₀ state₀ left₀ p1 pids p3 p4 pm px1 px2 control memory3 memory4 state left = left
 
-start-sender-requires : tie.Need-start-sender-requires Inv-loop μ-loop
-start-sender-requires c κs = search needs
-
-number-requires : tie.Need-number-requires Inv-loop μ-loop
-number-requires c κs = search needs
-
-place-requires : tie.Need-place-requires Inv-loop μ-loop
-place-requires c κs = search needs
-
-refuse-requires : tie.Need-refuse-requires Inv-loop μ-loop
-refuse-requires c κs = search needs
+start-sending-requires : tie.Need-start-sending-requires Inv-loop μ-loop
+start-sending-requires c κs = search needs
 
 same-length : tie.Need-same-length Inv-loop μ-loop
 same-length c = search needs
@@ -117,10 +108,7 @@ send-all-spec =
     (tie.spec
     Inv-loop
     μ-loop
-    start-sender-requires
-    number-requires
-    place-requires
-    refuse-requires
+    start-sending-requires
     same-length
     same-length-2
     returns

@@ -1,0 +1,39 @@
+-- What the words of a line are known to be read as, from what the functions say that cut them out and read them. Assumes nothing.
+use mathlib.Core.Path.{_≡_, sym, ap, _∙_}
+use Prim.Native.Nat.{ℕ}
+use mathlib.Core.Bool.{true, false}
+use mathlib.Core.List.{List}
+use Rattle.bits.specs.Tests.{same}
+use Rattle.operands.specs.Operands.{operandOf}
+use Rattle.operands.specs.declared.Operand.{Operand}
+use Rattle.sheetlines.specs.Questions.{asking, namedPM, namedPX1, namedPX2, pmQuestion, pxQuestion, questionOf, rest, word}
+use Rattle.sheetlines.specs.declared.questions.Question.the-variants.{Wrong}
+
+pub read-as : {text cut : List ℕ} {read answer : Operand} → cut ≡ text → read ≡ operandOf cut → read ≡ answer → operandOf text ≡ answer
+read-as e f g = sym (ap operandOf e) ∙ sym f ∙ g
+
+-- the line's words, cut out one after the other
+pub words-cut : (line : List ℕ) {frame tail matrix place : List ℕ} → frame ≡ word line → tail ≡ rest line → matrix ≡ word tail → place ≡ rest tail
+    → asking frame matrix place ≡ questionOf line
+unfolding questionOf
+words-cut line f t m p = rw (f, m, p, t)
+
+-- by the matrix's name
+module _ (frame matrix place : List ℕ) where
+  pub asks-pm : same matrix namedPM ≡ true → pmQuestion frame place ≡ asking frame matrix place
+  unfolding asking
+  asks-pm e = rw e
+
+  pub asks-px1 : same matrix namedPM ≡ false → same matrix namedPX1 ≡ true → pxQuestion 3 frame place ≡ asking frame matrix place
+  unfolding asking
+  asks-px1 e f = rw (e, f)
+
+  pub asks-px2 : same matrix namedPM ≡ false → same matrix namedPX1 ≡ false → same matrix namedPX2 ≡ true
+      → pxQuestion 4 frame place ≡ asking frame matrix place
+  unfolding asking
+  asks-px2 e f g = rw (e, f, g)
+
+  pub asks-nothing : same matrix namedPM ≡ false → same matrix namedPX1 ≡ false → same matrix namedPX2 ≡ false
+      → Wrong ≡ asking frame matrix place
+  unfolding asking
+  asks-nothing e f g = rw (e, f, g)
