@@ -9,35 +9,28 @@ pub enum Pass {
     Frame(u64),
 }
 
-// Prints a number, and a space after it.
-fn print_number(n: u64) {
+// Prints a number between two words. Answers whether it went out.
+fn print_number(before: &[u8], n: u64, after: &[u8]) -> bool {
+    io::write_all(STDOUT_FILENO, before);
     io::print_decimal(STDOUT_FILENO, n);
-    io::write_all(STDOUT_FILENO, b" ");
+    io::write_all(STDOUT_FILENO, after)
 }
 
-// Prints a number, and ends the line. Answers whether it went out.
-fn print_last(n: u64) -> bool {
-    io::print_decimal(STDOUT_FILENO, n);
-    io::write_all(STDOUT_FILENO, b"\n")
-}
-
-// Prints one of two names, by the channel 3 or 4.
-fn print_name(channel: u8, third: &[u8], fourth: &[u8]) {
+// Prints the L1 frame and the matrix that a line asks for, of channel 3 or 4.
+fn print_px(frame: u64, channel: u8) -> bool {
     if channel == 3 {
-        io::write_all(STDOUT_FILENO, third);
-    } else {
-        io::write_all(STDOUT_FILENO, fourth);
+        return print_number(b"", frame, b" PX1 ");
     }
+    print_number(b"", frame, b" PX2 ")
 }
 
-// Prints the cell that a line asks for.
-fn print_cell(question: Question) {
+// Prints the cell that a line asks for, and a word after it.
+fn print_cell(question: Question, after: &[u8]) -> bool {
     match question {
         Question::Pm { frame, row, column } => {
-            print_number(frame);
-            io::write_all(STDOUT_FILENO, b"PM ");
-            print_number(row as u64);
-            print_number(column as u64);
+            print_number(b"", frame, b" PM ");
+            print_number(b"", row as u64, b" ");
+            print_number(b"", column as u64, after)
         }
         Question::Px {
             frame,
@@ -46,47 +39,32 @@ fn print_cell(question: Question) {
             row,
             column,
         } => {
-            print_number(frame);
-            print_name(channel, b"PX1 ", b"PX2 ");
-            print_number(pair as u64);
-            print_number(row as u64);
-            print_number(column as u64);
+            print_px(frame, channel);
+            print_number(b"", pair as u64, b" ");
+            print_number(b"", row as u64, b" ");
+            print_number(b"", column as u64, after)
         }
-        Question::Wrong => {}
+        Question::Wrong => true,
     }
 }
 
 // Prints a coded bit, and the bit that stands in the cell.
 fn print_bit(frame: usize, bit: usize, matrix: &[u8], cell: usize) -> bool {
-    print_number(frame as u64);
-    print_number(bit as u64);
-    print_last(sheetlines::bit_at(matrix, cell) as u64)
+    let value = sheetlines::bit_at(matrix, cell);
+    print_number(b"", frame as u64, b" ");
+    print_number(b"", bit as u64, b" ");
+    print_number(b"", value as u64, b"\n")
 }
 
-// Prints a coded bit of P3 or P4, which stands in PX1 or PX2.
-fn print_extended(
-    channel: u8,
-    frame: usize,
-    bit: usize,
-    cell: usize,
-    px1: &[u8],
-    px2: &[u8],
-) -> bool {
-    if channel == 3 {
-        return print_bit(frame, bit, px1, cell);
-    }
-    print_bit(frame, bit, px2, cell)
-}
-
-// Prints what stands in the cell.
-fn print_entry(entry: Entry, pm: &[u8], px1: &[u8], px2: &[u8]) -> bool {
+// Prints a cell and what stands in it.
+fn print_entry(question: Question, entry: Entry, pm: &[u8], px1: &[u8], px2: &[u8]) -> bool {
     match entry {
         Entry::P1 { bit, cell } => {
-            io::write_all(STDOUT_FILENO, b"P1 ");
+            print_cell(question, b" P1 ");
             print_bit(0, bit, pm, cell)
         }
         Entry::Pids { frame, bit, cell } => {
-            io::write_all(STDOUT_FILENO, b"PIDS ");
+            print_cell(question, b" PIDS ");
             print_bit(frame, bit, pm, cell)
         }
         Entry::Extended {
@@ -96,11 +74,16 @@ fn print_entry(entry: Entry, pm: &[u8], px1: &[u8], px2: &[u8]) -> bool {
             bit,
             cell,
         } => {
-            print_name(channel, b"P3 ", b"P4 ");
-            print_number(from);
-            print_extended(channel, frame, bit, cell, px1, px2)
+            if channel == 3 {
+                print_cell(question, b" P3 ");
+                print_number(b"", from, b" ");
+                return print_bit(frame, bit, px1, cell);
+            }
+            print_cell(question, b" P4 ");
+            print_number(b"", from, b" ");
+            print_bit(frame, bit, px2, cell)
         }
-        Entry::Fill => io::write_all(STDOUT_FILENO, b"FILL\n"),
+        Entry::Fill => print_cell(question, b" FILL\n"),
         Entry::Refused => true,
     }
 }
@@ -132,8 +115,7 @@ fn print_line(
             if !refused {
                 return true;
             }
-            io::write_all(STDOUT_FILENO, b"REFUSED ");
-            print_last(number)
+            print_number(b"REFUSED ", number, b"\n")
         }
         Pass::Frame(frame) => {
             if refused {
@@ -142,8 +124,7 @@ fn print_line(
             if !sheetlines::asks_of(frame, question) {
                 return true;
             }
-            print_cell(question);
-            print_entry(entry, pm, px1, px2)
+            print_entry(question, entry, pm, px1, px2)
         }
     }
 }
