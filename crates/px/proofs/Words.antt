@@ -55,3 +55,13 @@ pub blocks-fit : (x w e : ℕ) → w ≤ 4608 → e ≤ 4750 → Fits w64 (x % 3
 blocks-fit x w e h l =
     let p : x % 32 * w ≤ 31 * 4608 = mul-le-mul {n₂ = 31} {m₂ = 4608} (omega arith) h in
     (omega arith, omega arith)
+
+-- the product and the sum of `byte_of` fit: w bytes in an L1 frame, one or none before, and byte j
+half-le : (h w : ℕ) → h < 2 → w ≤ 9216 → h * w ≤ 1 * 9216
+half-le h w lh lw = mul-le-mul {n₂ = 1} {m₂ = 9216} (omega arith) lw
+
+pub half-fits : (h w : ℕ) → h < 2 → w ≤ 9216 → Fits w64 (h * w)
+half-fits h w lh lw = omega (arith, half-le h w lh lw)
+
+pub byte-fits : (h w j : ℕ) → h < 2 → w ≤ 9216 → j < 9216 → Fits w64 (h * w + j)
+byte-fits h w j lh lw lj = omega (arith, half-le h w lh lw)
