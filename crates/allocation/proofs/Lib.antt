@@ -1,0 +1,6 @@
+pub mod Steps
+pub mod Sums
+pub mod Lists
+pub mod Turns
+pub mod Even
+pub mod Outcomes
