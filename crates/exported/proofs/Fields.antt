@@ -11,7 +11,7 @@ use Rattle.queries.specs.Finder as Finder
 use Rattle.queries.specs.FinderPX.{Content, none as nothing, coded, fill}
 use Rattle.queries.specs.FinderPX as FinderPX
 use Rattle.queries.specs.Lookup as Lookup
-use Rattle.exported.specs.Words.{channelNumber, contentNumber, outcomeWord, foundWord, foundPxWord, lookedUpWord}
+use Rattle.exported.specs.Words.{answerWord, channelNumber, contentNumber, outcomeWord, foundWord, foundPxWord, lookedUpWord}
 use Rattle.exported.proofs.Findings.{Small, SmallPX}
 
 pub number-lt : (a : Answer) → numberOf a < 2 ^ 8
@@ -82,3 +82,7 @@ pub looked-up-fields : (v : Lookup.Values) → v .number < 2 ^ 8 → v .mode < 2
     × (lookedUpWord v / 2 ^ 32 ≡ v .place)
 unfolding lookedUpWord
 looked-up-fields v n m c = (omega arith, omega arith, omega arith, omega arith)
+
+pub answer-fields : (a : Answer) → (answerWord a % 2 ^ 8 ≡ numberOf a) × (answerWord a / 2 ^ 32 ≡ placeOf a)
+unfolding answerWord
+answer-fields a = let n = number-lt a in (omega arith, omega arith)
