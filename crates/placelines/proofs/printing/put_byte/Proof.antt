@@ -1,0 +1,18 @@
+-- `put_byte` meets its contract: a byte has at most three digits. Assumes nothing.
+use native.Mathlib.Omega.{arith}
+use Rattle.placelines.proofs.Texts.{put-short}
+use borrow.Author.Needs.{needs}
+use Rattle.placelines.proofs.printing.put_byte.Statement.{statement}
+use Rattle.placelines.proofs.printing.put_byte.Tie as tie
+
+field-requires : tie.Need-field-requires
+field-requires c κs = search needs
+
+same-length : tie.Need-same-length
+same-length c = search needs
+
+returns : tie.Need-returns
+returns c = put-short _ _ (search needs) (c .before .before .before .before .before .pre) (c .before .before .field .ensures)
+
+pub put-byte-spec : {M : Type 1} → statement M
+put-byte-spec = tie.close (tie.spec field-requires same-length returns)
