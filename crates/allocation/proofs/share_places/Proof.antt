@@ -1,6 +1,7 @@
 -- `share_places` meets its contract: the case that the tests chose. Assumes nothing.
 use mathlib.Core.Path.{ap, subst}
-use Prim.Native.Nat.{ℕ, _<_, _≤_}
+use Prim.Native.Nat.{ℕ, _≤_}
+use native.Mathlib.Omega.{arith}
 use Rattle.allocation.specs.declared.Grants.{Grants}
 use Rattle.allocation.proofs.Outcomes.{wrong-length, too-many, done}
 use borrow.Author.Needs.{needs}
@@ -14,7 +15,7 @@ sum-requires : tie.Need-sum-requires
 sum-requires c κs = search needs
 
 returns-2 : tie.Need-returns-2
-returns-2 c = too-many _ _ _ (c .before .before .if1 .left) (subst (λ (n : ℕ). 16 < n) (c .before .sum .ensures) (c .if2 .taken))
+returns-2 c = too-many _ _ _ (omega arith) (omega arith)
 
 first-grants-requires : tie.Need-first-grants-requires
 first-grants-requires c κs = search needs
