@@ -28,7 +28,9 @@ cast-result : tie.Need-cast-result Inv-loop μ-loop
 cast-result c = omega arith
 
 returns : tie.Need-returns Inv-loop μ-loop
-returns c = sym (c .before .before .before .loop .inv .1 ∙ here _ _ _ (c .before .before .loop-test .taken) (subst (λ (n : ℕ). c .before .before .before .loop .rest < n) (c .before .wide .ensures .0) (c .if1 .taken)))
+returns c =
+    let l = c .before .before .before in
+    sym (l .loop .inv .1 ∙ here _ _ _ (c .before .before .loop-test .taken) (subst (λ (n : ℕ). l .loop .rest < n) (c .before .wide .ensures .0) (c .if1 .taken)))
 
 add-d : tie.Need-add-d Inv-loop μ-loop
 add-d c = omega arith
@@ -37,7 +39,10 @@ loop-less : tie.Need-loop-less Inv-loop μ-loop
 loop-less c = omega arith
 
 loop-again : tie.Need-loop-again Inv-loop μ-loop
-loop-again c = (omega arith, c .before .before .before .loop .inv .1 ∙ further _ _ _ (c .before .before .loop-test .taken) (subst (λ (n : ℕ). n ≤ c .before .before .before .loop .rest) (c .before .wide .ensures .0) (c .if1 .left)) ∙ ap (λ (n : ℕ). ownerOf (8 - (c .before .before .before .loop .d + 1)) (c .before .before .before .loop .d + 1) (c .before .before .before .before .args .t1) (c .before .before .before .loop .rest - n)) (sym (c .before .wide .ensures .0)))
+loop-again c =
+    let l = c .before .before .before in
+    let a = l .before in
+    (omega arith, l .loop .inv .1 ∙ further _ _ _ (c .before .before .loop-test .taken) (subst (λ (n : ℕ). n ≤ l .loop .rest) (c .before .wide .ensures .0) (c .if1 .left)) ∙ ap (λ (n : ℕ). ownerOf (8 - (l .loop .d + 1)) (l .loop .d + 1) (a .args .t1) (l .loop .rest - n)) (sym (c .before .wide .ensures .0)))
 
 returns-2 : tie.Need-returns-2 Inv-loop μ-loop
 returns-2 c = sym (c .before .loop .inv .1 ∙ nobody _ _ _ (c .loop-test .left))

@@ -30,8 +30,14 @@ same-length : tie.Need-same-length
 same-length c = search needs
 
 returns-3 : tie.Need-returns-3
-returns-3 c = done _ _ _ (c .before .before .before .before .before .before .before .before .before .if1 .left) (subst (λ (n : ℕ). n ≤ 16) (c .before .before .before .before .before .before .before .before .sum .ensures) (c .before .before .before .before .before .before .before .if2 .left)) _ _ (c .before .before .write-places .ensures)
-    (ap (λ (s : Grants). s .given) (c .before .before .before .before .before .rounds .ensures _ (c .before .before .before .before .before .before .first-grants .ensures)))
+returns-3 c =
+    let r = c .before .before .before .before .before in
+    let f = r .before in
+    let i = f .before in
+    let u = i .before in
+    let a = u .before in
+    done _ _ _ (a .if1 .left) (subst (λ (n : ℕ). n ≤ 16) (u .sum .ensures) (i .if2 .left)) _ _ (c .before .before .write-places .ensures)
+    (ap (λ (s : Grants). s .given) (r .rounds .ensures _ (f .first-grants .ensures)))
 
 pub share-places-spec : {M : Type 1} → statement M
 share-places-spec =

@@ -27,7 +27,8 @@ number-at-requires c κs = search needs
 
 cast-numbers : tie.Need-cast-numbers Inv-loop μ-loop
 cast-numbers c =
-    omega (arith, c .number-at .ensures, read-at (now (c .before .before .before .before .args .line)) 16 (c .before .before .before .before .pre .0) (c .before .before .before .before .args .k + c .before .before .loop .d) (omega (arith, c .before .before .before .before .pre .1)))
+    let a = c .before .before .before .before in
+    omega (arith, c .number-at .ensures, read-at (now (a .args .line)) 16 (a .pre .0) (a .args .k + c .before .before .loop .d) (omega (arith, a .pre .1)))
 
 array-write-numbers : tie.Need-array-write-numbers Inv-loop μ-loop
 array-write-numbers c = omega arith

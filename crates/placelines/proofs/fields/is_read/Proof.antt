@@ -24,7 +24,9 @@ number-at-requires c κs = search needs
 
 returns : tie.Need-returns Inv-loop μ-loop
 returns c =
-    sym (not-read (now (c .before .before .before .before .before .args .line)) (c .before .before .before .loop .k) 16 (c .before .before .loop-test .taken) (subst (λ (n : ℕ). 256 ≤ n) (c .before .number-at .ensures) (c .if1 .taken)))
+    let l = c .before .before .before in
+    let a = l .before .before in
+    sym (not-read (now (a .args .line)) (l .loop .k) 16 (c .before .before .loop-test .taken) (subst (λ (n : ℕ). 256 ≤ n) (c .before .number-at .ensures) (c .if1 .taken)))
 
 add-k : tie.Need-add-k Inv-loop μ-loop
 add-k c = omega arith
@@ -34,7 +36,9 @@ loop-less c = omega arith
 
 loop-again : tie.Need-loop-again Inv-loop μ-loop
 loop-again c =
-    (omega arith, read-more (now (c .before .before .before .before .before .args .line)) (c .before .before .before .loop .k) (c .before .before .before .loop .inv .1) (subst (λ (n : ℕ). n < 256) (c .before .number-at .ensures) (c .if1 .left)))
+    let l = c .before .before .before in
+    let a = l .before .before in
+    (omega arith, read-more (now (a .args .line)) (l .loop .k) (l .loop .inv .1) (subst (λ (n : ℕ). n < 256) (c .before .number-at .ensures) (c .if1 .left)))
 
 returns-2 : tie.Need-returns-2 Inv-loop μ-loop
 returns-2 c =

@@ -26,8 +26,11 @@ value-requires c κs = search needs
 
 returns : tie.Need-returns
 returns c =
+    let i = c .before .before .before in
+    let p = i .before in
+    let a = p .before .before in
     c .value .ensures
-    ∙ number-word (now (c .before .before .before .before .before .before .args .line)) (c .before .before .before .before .before .before .args .k) (c .before .before .before .before .past-spaces .result) (c .before .before .before .before .past-spaces .ensures .1) (c .before .before .before .if1 .taken) _ (c .before .word .ensures)
+    ∙ number-word (now (a .args .line)) (a .args .k) (p .past-spaces .result) (p .past-spaces .ensures .1) (i .if1 .taken) _ (c .before .word .ensures)
 
 sub-value : tie.Need-sub-value
 sub-value c = search needs
@@ -43,8 +46,10 @@ value-requires-2 c κs = search needs
 
 returns-2 : tie.Need-returns-2
 returns-2 c =
+    let p = c .before .before .before in
+    let a = p .before .before in
     c .value2 .ensures
-    ∙ number-last (now (c .before .before .before .before .before .args .line)) (c .before .before .before .before .before .args .k) (c .before .before .before .past-spaces .result) (c .before .before .before .past-spaces .ensures .1) (c .before .before .if1 .left)
+    ∙ number-last (now (a .args .line)) (a .args .k) (p .past-spaces .result) (p .past-spaces .ensures .1) (c .before .before .if1 .left)
 
 pub number-at-spec : {M : Type 1} → statement M
 number-at-spec =

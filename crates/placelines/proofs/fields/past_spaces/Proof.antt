@@ -29,7 +29,9 @@ loop-less : tie.Need-loop-less Inv-loop μ-loop
 loop-less c = omega arith
 
 loop-again : tie.Need-loop-again Inv-loop μ-loop
-loop-again c = (omega arith, c .past-space .ensures .0, spaces-more (now (c .before .before .before .before .args .line)) (c .before .before .loop .at) (c .past-space .result) (c .before .before .loop .i) (c .past-space .ensures .1) (c .before .before .loop .inv .2))
+loop-again c =
+    let a = c .before .before .before .before in
+    (omega arith, c .past-space .ensures .0, spaces-more (now (a .args .line)) (c .before .before .loop .at) (c .past-space .result) (c .before .before .loop .i) (c .past-space .ensures .1) (c .before .before .loop .inv .2))
 
 returns : tie.Need-returns Inv-loop μ-loop
 returns c =

@@ -11,13 +11,17 @@ enum-known-n : tie.Need-enum-known-n
 enum-known-n c = search needs
 
 returns : tie.Need-returns
-returns c = value-small _ _ (c .before .before .before .before .decimal .ensures) _ (c .before .before .n .given .1) (c .if1 .taken)
+returns c =
+    let d = c .before .before .before .before in
+    value-small _ _ (d .decimal .ensures) _ (c .before .before .n .given .1) (c .if1 .taken)
 
 enum-told : tie.Need-enum-told
 enum-told c = search needs
 
 returns-2 : tie.Need-returns-2
-returns-2 c = value-great _ _ (c .before .before .before .before .decimal .ensures) _ (c .before .before .n .given .1) (c .if1 .left)
+returns-2 c =
+    let d = c .before .before .before .before in
+    value-great _ _ (d .decimal .ensures) _ (c .before .before .n .given .1) (c .if1 .left)
 
 returns-3 : tie.Need-returns-3
 returns-3 c = value-none _ _ (c .before .before .decimal .ensures) (c .enum-told .given .1)

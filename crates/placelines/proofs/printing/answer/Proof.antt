@@ -33,20 +33,37 @@ part-put-line-start c = omega (arith, c .before .line-end .ensures)
 
 part-put-line-end : tie.Need-part-put-line-end Inv-loop μ-loop
 part-put-line-end c =
-    omega (arith, c .before .line-end .ensures, end-within newline (now (c .before .before .before .before .before .before .args .input)) (c .before .before .before .loop .at) (omega (arith, c .before .before .loop-test .taken)))
+    let l = c .before .before .before in
+    let a = l .before .before .before in
+    omega (arith, c .before .line-end .ensures, end-within newline (now (a .args .input)) (l .loop .at) (omega (arith, c .before .before .loop-test .taken)))
 
 put-line-requires : tie.Need-put-line-requires Inv-loop μ-loop
-put-line-requires c κs = omega (arith, c .before .before .before .before .before .before .before .pre .0, c .before .before .before .before .loop .inv .1, c .before .before .before .before .loop .inv .3, c .before .before .before .loop-test .taken)
+put-line-requires c κs =
+    let l = c .before .before .before in
+    let o = l .before in
+    let p = o .before .before .before in
+    omega (arith, p .pre .0, o .loop .inv .1, o .loop .inv .3, l .loop-test .taken)
 
 add-number : tie.Need-add-number Inv-loop μ-loop
-add-number c = omega (arith, c .before .before .before .before .before .before .before .before .before .before .pre .1, c .before .before .before .before .before .before .before .loop .inv .2, c .before .before .before .before .before .before .loop-test .taken)
+add-number c =
+    let l = c .before .before .before .before .before .before in
+    let o = l .before in
+    let p = o .before .before .before in
+    omega (arith, p .pre .1, o .loop .inv .2, l .loop-test .taken)
 
 add-at : tie.Need-add-at Inv-loop μ-loop
 add-at c =
-    omega (arith, c .before .before .before .before .before .before .before .before .before .before .pre .1, c .before .before .before .before .before .line-end .ensures, end-within newline (now (c .before .before .before .before .before .before .before .before .before .before .args .input)) (c .before .before .before .before .before .before .before .loop .at) (omega (arith, c .before .before .before .before .before .before .loop-test .taken)))
+    let l = c .before .before .before .before .before in
+    let o = l .before in
+    let p = o .before in
+    let r = p .before .before .before in
+    omega (arith, r .pre .1, l .line-end .ensures, end-within newline (now (r .args .input)) (p .loop .at) (omega (arith, o .loop-test .taken)))
 
 loop-less : tie.Need-loop-less Inv-loop μ-loop
-loop-less c = omega (arith, c .before .before .before .before .before .line-end .ensures, c .before .before .before .before .before .before .loop-test .taken)
+loop-less c =
+    let l = c .before .before .before .before .before in
+    let o = l .before in
+    omega (arith, l .line-end .ensures, o .loop-test .taken)
 
 loop-again : tie.Need-loop-again Inv-loop μ-loop
 loop-again c =

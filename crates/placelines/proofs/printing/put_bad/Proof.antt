@@ -17,7 +17,9 @@ same-length : tie.Need-same-length
 same-length c = search needs
 
 returns : tie.Need-returns
-returns c = bad _ (c .before .before .before .before .before .before .put .ensures) (c .before .before .field .ensures)
+returns c =
+    let p = c .before .before .before .before .before .before in
+    bad _ (p .put .ensures) (c .before .before .field .ensures)
 
 pub put-bad-spec : {M : Type 1} → statement M
 put-bad-spec =

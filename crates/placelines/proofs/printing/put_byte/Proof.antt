@@ -12,7 +12,9 @@ same-length : tie.Need-same-length
 same-length c = search needs
 
 returns : tie.Need-returns
-returns c = put-short _ _ (search needs) (c .before .before .before .before .before .pre) (c .before .before .field .ensures)
+returns c =
+    let p = c .before .before .before .before .before in
+    put-short _ _ (search needs) (p .pre) (c .before .before .field .ensures)
 
 pub put-byte-spec : {M : Type 1} → statement M
 put-byte-spec = tie.close (tie.spec field-requires same-length returns)

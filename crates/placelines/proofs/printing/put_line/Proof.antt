@@ -11,14 +11,19 @@ is-read-requires : tie.Need-is-read-requires
 is-read-requires c κs = search needs
 
 put-shared-requires : tie.Need-put-shared-requires
-put-shared-requires c κs = (c .before .before .before .before .before .pre, sym (c .before .before .is-read .ensures) ∙ c .before .if1 .taken)
+put-shared-requires c κs =
+    let p = c .before .before .before .before .before in
+    (p .pre, sym (c .before .before .is-read .ensures) ∙ c .before .if1 .taken)
 
 same-length : tie.Need-same-length
 same-length c = search needs
 
 returns : tie.Need-returns
 returns c =
-    put-text (printed-read (c .before .before .before .before .before .before .before .before .args .number) (now (c .before .before .before .before .before .before .before .before .args .line)) (sym (c .before .before .before .before .before .is-read .ensures) ∙ c .before .before .before .before .if1 .taken)) (c .before .before .put-shared .ensures)
+    let i = c .before .before .before .before in
+    let s = i .before in
+    let a = s .before .before .before in
+    put-text (printed-read (a .args .number) (now (a .args .line)) (sym (s .is-read .ensures) ∙ i .if1 .taken)) (c .before .before .put-shared .ensures)
 
 put-bad-requires : tie.Need-put-bad-requires
 put-bad-requires c κs = search needs
@@ -27,7 +32,11 @@ same-length-2 : tie.Need-same-length-2
 same-length-2 c = search needs
 
 returns-2 : tie.Need-returns-2
-returns-2 c = put-text (printed-bad (c .before .before .before .before .before .before .before .before .args .number) (now (c .before .before .before .before .before .before .before .before .args .line)) (sym (c .before .before .before .before .before .is-read .ensures) ∙ c .before .before .before .before .if1 .left)) (c .before .before .put-bad .ensures)
+returns-2 c =
+    let i = c .before .before .before .before in
+    let s = i .before in
+    let a = s .before .before .before in
+    put-text (printed-bad (a .args .number) (now (a .args .line)) (sym (s .is-read .ensures) ∙ i .if1 .left)) (c .before .before .put-bad .ensures)
 
 pub put-line-spec : {M : Type 1} → statement M
 put-line-spec =

@@ -25,7 +25,10 @@ separator-requires : tie.Need-separator-requires Inv-loop μ-loop
 separator-requires c κs = search needs
 
 put-byte-requires : tie.Need-put-byte-requires Inv-loop μ-loop
-put-byte-requires c κs = omega (arith, c .before .before .before .before .before .before .before .pre, c .before .before .before .before .loop .inv .1 .within, c .before .before .before .before .loop .inv .1 .size)
+put-byte-requires c κs =
+    let l = c .before .before .before .before in
+    let p = l .before .before .before in
+    omega (arith, p .pre, l .loop .inv .1 .within, l .loop .inv .1 .size)
 
 add-k : tie.Need-add-k Inv-loop μ-loop
 add-k c = omega arith
@@ -34,7 +37,10 @@ loop-less : tie.Need-loop-less Inv-loop μ-loop
 loop-less c = omega arith
 
 loop-again : tie.Need-loop-again Inv-loop μ-loop
-loop-again c = (omega arith, more-places _ _ _ _ refl (c .before .before .before .separator .ensures) (c .before .before .before .before .before .before .before .loop .inv .1) (c .before .before .put-byte .ensures))
+loop-again c =
+    let s = c .before .before .before in
+    let l = s .before .before .before .before in
+    (omega arith, more-places _ _ _ _ refl (s .separator .ensures) (l .loop .inv .1) (c .before .before .put-byte .ensures))
 
 same-length : tie.Need-same-length Inv-loop μ-loop
 same-length c = c .before .loop .inv .1 .size

@@ -29,7 +29,13 @@ same-length : tie.Need-same-length
 same-length c = search needs
 
 returns : tie.Need-returns
-returns c = refusal (c .before .before .before .before .before .before .before .before .before .before .before .before .before .before .before .before .args .answer) _ _ (c .before .before .before .before .before .before .before .before .number .ensures) (c .before .before .before .place .ensures) (c .before .before .before .before .before .before .before .before .before .before .before .before .put .ensures) (c .before .before .before .before .before .before .before .field .ensures) (c .before .before .field2 .ensures)
+returns c =
+    let p = c .before .before .before in
+    let f = p .before .before .before .before in
+    let n = f .before in
+    let u = n .before .before .before .before in
+    let a = u .before .before .before .before in
+    refusal (a .args .answer) _ _ (n .number .ensures) (p .place .ensures) (u .put .ensures) (f .field .ensures) (c .before .before .field2 .ensures)
 
 pub put-refused-spec : {M : Type 1} → statement M
 put-refused-spec =

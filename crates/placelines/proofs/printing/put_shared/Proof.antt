@@ -33,8 +33,14 @@ same-length c = search needs
 
 returns : tie.Need-returns
 returns c =
+    let i = c .before .before .before .before .before in
+    let n = i .before in
+    let s = n .before .before in
+    let e = s .before .before in
+    let g = e .before in
+    let a = g .before .before .before in
     put-text
-    (told-places _ _ _ (shared-line (now (c .before .before .before .before .before .before .before .before .before .before .before .before .before .before .args .line)) _ _ _ _ (c .before .before .before .before .before .before .before .before .before .before .before .eight-at .ensures) (c .before .before .before .before .before .before .before .before .before .before .eight-at2 .ensures) refl (c .before .before .before .before .before .before .before .before .share-places .ensures)) (sym (c .before .before .before .before .before .before .number .ensures) ∙ c .before .before .before .before .before .if1 .taken))
+    (told-places _ _ _ (shared-line (now (a .args .line)) _ _ _ _ (g .eight-at .ensures) (e .eight-at2 .ensures) refl (s .share-places .ensures)) (sym (n .number .ensures) ∙ i .if1 .taken))
     (c .before .before .put-places .ensures)
 
 put-refused-requires : tie.Need-put-refused-requires
@@ -45,8 +51,14 @@ same-length-2 c = search needs
 
 returns-2 : tie.Need-returns-2
 returns-2 c =
+    let i = c .before .before .before .before in
+    let n = i .before in
+    let s = n .before .before in
+    let e = s .before .before in
+    let g = e .before in
+    let a = g .before .before .before in
     put-text
-    (told-refusal _ _ _ (shared-line (now (c .before .before .before .before .before .before .before .before .before .before .before .before .before .args .line)) _ _ _ _ (c .before .before .before .before .before .before .before .before .before .before .eight-at .ensures) (c .before .before .before .before .before .before .before .before .before .eight-at2 .ensures) refl (c .before .before .before .before .before .before .before .share-places .ensures)) (λ z. c .before .before .before .before .if1 .left (c .before .before .before .before .before .number .ensures ∙ z)))
+    (told-refusal _ _ _ (shared-line (now (a .args .line)) _ _ _ _ (g .eight-at .ensures) (e .eight-at2 .ensures) refl (s .share-places .ensures)) (λ z. i .if1 .left (n .number .ensures ∙ z)))
     (c .before .before .put-refused .ensures)
 
 pub put-shared-spec : {M : Type 1} → statement M
