@@ -3,4 +3,6 @@ pub mod Sums
 pub mod Lists
 pub mod Turns
 pub mod Even
+pub mod Owned
 pub mod Outcomes
+pub mod Unique

@@ -12,7 +12,9 @@ use Rattle.runs.specs.Answers.{numberOf}
 use Rattle.allocation.specs.Allocation.{granted, outcome, placesOf, bySource, shared, total, turns}
 use Rattle.bits.specs.Listed.{listed}
 use Rattle.allocation.specs.Owners.{ownerOf}
-use Rattle.allocation.specs.Promises.{Promises, count}
+use Rattle.allocation.specs.Promises.{Owner, Promises, count}
+use Rattle.bits.proofs.Listed.{getD-listed}
+use Rattle.allocation.proofs.Owned.{owner-range, owner-rises}
 use Rattle.allocation.proofs.Turns.{Sound, sound}
 use Rattle.allocation.proofs.Even.{Even, all-even, none-left}
 use Rattle.allocation.proofs.Lists.{count-both, count-idle, count-idle-other, count-none, count-run, owned, by-source-length}
@@ -40,6 +42,13 @@ module _ (shares waiting : List ℕ) (few : total 8 shares ≤ 16) where
       ap (λ (n : ℕ). listed n (ownerOf 8 0 (granted shares waiting .given))) (sym full)
       ∙ owned 8 0 (granted shares waiting .given) (granted shares waiting .left)
 
+  place-at : (q : ℕ) → q < 16 → getD (placesOf (granted shares waiting)) q 0 ≡ ownerOf 8 0 (granted shares waiting .given) q
+  place-at q h =
+      ap (λ (l : List ℕ). getD l q 0) (sym by-owner) ∙ getD-listed 16 (ownerOf 8 0 (granted shares waiting .given)) q 0 h
+
+  ordered : (q r : ℕ) → q ≤ r → r < 16 → getD (placesOf (granted shares waiting)) q 0 ≤ getD (placesOf (granted shares waiting)) r 0
+  ordered q r l h = omega (arith, place-at q (omega arith), place-at r h, owner-rises 8 0 (granted shares waiting .given) q r (omega arith) l)
+
   counted : (d : ℕ) → d < 8 → count d (placesOf (granted shares waiting)) ≡ getD (granted shares waiting .given) d 0
   unfolding placesOf
   counted d h =
@@ -63,6 +72,8 @@ module _ (shares waiting : List ℕ) (few : total 8 shares ≤ 16) where
       record {
         sixteen = length-append (bySource 8 0 (granted shares waiting .given)) (replicate (granted shares waiting .left) 255)
             ∙ ap (λ (n : ℕ). length (bySource 8 0 (granted shares waiting .given)) + n) (length-replicate (granted shares waiting .left) 255) ∙ full;
+        owned = λ q h. subst Owner (sym (place-at q h)) (owner-range (granted shares waiting .given) q);
+        in-order = ordered;
         not-fewer = λ d h. omega (arith, counted d h, end .fewest d h);
         not-more = λ d h. omega (arith, counted d h, end .most d h);
         none-idle = λ d h w. idle ∙ left d h (omega (arith, counted d h));

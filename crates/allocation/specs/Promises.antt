@@ -1,5 +1,6 @@
 -- Document 02, S-4: what the place list of a successful call promises.
 use mathlib.Core.Path.{_≡_}
+use mathlib.Core.Logic.{_⊎_}
 use mathlib.Core.Bool.{cond}
 use mathlib.Core.List.{List, [], _∷_}
 use Prim.Native.Nat.{ℕ, _+_, _<_, _≤_, min}
@@ -15,8 +16,16 @@ count x (y ∷ ys) = cond (eqb x y) (1 + count x ys) (count x ys)
 abbrev pub least : (shares waiting : List ℕ) → ℕ → ℕ
 least shares waiting d = min (getD shares d 0) (getD waiting d 0)
 
+-- a source, or the mark of a frame of zeros
+abbrev pub Owner : ℕ → Type 0
+Owner v = (v < 8) ⊎ (v ≡ 255)
+
 pub record Promises (shares waiting places : List ℕ) : Type 0 where
   pub sixteen : length places ≡ 16
+  -- each place is a source's or carries a frame of zeros
+  pub owned : (q : ℕ) → q < 16 → Owner (getD places q 0)
+  -- source by source, lowest first
+  pub in-order : (q r : ℕ) → q ≤ r → r < 16 → getD places q 0 ≤ getD places r 0
   -- no source gets fewer than the smaller of its share and its count
   pub not-fewer : (d : ℕ) → d < 8 → least shares waiting d ≤ count d places
   -- or more than it has waiting
