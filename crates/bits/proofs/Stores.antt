@@ -50,7 +50,7 @@ pub number-turn : (f : ℕ → ℕ) → ((i : ℕ) → f i < 2) → (n k a b : �
     → bitOr (a * 2 % 256) b ≡ number (k + 1) (λ i. f (n + i))
 unfolding number
 number-turn f d n k a b h e w =
-    push-bit a b k (rw e (number-lt k (λ i. f (n + i)) (λ i l. d (n + i)))) h (rw w (d (n + k))) ∙ rw (add-one, e, w)
+    push-bit 8 a b k (rw e (number-lt k (λ i. f (n + i)) (λ i l. d (n + i)))) h (rw w (d (n + k))) ∙ rw (add-one, e, w)
 
 -- of a buffer of n bytes the first m are those of f
 pub record Stored (n : ℕ) (f : ℕ → ℕ) (out : List ℕ) (m : ℕ) : Type 0 where

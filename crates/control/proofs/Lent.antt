@@ -5,12 +5,11 @@ use mathlib.Core.Bool.{not}
 use Prim.Native.Nat.{ℕ, _+_, _-_, _*_, _<_}
 use native.Mathlib.Omega.{arith}
 use lib.ListN.{length, take, drop, length-append, length-drop}
-use lib.Seq.{take-all, take-add, take-at, length-take-le}
+use lib.Seq.{take-all, take-at, length-take-le}
 use borrow.Rule.Slice.PartMut.{putMid}
 use Rattle.bits.specs.Bits.{packed}
 use Rattle.bits.specs.Tests.{same}
-use Rattle.bits.proofs.Packed.{length-packed}
-use Rattle.bits.proofs.Parts.{take-packed, drop-packed}
+use Rattle.bits.proofs.Parts.{packed-append}
 use Rattle.control.specs.Control.{controlBit, blockOf, controlOf}
 use Rattle.control.specs.Departs.{blockAt, departs}
 use Rattle.control.proofs.Sent.{block-bits, block-length}
@@ -28,14 +27,6 @@ unfolding departs blockAt
 departs-part mode reserved c control =
     let e : c * 256 + 256 - c * 256 ≡ 256 = omega arith in
     ap (λ (n : ℕ). not (same (take n (drop (c * 256) control)) (blockOf mode c reserved))) e
-
--- belongs in bits
-packed-append : (a b : ℕ) (f : ℕ → ℕ) → packed (a + b) f ≡ packed a f ++ packed b (λ i. f (8 * a + i))
-packed-append a b f =
-    sym (take-all (a + b) (packed (a + b) f) (omega (arith, length-packed (a + b) f)))
-    ∙ take-add a b (packed (a + b) f)
-    ∙ ap₂ {C = List ℕ} (λ (x y : List ℕ). x ++ y) (take-packed a b f)
-    (ap (take b) (drop-packed a b f) ∙ take-all b (packed b (λ i. f (8 * a + i))) (omega (arith, length-packed b (λ i. f (8 * a + i)))))
 
 -- one turn: block c is written
 pub control-more : (mode reserved c : ℕ) (out block : List ℕ) → length out ≡ 4096 → c < 16

@@ -1,7 +1,7 @@
 // What is printed, put behind what a buffer holds: each function answers where the text ends.
 use crate::fields::eight_at;
 use crate::fields::is_read;
-use layer1::Answer;
+use runs::Answer;
 ghost use mathlib.Core.Path.{_≡_};
 ghost use Prim.Native.Nat.{ℕ, _+_, _*_, _^_, _≤_, _<_};
 ghost use mathlib.Core.Bool.{true};
@@ -50,8 +50,8 @@ fn put_refused(out: &mut [u8], at: usize, answer: Answer) -> usize
     ensures { λ r. ⌜ Put (now (out .entry)) (now (out .exit)) at r 64 (refused (numberOf answer) (placeOf answer)) ⌝ }
 {
     let m = listing::put(out, at, b"REFUSED ");
-    let n = listing::field(out, m, layer1::number(answer) as u64, 32);
-    listing::field(out, n, layer1::place(answer) as u64, 10)
+    let n = listing::field(out, m, calls::number(answer) as u64, 32);
+    listing::field(out, n, calls::place(answer) as u64, 10)
 }
 
 // Puts that a line is no line of sixteen numbers.
@@ -71,8 +71,8 @@ fn put_shared(out: &mut [u8], at: usize, line: &[u8]) -> usize
     let shares = eight_at(line, 0);
     let waiting = eight_at(line, 8);
     let mut places = [0u8; 16];
-    let answer = layer1::share_places(shares, waiting, &mut places);
-    if layer1::number(answer) == 0 {
+    let answer = allocation::share_places(shares, waiting, &mut places);
+    if calls::number(answer) == 0 {
         return put_places(out, at, &places);
     }
     put_refused(out, at, answer)

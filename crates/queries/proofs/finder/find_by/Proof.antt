@@ -1,4 +1,4 @@
--- `find` meets its contract: the case that the tests chose. Assumes nothing.
+-- `find_by` meets its contract: the case that the tests chose. Assumes nothing.
 use mathlib.Core.Path.{_≡_, refl, sym, ap, _∙_}
 use Prim.Native.Nat.{ℕ, _+_, _*_, _/_, _%_, _<_, _≤_}
 use borrow.Author.Tests.{lt-ltb, le-ltb}
@@ -12,8 +12,8 @@ use Rattle.queries.specs.declared.finder.Found.the-variants.{P1, Pids, R
 use Rattle.queries.specs.Finder.{found, told, values}
 use Rattle.queries.proofs.Valued.{valued}
 use borrow.Author.Needs.{needs}
-use Rattle.queries.proofs.finder.find.Statement.{statement}
-use Rattle.queries.proofs.finder.find.Tie as tie
+use Rattle.queries.proofs.finder.find_by.Statement.{statement}
+use Rattle.queries.proofs.finder.find_by.Tie as tie
 
 -- what the finder says of a bit
 abbrev named : Bit → Found
@@ -43,14 +43,14 @@ returns c = valued values (row-out _ _ (c .if1 .taken))
 returns-2 : tie.Need-returns-2
 returns-2 c = valued values (column-out _ _ (c .before .if1 .left) (c .if2 .taken))
 
-mul-find : tie.Need-mul-find
-mul-find c = search needs
+mul-find-by : tie.Need-mul-find-by
+mul-find-by c = search needs
 
-add-find : tie.Need-add-find
-add-find c = search needs
+add-find-by : tie.Need-add-find-by
+add-find-by c = search needs
 
-find-requires : tie.Need-find-requires
-find-requires c κs = search needs
+find-by-requires : tie.Need-find-by-requires
+find-by-requires c κs = search needs
 
 enum-known-i : tie.Need-enum-known-i
 enum-known-i c = search needs
@@ -61,22 +61,22 @@ enum-known-i-2 c = search needs
 returns-3 : tie.Need-returns-3
 returns-3 c =
     let f = c .before .before .before in
-    valued values (ap named (sym (c .before .i .given .1)) ∙ inside _ _ (f .before .before .if1 .left) (f .before .if2 .left) _ (f .find .ensures))
+    valued values (ap named (sym (c .before .i .given .1)) ∙ inside _ _ (f .before .before .if1 .left) (f .before .if2 .left) _ (f .find-by .ensures))
 
 returns-4 : tie.Need-returns-4
 returns-4 c =
     let f = c .before .before .before in
-    valued values (ap named (sym (c .before .i2 .given .1)) ∙ inside _ _ (f .before .before .if1 .left) (f .before .if2 .left) _ (f .find .ensures))
+    valued values (ap named (sym (c .before .i2 .given .1)) ∙ inside _ _ (f .before .before .if1 .left) (f .before .if2 .left) _ (f .find-by .ensures))
 
-pub find-spec : {M : Type 1} → statement M
-find-spec =
+pub find-by-spec : {M : Type 1} → statement M
+find-by-spec =
     tie.close
     (tie.spec
     returns
     returns-2
-    mul-find
-    add-find
-    find-requires
+    mul-find-by
+    add-find-by
+    find-by-requires
     enum-known-i
     enum-known-i-2
     returns-3
