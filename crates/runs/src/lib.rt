@@ -31,4 +31,6 @@ pub enum Answer {
     PidsNotCoded(usize),
     FillNotZero(usize),
     ExtendedNotCoded(usize),
+    // Document 02, S-12
+    WrongBudget,
 }
