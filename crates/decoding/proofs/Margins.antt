@@ -7,10 +7,14 @@ use native.Mathlib.Decide.{decLt}
 use native.Mathlib.Omega.{arith}
 use Rattle.trellis.specs.Cells.{Frame, scrambledOf, distance}
 use Rattle.trellis.specs.Paths.{start, LeastOverPaths}
+use Rattle.trellis.specs.Trellis.{cost, anywhere, tabled, Tabled, LeastOf}
 use Rattle.decoding.specs.Nearness.{Nearest, Margin}
+use Rattle.decoding.specs.Starts.{MarginBy}
 use Rattle.trellis.proofs.Optimal.{BitsTo}
 use Rattle.trellis.proofs.Distances.{closed, closed-distance}
 use Rattle.trellis.proofs.Closing.{closed-bits, start-lt}
+use Rattle.trellis.proofs.OverPaths.{over-paths}
+use Rattle.trellis.proofs.Tables.{least-of-same}
 use Rattle.decoding.proofs.Ranking.{Lexicographic, rank-order, frame-bits}
 
 pub lex-distance : (d a n d' a' n' : ℕ) → Lexicographic d a n d' a' n' → d ≤ d'
@@ -55,3 +59,15 @@ margin-once cells budget d m n low a b = go (decLt budget 64)
 
 pub margin-fits : (cells frame : List ℕ) (d : ℕ) → d ≡ distance cells (scrambledOf frame) → (m : ℕ) → LeastOverPaths cells m → m ≤ d
 margin-fits cells frame d e m h = omega (arith, paths-under cells m h (scrambledOf frame) (frame-bits frame))
+
+-- the margin from the table of costs
+module _ (cells costs : List ℕ) (t : Tabled cells costs) where
+  pub paths-of : (m : ℕ) → LeastOf (tabled costs) anywhere m → LeastOverPaths cells m
+  paths-of m h = over-paths cells m (least-of-same (tabled costs) (cost cells) (t .at) anywhere m h)
+
+  pub margin-of : (budget d m : ℕ) → MarginBy (tabled costs) budget d m → Margin cells budget d m
+  margin-of budget d m h =
+      record {
+        all = h .all;
+        some = λ l. let s = h .some l in (s .0, paths-of (s .0) (s .1), s .2);
+      }

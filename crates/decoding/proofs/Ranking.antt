@@ -11,7 +11,7 @@ use Rattle.bits.proofs.Packed.{bitAt-lt, packed-bitAt, packed-cong}
 use Rattle.scrambling.proofs.Laws.{scrambled-bit, scrambled-twice, scrambled-same}
 use Rattle.trellis.specs.Cells.{Frame, scrambledOf, distance}
 use Rattle.trellis.specs.Paths.{start}
-use Rattle.trellis.specs.Trellis.{least}
+use Rattle.trellis.specs.Trellis.{cost, least}
 use Rattle.decoding.specs.Nearness.{rank, Nearest}
 use Rattle.decoding.specs.Starts.{BestStart}
 use Rattle.trellis.proofs.Optimal.{BitsTo}
@@ -50,14 +50,14 @@ rank-order cells s t hs ht = (
   from-lex (distance cells s) (start s) (number 80 s) (distance cells t) (start t) (number 80 t) (start-lt s hs) (number-lt 80 s hs),
 )
 
-pub best-rank : (cells : List ℕ) (budget b : ℕ) (s : ℕ → ℕ) → BestStart cells budget b → NearestFrom cells b s → BitsTo 80 s
+pub best-rank : (cells : List ℕ) (budget b : ℕ) (s : ℕ → ℕ) → BestStart (cost cells) budget b → NearestFrom cells b s → BitsTo 80 s
     → (t : ℕ → ℕ) → BitsTo 80 t → start t < budget → rank cells s ≤ rank cells t
 best-rank cells budget b s best near hs t ht l = rank-order cells s t hs ht .1 (go (decLt (distance cells s) (distance cells t)))
   where
-    near-s : distance cells s ≡ least cells b
+    near-s : distance cells s ≡ least (cost cells) b
     near-s = near .near
 
-    under : least cells (start t) ≤ distance cells t
+    under : least (cost cells) (start t) ≤ distance cells t
     under = frame-under cells t ht (start t) refl
 
     rest : distance cells s ≡ distance cells t → Dec (start s < start t)

@@ -1,7 +1,6 @@
 -- A start more. Assumes nothing.
 use mathlib.Core.Path.{_≡_, ap, _∙_}
 use mathlib.Core.Bool.{Bool, cond}
-use mathlib.Core.List.{List}
 use Prim.Native.Nat.{ℕ, _+_, _<_, _≤_}
 use native.Mathlib.Decide.{decLt, ℕ-discrete}
 use native.Mathlib.Omega.{arith}
@@ -10,45 +9,45 @@ use Rattle.trellis.specs.Trellis.{least}
 use Rattle.decoding.specs.declared.Start.{Start}
 use Rattle.decoding.specs.Starts.{BestStart, nearerOf}
 
-pub first-start : (cells : List ℕ) → BestStart cells 1 0
-first-start cells =
+pub first-start : (cost : ℕ → ℕ → ℕ) → BestStart cost 1 0
+first-start cost =
     record {
       tried = omega arith;
-      under = λ e h. let z : e ≡ 0 = omega arith in let q : least cells e ≡ least cells 0 = ap (least cells) z in omega arith;
+      under = λ e h. let z : e ≡ 0 = omega arith in let q : least cost e ≡ least cost 0 = ap (least cost) z in omega arith;
       first = λ e h. absurd (omega arith);
     }
 
-module _ (cells : List ℕ) (e : ℕ) (best : Start) (h : BestStart cells e (best .e)) (right : best .distance ≡ least cells (best .e)) where
-  keep : (d : ℕ) → d ≡ least cells e → best .distance ≤ d → BestStart cells (e + 1) (best .e)
+module _ (cost : ℕ → ℕ → ℕ) (e : ℕ) (best : Start) (h : BestStart cost e (best .e)) (right : best .distance ≡ least cost (best .e)) where
+  keep : (d : ℕ) → d ≡ least cost e → best .distance ≤ d → BestStart cost (e + 1) (best .e)
   keep d q l =
       record {
         tried = omega (arith, h .tried);
         under = λ k m.
             elim (ℕ-discrete k e) [
-              | yes z ↦ let w : least cells k ≡ least cells e = ap (least cells) z in omega arith
+              | yes z ↦ let w : least cost k ≡ least cost e = ap (least cost) z in omega arith
               | no z ↦ h .under k (omega arith)
             ];
         first = h .first;
       }
 
-  take : (d : ℕ) → d ≡ least cells e → d < best .distance → BestStart cells (e + 1) e
+  take : (d : ℕ) → d ≡ least cost e → d < best .distance → BestStart cost (e + 1) e
   take d q l =
       record {
         tried = omega arith;
         under = λ k m.
             elim (ℕ-discrete k e) [
-              | yes z ↦ let w : least cells k ≡ least cells e = ap (least cells) z in omega arith
+              | yes z ↦ let w : least cost k ≡ least cost e = ap (least cost) z in omega arith
               | no z ↦ omega (arith, h .under k (omega arith))
             ];
         first = λ k m. omega (arith, h .under k m);
       }
 
-  pub more-start : (d : ℕ) (r : Start) → d ≡ least cells e → r ≡ nearerOf best (record { e = e; distance = d })
-      → BestStart cells (e + 1) (r .e) × (r .distance ≡ least cells (r .e))
+  pub more-start : (d : ℕ) (r : Start) → d ≡ least cost e → r ≡ nearerOf best (record { e = e; distance = d })
+      → BestStart cost (e + 1) (r .e) × (r .distance ≡ least cost (r .e))
   unfolding nearerOf
   more-start d r q w = go (decLt d (best .distance))
     where
-      go : Dec (d < best .distance) → BestStart cells (e + 1) (r .e) × (r .distance ≡ least cells (r .e))
+      go : Dec (d < best .distance) → BestStart cost (e + 1) (r .e) × (r .distance ≡ least cost (r .e))
       go (yes l) =
           let v : r ≡ record { e = e; distance = d } = w ∙ ap (λ (t : Bool). cond t (record { e = e; distance = d }) best) (lt-ltb d (best .distance) l) in
           rw v (take d q l, q)

@@ -1,13 +1,13 @@
 // Document 02, S-12: the PIDS frame nearest to cells of which some are mis-copied or unread, with its distance and a margin.
 use runs::Answer;
 ghost use mathlib.Core.Path.{_≡_};
+ghost use mathlib.Core.List.{List};
 ghost use Prim.Native.Nat.{ℕ, _<_, _≤_};
 ghost use lib.ListN.{length};
 ghost use Rattle.trellis.specs.Cells.{scrambledOf, distance};
-ghost use Rattle.trellis.specs.Paths.{LeastOverPaths};
-ghost use Rattle.trellis.specs.Trellis.{least};
-ghost use Rattle.decoding.specs.Nearness.{Nearest, Margin};
-ghost use Rattle.decoding.specs.Starts.{BestStart, nearerOf};
+ghost use Rattle.trellis.specs.Trellis.{anywhere, Cheap, least, LeastOf, tabled, Tabled};
+ghost use Rattle.decoding.specs.Nearness.{Nearest};
+ghost use Rattle.decoding.specs.Starts.{BestStart, MarginBy, nearerOf};
 ghost use Rattle.decoding.specs.Outcomes.{Answered};
 
 // What a search answers, with the frame's distance and the margin.
@@ -34,17 +34,17 @@ fn nearer(a: Start, b: Start) -> Start
 }
 
 // Of the starts below the budget, the first that is nearest.
-fn best_start(cells: &[u8], budget: usize) -> Start
-    requires { ⌜ (length (now cells) ≡ 200) × (0 < budget) × (budget ≤ 64) ⌝ }
-    ensures { λ r. ⌜ BestStart (now (cells .entry)) budget (r .e) × (r .distance ≡ least (now (cells .entry)) (r .e)) ⌝ }
+fn best_start(costs: &[u16; 10240], budget: usize) -> Start
+    requires { ⌜ (0 < budget) × (budget ≤ 64) × Cheap (now costs) ⌝ }
+    ensures { λ r. ⌜ BestStart (tabled (now (costs .entry))) budget (r .e) × (r .distance ≡ least (tabled (now (costs .entry))) (r .e)) ⌝ }
 {
     let mut best = Start {
         e: 0,
-        distance: trellis::score(cells, 0),
+        distance: trellis::score(costs, 0),
     };
     let mut e: usize = 1;
     while e < budget {
-        let distance = trellis::score(cells, e);
+        let distance = trellis::score(costs, e);
         best = nearer(best, Start { e, distance });
         e += 1;
     }
@@ -52,25 +52,26 @@ fn best_start(cells: &[u8], budget: usize) -> Start
 }
 
 // The margin of a distance that is no less than the least over all paths.
-fn margin(cells: &[u8], budget: usize, near: u16) -> u16
-    requires { ⌜ (length (now cells) ≡ 200) × (budget ≤ 64) × ((m : ℕ) → LeastOverPaths (now cells) m → m ≤ near) ⌝ }
-    ensures { λ r. ⌜ Margin (now (cells .entry)) budget near r ⌝ }
+fn margin(costs: &[u16; 10240], budget: usize, near: u16) -> u16
+    requires { ⌜ (budget ≤ 64) × Cheap (now costs) × ((m : ℕ) → LeastOf (tabled (now costs)) anywhere m → m ≤ near) ⌝ }
+    ensures { λ r. ⌜ MarginBy (tabled (now (costs .entry))) budget near r ⌝ }
 {
     if budget == 64 {
         return 0;
     }
-    near - trellis::over_paths(cells)
+    near - trellis::over_paths(costs)
 }
 
-// Leaves the nearest frame among the starts below the budget in the buffer, and tells its distance.
-pub fn search(cells: &[u8], budget: usize, frame: &mut [u8]) -> u16
-    requires { ⌜ (length (now cells) ≡ 200) × (0 < budget) × (budget ≤ 64) × (length (now frame) ≡ 10) ⌝ }
-    ensures { λ r. ⌜ Nearest (now (cells .entry)) budget (now (frame .exit)) × (r ≡ distance (now (cells .entry)) (scrambledOf (now (frame .exit)))) ⌝ }
+// Leaves the nearest frame among the starts below the budget in the buffer, and tells its distance from the cells that have these costs.
+pub fn search(costs: &[u16; 10240], budget: usize, frame: &mut [u8]) -> u16
+    requires { ⌜ (0 < budget) × (budget ≤ 64) × (length (now frame) ≡ 10) × Cheap (now costs) ⌝ }
+    ensures { λ r. ⌜ ((cells : List ℕ) → Tabled cells (now (costs .entry))
+        → Nearest cells budget (now (frame .exit)) × (r ≡ distance cells (scrambledOf (now (frame .exit))))) ⌝ }
 {
-    let best = best_start(cells, budget);
+    let best = best_start(costs, budget);
     let e = best.e;
     let mut s = [0u8; 10];
-    trellis::walk(cells, e, &mut s);
+    trellis::walk(costs, e, &mut s);
     scrambling::scramble(&s, frame);
     best.distance
 }
@@ -102,8 +103,9 @@ pub fn nearest(cells: &[u8], frame: &mut [u8], budget: usize) -> Decoded
     if budget > 64 {
         return refused(Answer::WrongBudget);
     }
-    let distance = search(cells, budget, frame);
-    let margin = margin(cells, budget, distance);
+    let costs = trellis::costs(cells);
+    let distance = search(&costs, budget, frame);
+    let margin = margin(&costs, budget, distance);
     Decoded {
         answer: Answer::Success,
         distance,

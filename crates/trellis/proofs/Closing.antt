@@ -23,23 +23,23 @@ six : (e : ℕ) → e < 64 → number 6 (λ i. e / 2 ^ (5 - i) % 2) ≡ e
 unfolding number all
 six e h = eqb→eq _ e (all-at 64 (λ e. eqb (number 6 (λ i. e / 2 ^ (5 - i) % 2)) e) tt e h)
 
-pub walk-bit : (cells : List ℕ) (final : ℕ → ℕ) (e j : ℕ) → walk cells final e j < 2
+pub walk-bit : (c : ℕ → ℕ → ℕ) (final : ℕ → ℕ) (e j : ℕ) → walk c final e j < 2
 unfolding walk chosen
-walk-bit cells final e j = choice-bit (ahead (cost cells) final (79 - j) j) (walked cells final e j)
+walk-bit c final e j = choice-bit (ahead c final (79 - j) j) (walked c final e j)
 
 -- a register as a stream of bits, with the bits that are walked from there behind it
 unfoldable pub stream : List ℕ → (ℕ → ℕ) → ℕ → ℕ → ℕ
-stream cells final e i = cond (ltb i 6) (e / 2 ^ (5 - i) % 2) (walk cells final e (i - 6))
+stream cells final e i = cond (ltb i 6) (e / 2 ^ (5 - i) % 2) (walk (cost cells) final e (i - 6))
 
 stream-first : (cells : List ℕ) (final : ℕ → ℕ) (e i : ℕ) → i < 6 → stream cells final e i ≡ e / 2 ^ (5 - i) % 2
 unfolding stream
 stream-first cells final e i h = rw (lt-ltb i 6 h)
 
-stream-rest : (cells : List ℕ) (final : ℕ → ℕ) (e i j : ℕ) → i ≡ j + 6 → stream cells final e i ≡ walk cells final e j
+stream-rest : (cells : List ℕ) (final : ℕ → ℕ) (e i j : ℕ) → i ≡ j + 6 → stream cells final e i ≡ walk (cost cells) final e j
 unfolding stream
 stream-rest cells final e i j h =
     let l : 6 ≤ i = omega arith in
-    rw (le-ltb i 6 l) (ap (walk cells final e) (omega arith))
+    rw (le-ltb i 6 l) (ap (walk (cost cells) final e) (omega arith))
 
 module _ (cells : List ℕ) (final : ℕ → ℕ) (e : ℕ) (low : e < 64) where
   abbrev x : ℕ → ℕ
@@ -50,13 +50,13 @@ module _ (cells : List ℕ) (final : ℕ → ℕ) (e : ℕ) (low : e < 64) where
     where
       go : Dec (i < 6) → x i < 2
       go (yes h) = rw (stream-first cells final e i h) (omega arith)
-      go (no h) = rw (stream-rest cells final e i (i - 6) (omega arith)) (walk-bit cells final e (i - 6))
+      go (no h) = rw (stream-rest cells final e i (i - 6) (omega arith)) (walk-bit (cost cells) final e (i - 6))
 
   pub stream-start : reg x 0 ≡ e
   unfolding reg
   stream-start = number-cong 6 _ _ (λ i l. ap x (omega arith) ∙ stream-first cells final e i l) ∙ six e low
 
-  stream-reg : (j : ℕ) → reg x j ≡ walked cells final e j
+  stream-reg : (j : ℕ) → reg x j ≡ walked (cost cells) final e j
   unfolding walked walk
   stream-reg zero = stream-start
   stream-reg (suc j) =
@@ -68,26 +68,26 @@ module _ (cells : List ℕ) (final : ℕ → ℕ) (e : ℕ) (low : e < 64) where
   stream-greedy j h = stream-rest cells final e (j + 6) j refl ∙ ap (choice (ahead (cost cells) final (79 - j) j)) (sym (stream-reg j))
 
   -- the walk has the least sum
-  pub stream-best : pathDistance cells x + final (reg x 80) ≡ leastFrom cells final e
+  pub stream-best : pathDistance cells x + final (reg x 80) ≡ leastFrom (cost cells) final e
   stream-best =
       ap (λ (d : ℕ). d + final (reg x 80)) (sym (along-distance cells x (λ i l. stream-bit i)))
       ∙ greedy-best (cost cells) final x 80 stream-greedy 80 0 refl (λ i l. stream-bit i)
       ∙ ap (best (cost cells) final 80 0) stream-start
 
   -- no path from the same register has a lower one
-  pub stream-under : (z : ℕ → ℕ) → BitsTo 86 z → reg z 0 ≡ e → leastFrom cells final e ≤ pathDistance cells z + final (reg z 80)
+  pub stream-under : (z : ℕ → ℕ) → BitsTo 86 z → reg z 0 ≡ e → leastFrom (cost cells) final e ≤ pathDistance cells z + final (reg z 80)
   stream-under z h s =
       let a : best (cost cells) final 80 0 (reg z 0) ≡ best (cost cells) final 80 0 e = ap (best (cost cells) final 80 0) s in
       omega (arith, best-under (cost cells) final z 80 0 h, along-distance cells z h)
 
   -- of those with the same sum none is lower as a number
-  pub stream-lowest : (z : ℕ → ℕ) → BitsTo 86 z → reg z 0 ≡ e → pathDistance cells z + final (reg z 80) ≤ leastFrom cells final e
-      → number 80 (walk cells final e) ≤ number 80 (λ i. z (6 + i))
+  pub stream-lowest : (z : ℕ → ℕ) → BitsTo 86 z → reg z 0 ≡ e → pathDistance cells z + final (reg z 80) ≤ leastFrom (cost cells) final e
+      → number 80 (walk (cost cells) final e) ≤ number 80 (λ i. z (6 + i))
   stream-lowest z h s t =
       let a : best (cost cells) final 80 0 (reg z 0) ≡ best (cost cells) final 80 0 e = ap (best (cost cells) final 80 0) s in
       let l = greedy-lowest (cost cells) final x z 80 stream-greedy 80 0 refl (λ i l. stream-bit i) h (s ∙ sym stream-start)
       (omega (arith, along-distance cells z h)) in
-      let b : number 80 (walk cells final e) ≡ number 80 (λ i. x (0 + 6 + i)) =
+      let b : number 80 (walk (cost cells) final e) ≡ number 80 (λ i. x (0 + 6 + i)) =
       number-cong 80 _ _ (λ i m. sym (stream-rest cells final e (0 + 6 + i) i (omega arith))) in
       omega arith
 
@@ -125,7 +125,7 @@ closed-sum cells s e h =
     let z : ended e (reg (closed s) 80) ≡ 0 = ap (ended e) (closed-end s ∙ h) ∙ ended-same e in
     omega (arith, closed-distance cells s)
 
-pub frame-under : (cells : List ℕ) (s : ℕ → ℕ) → BitsTo 80 s → (e : ℕ) → start s ≡ e → least cells e ≤ distance cells s
+pub frame-under : (cells : List ℕ) (s : ℕ → ℕ) → BitsTo 80 s → (e : ℕ) → start s ≡ e → least (cost cells) e ≤ distance cells s
 frame-under cells s h e q =
     let low : e < 64 = omega (arith, start-lt s h) in
     omega (arith, stream-under cells (ended e) e low (closed s) (closed-bits s h) (closed-start s ∙ q), closed-sum cells s e q)
@@ -142,18 +142,18 @@ plain-bit : (e i : ℕ) → plain e i < 2
 unfolding plain
 plain-bit e i = omega arith
 
-pub least-low : (cells : List ℕ) (e : ℕ) → e < 64 → least cells e ≤ 200
+pub least-low : (cells : List ℕ) (e : ℕ) → e < 64 → least (cost cells) e ≤ 200
 least-low cells e h = omega (arith, frame-under cells (plain e) (λ i l. plain-bit e i) e (plain-start e h), distance-low cells (plain e))
 
 -- the nearest of the frames with the start e, and of those the lowest as a number
 pub record NearestFrom (cells : List ℕ) (e : ℕ) (s : ℕ → ℕ) : Type 0 where
   pub starts : start s ≡ e
-  pub near : distance cells s ≡ least cells e
-  pub lowest : (t : ℕ → ℕ) → BitsTo 80 t → start t ≡ e → distance cells t ≤ least cells e → number 80 s ≤ number 80 t
+  pub near : distance cells s ≡ least (cost cells) e
+  pub lowest : (t : ℕ → ℕ) → BitsTo 80 t → start t ≡ e → distance cells t ≤ least (cost cells) e → number 80 s ≤ number 80 t
 
 module _ (cells : List ℕ) (e : ℕ) (low : e < 64) where
   abbrev s : ℕ → ℕ
-  s = walk cells (ended e) e
+  s = walk (cost cells) (ended e) e
 
   abbrev z : ℕ → ℕ
   z = stream cells (ended e) e
@@ -171,7 +171,7 @@ module _ (cells : List ℕ) (e : ℕ) (low : e < 64) where
 
   start-digit : (i : ℕ) → i < 6 → start s / 2 ^ (5 - i) % 2 ≡ s (74 + i)
   unfolding start digit
-  start-digit i l = number-digit 6 (λ i. s (74 + i)) (λ i m. walk-bit cells (ended e) e (74 + i)) i l
+  start-digit i l = number-digit 6 (λ i. s (74 + i)) (λ i m. walk-bit (cost cells) (ended e) e (74 + i)) i l
 
   walk-closed : (i : ℕ) → i < 86 → z i ≡ closed s i
   walk-closed i h = go (decLt i 6)
@@ -181,7 +181,7 @@ module _ (cells : List ℕ) (e : ℕ) (low : e < 64) where
           stream-first cells (ended e) e i l ∙ ap (λ (n : ℕ). n / 2 ^ (5 - i) % 2) (sym walk-starts) ∙ start-digit i l ∙ ap s (omega arith)
       go (no l) = stream-rest cells (ended e) e i ((i + 74) % 80) (omega arith)
 
-  walk-near : distance cells s ≡ least cells e
+  walk-near : distance cells s ≡ least (cost cells) e
   walk-near =
       let r : ended e (reg z 80) ≡ 0 = ap (ended e) ends ∙ ended-same e in
       omega (arith, closed-distance cells s, path-cong cells z (closed s) walk-closed, stream-best cells (ended e) e low)

@@ -6,3 +6,4 @@ pub mod OverPaths
 pub mod Outputs
 pub mod Scoring
 pub mod Walking
+pub mod Tables

@@ -1,23 +1,23 @@
 -- Scores from step to step. Assumes nothing.
-use mathlib.Core.Path.{_≡_, ap, ap₂, _∙_}
+use mathlib.Core.Path.{_≡_, sym, ap, ap₂, subst, _∙_}
 use mathlib.Core.Bool.{Bool, true, false, cond}
 use mathlib.Core.List.{List}
 use Prim.Native.Nat.{ℕ, suc, _+_, _-_, _*_, _/_, _%_, _<_, _≤_, min}
 use native.Mathlib.Omega.{arith}
-use lib.Dec.{eqb}
-use lib.ListN.{getD, set, replicate, getD-replicate, length-replicate}
+use lib.Dec.{eqb, leb}
+use lib.ListN.{length, getD, set, replicate, getD-replicate, length-replicate}
 use lib.Seq.{getD-set-same, getD-set-other}
 use native.Mathlib.Decide.{ℕ-discrete}
 use borrow.Author.Tests.{le-leb, lt-leb, eq-eqb, ne-eqb}
 use Rattle.trellis.specs.declared.Scores.{Scores}
-use Rattle.trellis.specs.Trellis.{next, outputOf, cost, best, Before, Scored, chosen, ended}
+use Rattle.trellis.specs.Trellis.{next, outputOf, cost, best, tabled, Tabled, after, Cheap, Before, Scored, Stored, Kept, chosen, lower, ended}
 use Rattle.trellis.proofs.Distances.{differs-low}
 
 cond-low : (t : Bool) (n : ℕ) → n ≤ 1 → cond t n 0 ≤ 1
 cond-low true n h = h
 cond-low false n h = omega arith
 
-cost-low : (cells : List ℕ) (j w : ℕ) → cost cells j w ≤ 3
+pub cost-low : (cells : List ℕ) (j w : ℕ) → cost cells j w ≤ 3
 unfolding cost
 cost-low cells j w =
     let at : ℕ = j / 2 * 5 + j % 2 * 3 in
@@ -31,51 +31,84 @@ cost-low cells j w =
 pub lesser-of : {a b c d e : ℕ} → c ≡ min a b → a ≡ d → b ≡ e → c ≡ min d e
 lesser-of h p q = h ∙ ap₂ min p q
 
-pub last-scored : (cells : List ℕ) (final : ℕ → ℕ) (s : Scores) → s .step ≡ 80 → ((r : ℕ) → r < 64 → getD (s .scores) r 0 ≤ 201)
-    → ((r : ℕ) → r < 64 → getD (s .scores) r 0 ≡ final r) → Scored cells final 0 s
+pub tabled-cheap : (cells costs : List ℕ) → Tabled cells costs → Cheap costs
+tabled-cheap cells costs t j w h l = omega (arith, t .at j w h l, cost-low cells j w)
+
+pub last-scored : (cost : ℕ → ℕ → ℕ) (final : ℕ → ℕ) (s : Scores) → s .step ≡ 80 → ((r : ℕ) → r < 64 → getD (s .scores) r 0 ≤ 201)
+    → ((r : ℕ) → r < 64 → getD (s .scores) r 0 ≡ final r) → Scored cost final 0 s
 unfolding best
-last-scored cells final s e l f = record { step = omega arith; right = f; low = λ r h. omega (arith, l r h) }
+last-scored cost final s e l f = record { step = omega arith; right = f; low = λ r h. omega (arith, l r h) }
 
-pub step-scored : (cells : List ℕ) (final : ℕ → ℕ) (k : ℕ) (s t : Scores) → Scored cells final k s → t .step + 1 ≡ s .step
-    → Before cells (t .step) (t .scores) (s .scores) → Scored cells final (suc k) t
-unfolding best
-step-scored cells final k s t h e b =
-    let j : s .step ≡ suc (t .step) = omega arith in
-    let at : (w : ℕ) → getD (s .scores) (next w) 0 ≡ best (cost cells) final k (suc (t .step)) (next w) =
-    λ w. h .right (next w) (omega arith) ∙ ap (λ (n : ℕ). best (cost cells) final k n (next w)) j in
-    record {
-      step = omega (arith, h .step);
-      right = λ r l.
-          b r l
-          ∙ ap₂ (λ (x y : ℕ). min (cost cells (t .step) (2 * r) + x) (cost cells (t .step) (2 * r + 1) + y)) (at (2 * r)) (at (2 * r + 1));
-      low = λ r l. omega (arith, b r l, cost-low cells (t .step) (2 * r), h .low (next (2 * r)) (omega arith));
-    }
+module _ (costs : List ℕ) (cheap : Cheap costs) (final : ℕ → ℕ) where
+  abbrev c : ℕ → ℕ → ℕ
+  c = tabled costs
 
--- the choice at a step, from the scores after it
-module _ (cells : List ℕ) (final : ℕ → ℕ) (j r : ℕ) (s : Scores) (z o : ℕ) (low : j < 80) (there : s .step ≡ j + 1) (h : Scored cells final (80 - (j + 1)) s)
-    (hz : z ≡ cost cells j (2 * r) + getD (s .scores) (next (2 * r)) 0)
-    (ho : o ≡ cost cells j (2 * r + 1) + getD (s .scores) (next (2 * r + 1)) 0) where
-  ahead-of : (w : ℕ) → getD (s .scores) (next w) 0 ≡ best (cost cells) final (79 - j) (suc j) (next w)
-  ahead-of w =
-      let a : s .step ≡ suc j = omega arith in
-      let b : 80 - (j + 1) ≡ 79 - j = omega arith in
-      h .right (next w) (omega arith) ∙ ap₂ (λ (k n : ℕ). best (cost cells) final k n (next w)) b a
+  pub step-scored : (k : ℕ) (s t : Scores) → Scored c final k s → t .step + 1 ≡ s .step → Before costs (t .step) (t .scores) (s .scores)
+      → Scored c final (suc k) t
+  unfolding best
+  step-scored k s t h e b =
+      let j : s .step ≡ suc (t .step) = omega arith in
+      let at : (w : ℕ) → getD (s .scores) (next w) 0 ≡ best c final k (suc (t .step)) (next w) =
+      λ w. h .right (next w) (omega arith) ∙ ap (λ (n : ℕ). best c final k n (next w)) j in
+      record {
+        step = omega (arith, h .step);
+        right = λ r l.
+            b r l ∙ ap₂ (λ (x y : ℕ). min (c (t .step) (2 * r) + x) (c (t .step) (2 * r + 1) + y)) (at (2 * r)) (at (2 * r + 1));
+        low = λ r l.
+            omega (arith, b r l, cheap (t .step) (2 * r) (omega (arith, h .step)) (omega arith), h .low (next (2 * r)) (omega arith));
+      }
 
-  pub chosen-zero : z ≤ o → 0 ≡ chosen cells final j r
-  unfolding chosen
-  chosen-zero l =
-      let m : cost cells j (2 * r) + best (cost cells) final (79 - j) (suc j) (next (2 * r))
-      ≤ cost cells j (2 * r + 1) + best (cost cells) final (79 - j) (suc j) (next (2 * r + 1)) =
-      omega (arith, ahead-of (2 * r), ahead-of (2 * r + 1)) in
+  -- the scores after one more step are kept
+  pub kept-more : (j : ℕ) (s : Scores) (old new : List ℕ) → j < 80 → Scored c final (79 - j) s → s .step ≡ suc j → Stored (s .scores) old new j
+      → Kept c final (suc j) old → Kept c final j new
+  kept-more j s old new l h e st kept =
+      record {
+        right = λ i r a b m.
+            elim (ℕ-discrete i j) [
+              | yes q ↦ subst (λ (n : ℕ). after new n r ≡ best c final (79 - n) (suc n) r) (sym q)
+                  (st .there r m ∙ h .right r m ∙ ap (λ (n : ℕ). best c final (79 - j) n r) e)
+              | no q ↦ st .later (64 * i + r) (omega arith) ∙ kept .right i r (omega arith) b m
+            ];
+        low = λ i r a b m.
+            elim (ℕ-discrete i j) [
+              | yes q ↦ subst (λ (n : ℕ). after new n r ≤ 1000) (sym q) (omega (arith, st .there r m, h .low r m))
+              | no q ↦ omega (arith, st .later (64 * i + r) (omega arith), kept .low i r (omega arith) b m)
+            ];
+      }
+
+  pub kept-none : (kept : List ℕ) → Kept c final 80 kept
+  kept-none kept = record { right = λ j r a b m. absurd (omega arith); low = λ j r a b m. absurd (omega arith) }
+
+  -- the choice at a step, from the scores after it
+  pub lower-chosen : (kept : List ℕ) → Kept c final 0 kept → (j r : ℕ) → j < 80 → lower costs kept j r ≡ chosen c final j r
+  unfolding lower chosen
+  lower-chosen kept h j r l =
+      ap₂ (λ (x y : ℕ). cond (leb (c j (2 * r) + x) (c j (2 * r + 1) + y)) 0 1)
+      (h .right j (next (2 * r)) (omega arith) l (omega arith))
+      (h .right j (next (2 * r + 1)) (omega arith) l (omega arith))
+
+module _ (costs kept : List ℕ) (j r z o : ℕ)
+    (hz : z ≡ tabled costs j (2 * r) + after kept j (next (2 * r))) (ho : o ≡ tabled costs j (2 * r + 1) + after kept j (next (2 * r + 1))) where
+  pub lower-zero : z ≤ o → 0 ≡ lower costs kept j r
+  unfolding lower
+  lower-zero l =
+      let m : tabled costs j (2 * r) + after kept j (next (2 * r)) ≤ tabled costs j (2 * r + 1) + after kept j (next (2 * r + 1)) = omega arith in
       rw (le-leb _ _ m)
 
-  pub chosen-one : o < z → 1 ≡ chosen cells final j r
-  unfolding chosen
-  chosen-one l =
-      let m : cost cells j (2 * r + 1) + best (cost cells) final (79 - j) (suc j) (next (2 * r + 1))
-      < cost cells j (2 * r) + best (cost cells) final (79 - j) (suc j) (next (2 * r)) =
-      omega (arith, ahead-of (2 * r), ahead-of (2 * r + 1)) in
+  pub lower-one : o < z → 1 ≡ lower costs kept j r
+  unfolding lower
+  lower-one l =
+      let m : tabled costs j (2 * r + 1) + after kept j (next (2 * r + 1)) < tabled costs j (2 * r) + after kept j (next (2 * r)) = omega arith in
       rw (lt-leb _ _ m)
+
+-- one score more is stored
+pub stored-more : (l scores : List ℕ) (at r x : ℕ) → at + r < length l → x ≡ getD scores r 0
+    → ((q : ℕ) → q < r → getD l (at + q) 0 ≡ getD scores q 0) → (q : ℕ) → q < r + 1 → getD (set l (at + r) x) (at + q) 0 ≡ getD scores q 0
+stored-more l scores at r x h e s q m = go (ℕ-discrete q r)
+  where
+    go : Dec (q ≡ r) → getD (set l (at + r) x) (at + q) 0 ≡ getD scores q 0
+    go (yes d) = rw d (getD-set-same l (at + r) x 0 h ∙ e)
+    go (no d) = getD-set-other l (at + r) (at + q) x 0 (λ f. d (omega arith)) ∙ s q (omega arith)
 
 -- the scores after the last step
 abbrev pub far : List ℕ

@@ -10,18 +10,18 @@ use Rattle.trellis.specs.Trellis.{chosen, walked, walk, LeastScore}
 
 -- ---- a step of the walk
 
-pub walk-is : (cells : List ℕ) (final : ℕ → ℕ) (e j : ℕ) {r b : ℕ} → b ≡ chosen cells final j r → r ≡ walked cells final e j → b ≡ walk cells final e j
+pub walk-is : (cost : ℕ → ℕ → ℕ) (final : ℕ → ℕ) (e j : ℕ) {r b : ℕ} → b ≡ chosen cost final j r → r ≡ walked cost final e j → b ≡ walk cost final e j
 unfolding walk
-walk-is cells final e j h l = h ∙ ap (chosen cells final j) l
+walk-is cost final e j h l = h ∙ ap (chosen cost final j) l
 
-walked-suc : (cells : List ℕ) (final : ℕ → ℕ) (e j : ℕ) → (2 * walked cells final e j + walk cells final e j) % 64 ≡ walked cells final e (suc j)
+walked-suc : (cost : ℕ → ℕ → ℕ) (final : ℕ → ℕ) (e j : ℕ) → (2 * walked cost final e j + walk cost final e j) % 64 ≡ walked cost final e (suc j)
 unfolding walk walked
-walked-suc cells final e j = refl
+walked-suc cost final e j = refl
 
-pub walked-more : (cells : List ℕ) (final : ℕ → ℕ) (e j : ℕ) {r b : ℕ} → r ≡ walked cells final e j → b ≡ walk cells final e j
-    → (2 * r + b) % 64 ≡ walked cells final e (j + 1)
-walked-more cells final e j h l =
-    ap₂ (λ (x y : ℕ). (2 * x + y) % 64) h l ∙ walked-suc cells final e j ∙ ap (walked cells final e) (sym (add-one j))
+pub walked-more : (cost : ℕ → ℕ → ℕ) (final : ℕ → ℕ) (e j : ℕ) {r b : ℕ} → r ≡ walked cost final e j → b ≡ walk cost final e j
+    → (2 * r + b) % 64 ≡ walked cost final e (j + 1)
+walked-more cost final e j h l =
+    ap₂ (λ (x y : ℕ). (2 * x + y) % 64) h l ∙ walked-suc cost final e j ∙ ap (walked cost final e) (sym (add-one j))
 
 -- ---- a score more
 

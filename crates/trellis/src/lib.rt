@@ -6,8 +6,7 @@ ghost use lib.ListN.{length, getD};
 ghost use Rattle.bits.specs.Bits.{packed};
 ghost use Rattle.coding.specs.Coder.{generators};
 ghost use Rattle.trellis.specs.Cells.{differs as «differs-of»};
-ghost use Rattle.trellis.specs.Paths.{LeastOverPaths};
-ghost use Rattle.trellis.specs.Trellis.{outputOf, cost as «cost-of», next, ended, Scored, chosen as «chosen-of», walk as «walk-of», least, LeastScore, Low, Before};
+ghost use Rattle.trellis.specs.Trellis.{outputOf, cost as «cost-of», next, ended, anywhere, tabled, Tabled, after, Cheap, Low, AllLow, Before, Scored, Stored, Kept, lower, walk as «walk-of», least, LeastScore, LeastOf};
 
 // The scores of the 64 states of the register at a step.
 struct Scores {
@@ -52,13 +51,28 @@ fn cost(cells: &[u8], j: usize, w: usize) -> u16
     two
 }
 
-// A window's cost at step j, with the score of the register after it.
-fn through(cells: &[u8], j: usize, w: usize, after: &[u16; 64]) -> u16
-    requires { ⌜ (length (now cells) ≡ 200) × (j < 80) × (w < 128) × Low (now after) ⌝ }
-    ensures { λ r. ⌜ r ≡ «cost-of» (now (cells .entry)) j w + getD (now (after .entry)) (next w) 0 ⌝ }
+// The costs of all windows at all steps: that of the window w at step j stands at 128 * j + w.
+pub fn costs(cells: &[u8]) -> [u16; 10240]
+    requires { ⌜ length (now cells) ≡ 200 ⌝ }
+    ensures { λ r. ⌜ Tabled (now (cells .entry)) r ⌝ }
 {
+    let mut table = [0u16; 10240];
+    let mut n: usize = 0;
+    while n < 10240 {
+        table[n] = cost(cells, n / 128, n % 128);
+        n += 1;
+    }
+    table
+}
+
+// A window's cost at step j, with the score of the register after it.
+fn through(costs: &[u16; 10240], j: usize, w: usize, late: &[u16; 64]) -> u16
+    requires { ⌜ (j < 80) × (w < 128) × Cheap (now costs) × Low (now late) ⌝ }
+    ensures { λ r. ⌜ r ≡ tabled (now (costs .entry)) j w + getD (now (late .entry)) (next w) 0 ⌝ }
+{
+    let at = 128 * j + w;
     let r = w % 64;
-    cost(cells, j, w) + after[r]
+    costs[at] + late[r]
 }
 
 // The lesser of two scores.
@@ -72,9 +86,9 @@ fn lesser(a: u16, b: u16) -> u16
 }
 
 // One step of the trellis, backwards: the scores before it from those after it.
-fn step(cells: &[u8], after: Scores) -> Scores
-    requires { ⌜ (length (now cells) ≡ 200) × (0 < after .step) × (after .step ≤ 80) × Low (after .scores) ⌝ }
-    ensures { λ r. ⌜ (r .step + 1 ≡ after .step) × Before (now (cells .entry)) (r .step) (r .scores) (after .scores) ⌝ }
+fn step(costs: &[u16; 10240], after: Scores) -> Scores
+    requires { ⌜ (0 < after .step) × (after .step ≤ 80) × Cheap (now costs) × Low (after .scores) ⌝ }
+    ensures { λ r. ⌜ (r .step + 1 ≡ after .step) × Before (now (costs .entry)) (r .step) (r .scores) (after .scores) ⌝ }
 {
     let j = after.step - 1;
     let late = after.scores;
@@ -82,8 +96,8 @@ fn step(cells: &[u8], after: Scores) -> Scores
     let mut r: usize = 0;
     while r < 64 {
         scores[r] = lesser(
-            through(cells, j, 2 * r, &late),
-            through(cells, j, 2 * r + 1, &late),
+            through(costs, j, 2 * r, &late),
+            through(costs, j, 2 * r + 1, &late),
         );
         r += 1;
     }
@@ -100,56 +114,92 @@ fn ending(e: usize) -> Scores
     Scores { scores, step: 80 }
 }
 
-// The scores before step j, from those after the last step.
-fn back(cells: &[u8], last: Scores, j: usize) -> Scores
-    requires { ⌜ (length (now cells) ≡ 200) × (last .step ≡ 80) × (j ≤ 80) × ((q : ℕ) → q < 64 → getD (last .scores) q 0 ≤ 201) ⌝ }
-    ensures { λ r. ⌜ (r .step ≡ j) × ((final : ℕ → ℕ) → ((q : ℕ) → q < 64 → getD (last .scores) q 0 ≡ final q) → Scored (now (cells .entry)) final (80 - j) r) ⌝ }
+// Stores the scores after step j at 64 * j.
+fn store(scores: &[u16; 64], j: usize, kept: &mut [u16])
+    requires { ⌜ (j < 80) × (length (now kept) ≡ 5120) ⌝ }
+    ensures { λ _. ⌜ Stored (now (scores .entry)) (now (kept .entry)) (now (kept .exit)) j ⌝ }
+{
+    let at = 64 * j;
+    let mut r: usize = 0;
+    while r < 64 {
+        kept[at + r] = scores[r];
+        r += 1;
+    }
+}
+
+// The scores before the first step, from those after the last; those after each step are kept.
+fn back(costs: &[u16; 10240], last: Scores, kept: &mut [u16]) -> Scores
+    requires { ⌜ (last .step ≡ 80) × Cheap (now costs) × ((q : ℕ) → q < 64 → getD (last .scores) q 0 ≤ 201) × (length (now kept) ≡ 5120) ⌝ }
+    ensures { λ r. ⌜ ((final : ℕ → ℕ) → ((q : ℕ) → q < 64 → getD (last .scores) q 0 ≡ final q)
+        → Scored (tabled (now (costs .entry))) final 80 r × Kept (tabled (now (costs .entry))) final 0 (now (kept .exit))) ⌝ }
 {
     let mut s = last;
-    let mut k = 80;
-    while j < k {
-        s = step(cells, s);
+    let mut k: usize = 80;
+    while 0 < k {
         k -= 1;
+        let late = s.scores;
+        store(&late, k, kept);
+        s = step(costs, s);
     }
     s
 }
 
-// The bit that a nearest path to e takes at step j from register r: 0 wherever it does as well.
-fn choose(cells: &[u8], e: usize, j: usize, r: usize) -> u8
-    requires { ⌜ (length (now cells) ≡ 200) × (e < 64) × (j < 80) × (r < 64) ⌝ }
-    ensures { λ b. ⌜ b ≡ «chosen-of» (now (cells .entry)) (ended e) j r ⌝ }
+// The same from the scores that were kept.
+fn ahead(costs: &[u16; 10240], kept: &[u16], j: usize, w: usize) -> u16
+    requires { ⌜ (j < 80) × (w < 128) × Cheap (now costs) × AllLow (now kept) × (length (now kept) ≡ 5120) ⌝ }
+    ensures { λ r. ⌜ r ≡ tabled (now (costs .entry)) j w + after (now (kept .entry)) j (next w) ⌝ }
 {
-    let s = back(cells, ending(e), j + 1);
-    let late = s.scores;
-    let zero = through(cells, j, 2 * r, &late);
-    let one = through(cells, j, 2 * r + 1, &late);
+    let at = 128 * j + w;
+    let r = 64 * j + w % 64;
+    costs[at] + kept[r]
+}
+
+// The bit that a best path takes at step j from register r: 0 wherever it does as well.
+fn choose(costs: &[u16; 10240], kept: &[u16], j: usize, r: usize) -> u8
+    requires { ⌜ (j < 80) × (r < 64) × Cheap (now costs) × AllLow (now kept) × (length (now kept) ≡ 5120) ⌝ }
+    ensures { λ b. ⌜ (b ≡ lower (now (costs .entry)) (now (kept .entry)) j r) × (b < 2) ⌝ }
+{
+    let zero = ahead(costs, kept, j, 2 * r);
+    let one = ahead(costs, kept, j, 2 * r + 1);
     if zero <= one {
         return 0;
     }
     1
 }
 
-// The scrambled frame that is nearest of those that start at e, and of these the lowest.
-pub fn walk(cells: &[u8], e: usize, out: &mut [u8])
-    requires { ⌜ (length (now cells) ≡ 200) × (e < 64) × (length (now out) ≡ 10) ⌝ }
-    ensures { λ _. ⌜ now (out .exit) ≡ packed 10 («walk-of» (now (cells .entry)) (ended e) e) ⌝ }
+// The bits of the path from register e on that takes 0 wherever it does as well.
+fn follow(costs: &[u16; 10240], kept: &[u16], e: usize, out: &mut [u8])
+    requires { ⌜ (e < 64) × (length (now out) ≡ 10) × Cheap (now costs) × AllLow (now kept) × (length (now kept) ≡ 5120) ⌝ }
+    ensures { λ _. ⌜ ((final : ℕ → ℕ) → Kept (tabled (now (costs .entry))) final 0 (now (kept .entry))
+        → now (out .exit) ≡ packed 10 («walk-of» (tabled (now (costs .entry))) final e)) ⌝ }
 {
     let mut r = e;
     let mut j: usize = 0;
     while j < 80 {
-        let b = choose(cells, e, j, r);
+        let b = choose(costs, kept, j, r);
         bits::put(out, j, b);
         r = (2 * r + b as usize) % 64;
         j += 1;
     }
 }
 
-// The least distance of the frames that start at e.
-pub fn score(cells: &[u8], e: usize) -> u16
-    requires { ⌜ (length (now cells) ≡ 200) × (e < 64) ⌝ }
-    ensures { λ r. ⌜ r ≡ least (now (cells .entry)) e ⌝ }
+// The scrambled frame that is nearest of those that start at e, and of these the lowest.
+pub fn walk(costs: &[u16; 10240], e: usize, out: &mut [u8])
+    requires { ⌜ (e < 64) × (length (now out) ≡ 10) × Cheap (now costs) ⌝ }
+    ensures { λ _. ⌜ now (out .exit) ≡ packed 10 («walk-of» (tabled (now (costs .entry))) (ended e) e) ⌝ }
 {
-    let s = back(cells, ending(e), 0);
+    let mut kept = [0u16; 5120];
+    back(costs, ending(e), &mut kept);
+    follow(costs, &kept, e, out);
+}
+
+// The least distance of the frames that start at e.
+pub fn score(costs: &[u16; 10240], e: usize) -> u16
+    requires { ⌜ (e < 64) × Cheap (now costs) ⌝ }
+    ensures { λ r. ⌜ r ≡ least (tabled (now (costs .entry))) e ⌝ }
+{
+    let mut kept = [0u16; 5120];
+    let s = back(costs, ending(e), &mut kept);
     let scores = s.scores;
     scores[e]
 }
@@ -167,19 +217,17 @@ fn lowest(scores: &[u16; 64]) -> u16
     m
 }
 
-// The least distance over all paths.
-pub fn over_paths(cells: &[u8]) -> u16
-    requires { ⌜ length (now cells) ≡ 200 ⌝ }
-    ensures { λ m. ⌜ LeastOverPaths (now (cells .entry)) m ⌝ }
+// The least distance over all paths: they may end anywhere.
+pub fn over_paths(costs: &[u16; 10240]) -> u16
+    requires { ⌜ Cheap (now costs) ⌝ }
+    ensures { λ m. ⌜ LeastOf (tabled (now (costs .entry))) anywhere m ⌝ }
 {
-    let s = back(
-        cells,
-        Scores {
-            scores: [0u16; 64],
-            step: 80,
-        },
-        0,
-    );
+    let mut kept = [0u16; 5120];
+    let last = Scores {
+        scores: [0u16; 64],
+        step: 80,
+    };
+    let s = back(costs, last, &mut kept);
     let scores = s.scores;
     lowest(&scores)
 }

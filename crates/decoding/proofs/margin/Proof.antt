@@ -12,7 +12,7 @@ over-paths-requires : tie.Need-over-paths-requires
 over-paths-requires c κs = search needs
 
 sub-result : tie.Need-sub-result
-sub-result c = c .before .before .before .pre .2 _ (c .over-paths .ensures)
+sub-result c = c .before .before .pre .2 _ (c .over-paths .ensures)
 
 returns-2 : tie.Need-returns-2
 returns-2 c = record { all = λ e. absurd (c .before .if1 .left e); some = λ l. (c .over-paths .result, c .over-paths .ensures, refl) }

@@ -2,7 +2,8 @@
 use mathlib.Core.Path.{refl}
 use native.Mathlib.Omega.{arith}
 use borrow.Author.Needs.{needs}
-use Rattle.decoding.proofs.Margins.{margin-fits}
+use Rattle.trellis.proofs.Scoring.{tabled-cheap}
+use Rattle.decoding.proofs.Margins.{margin-fits, margin-of, paths-of}
 use Rattle.decoding.proofs.Answering.{judged-cells, judged-frame, judged-none, judged-many, judged-right, length-not, budget-not, answered-refused, answered-found}
 use Rattle.decoding.proofs.nearest.Statement.{statement}
 use Rattle.decoding.proofs.nearest.Tie as tie
@@ -31,24 +32,34 @@ refused-requires-4 c κs = search needs
 returns-4 : tie.Need-returns-4
 returns-4 c = answered-refused _ _ _ _ _ budget-not (judged-many _ _ _ (c .before .before .before .before .if1 .left) (c .before .before .before .if2 .left) (c .before .if4 .taken)) (c .refused4 .ensures)
 
+costs-requires : tie.Need-costs-requires
+costs-requires c κs = search needs
+
 search-requires : tie.Need-search-requires
-search-requires c κs = search needs
+search-requires c κs =
+    let left = c .before .before .before in
+    (omega (arith, left .before .if3 .left), omega (arith, left .if4 .left), left .before .before .if2 .left, tabled-cheap _ _ (c .before .before .costs .ensures))
 
 margin-requires : tie.Need-margin-requires
 margin-requires c κs =
-    let s = c .before .before .search .ensures in
-    (c .before .before .before .before .before .before .before .if1 .left, omega (arith, c .before .before .before .before .if4 .left), margin-fits _ _ _ (s .1))
+    let cells = c .before .before .before .before .before .before .before .before .before .before .before .before .before .args .cells .now in
+    let t = c .before .before .before .before .before .before .costs .ensures in
+    let s = c .before .before .before .search .ensures cells t in
+    (omega (arith, c .before .before .before .before .before .before .before .if4 .left), tabled-cheap _ _ t, λ m h. margin-fits cells _ _ (s .1) m (paths-of cells _ t m h))
 
 same-length : tie.Need-same-length
 same-length c = search needs
 
 returns-5 : tie.Need-returns-5
 returns-5 c =
-    let s = c .before .before .before .search .ensures in
+    let start = c .before .before .before .before .before .before .before .before .before .before .before .before .before .before in
+    let left = c .before .before .before .before .before .before .before .before in
+    let t = c .before .before .before .before .before .before .before .costs .ensures in
+    let s = c .before .before .before .before .search .ensures (start .args .cells .now) t in
     answered-found _ _ _ _ _
-    (judged-right _ _ _ (c .before .before .before .before .before .before .before .before .if1 .left) (c .before .before .before .before .before .before .before .if2 .left) (omega (arith, c .before .before .before .before .before .before .if3 .left)) (omega (arith, c .before .before .before .before .before .if4 .left)))
+    (judged-right _ _ _ (left .before .before .before .if1 .left) (left .before .before .if2 .left) (omega (arith, left .before .if3 .left)) (omega (arith, left .if4 .left)))
     refl
-    record { nearest = s .0; distance = s .1; margin = c .margin .ensures }
+    record { nearest = s .0; distance = s .1; margin = margin-of (start .args .cells .now) _ t _ _ _ (c .margin .ensures) }
 
 pub nearest-spec : {M : Type 1} → statement M
 nearest-spec =
@@ -62,6 +73,7 @@ nearest-spec =
     returns-3
     refused-requires-4
     returns-4
+    costs-requires
     search-requires
     margin-requires
     same-length

@@ -2,10 +2,11 @@
 use mathlib.Core.Path.{ap₂, _∙_}
 use mathlib.Core.List.{List}
 use Prim.Native.Nat.{ℕ}
+use native.Mathlib.Omega.{arith}
 use borrow.Author.Needs.{needs}
 use Rattle.bits.specs.Bits.{bitAt, packed}
 use Rattle.scrambling.specs.Scrambler.{scrambled}
-use Rattle.decoding.proofs.Written.{found-nearest, found-distance}
+use Rattle.decoding.proofs.Written.{searched}
 use Rattle.decoding.proofs.search.Statement.{statement}
 use Rattle.decoding.proofs.search.Tie as tie
 
@@ -16,7 +17,9 @@ slice-aggregate-walk : tie.Need-slice-aggregate-walk
 slice-aggregate-walk c = search needs
 
 walk-requires : tie.Need-walk-requires
-walk-requires c κs = search needs
+walk-requires c κs =
+    let start = c .before .before .before in
+    (omega (arith, c .before .best-start .ensures .0 .tried, start .pre .1), search needs, start .pre .3)
 
 slice-aggregate-scramble : tie.Need-slice-aggregate-scramble
 slice-aggregate-scramble c = search needs
@@ -29,11 +32,10 @@ same-length c = search needs
 
 returns : tie.Need-returns
 returns c =
+    let start = c .before .before .before .before .before .before .before .before .before .before in
     let best = c .before .before .before .before .before .before .before .before .best-start in
-    let left = c .before .before .scramble .ensures ∙ ap₂ (λ (n : ℕ) (f : List ℕ). packed n (scrambled (bitAt f))) (c .before .before .before .before .before .before .before .before .before .before .before .pre .3) (c .before .before .before .before .before .before .walk .ensures) in (
-      found-nearest (c .before .before .before .before .before .before .before .before .before .before .before .args .cells .now) (c .before .before .before .before .before .before .before .before .before .before .before .args .budget) (best .result .e) (best .ensures .0) (c .before .before .before .before .before .before .before .before .before .before .before .pre .2) _ left,
-      found-distance (c .before .before .before .before .before .before .before .before .before .before .before .args .cells .now) (c .before .before .before .before .before .before .before .before .before .before .before .args .budget) (best .result .e) (best .ensures .0) (c .before .before .before .before .before .before .before .before .before .before .before .pre .2) _ left _ (best .ensures .1),
-    )
+    let left = c .before .before .scramble .ensures ∙ ap₂ (λ (n : ℕ) (f : List ℕ). packed n (scrambled (bitAt f))) (start .pre .2) (c .before .before .before .before .before .before .walk .ensures) in
+    λ cells t. searched cells (start .args .costs .now) t (start .args .budget) (best .result .e) (best .ensures .0) (start .pre .1) _ left _ (best .ensures .1)
 
 pub search-spec : {M : Type 1} → statement M
 search-spec =
