@@ -5,10 +5,10 @@ use std::io::{self, BufWriter, Write};
 use std::process::ExitCode;
 
 use second::commands::{self, Stop};
-use second::{cells, run::Refusal};
+use second::{cells, nearest, run::Refusal};
 
 /// The commands with their operands.
-const COMMANDS: [(&str, &str); 14] = [
+const COMMANDS: [(&str, &str); 16] = [
     ("draw", "SEED MODE COUNT"),
     ("send", "MODE COUNT"),
     ("sheet", "MODE COUNT"),
@@ -23,6 +23,8 @@ const COMMANDS: [(&str, &str); 14] = [
     ("compare", "MODE COUNT FILE_A FILE_B"),
     ("vectors", ""),
     ("draw-vectors", "SEED"),
+    ("nearest", "BUDGET"),
+    ("draw-copied", "SEED COUNT"),
 ];
 
 /// No section: runs one command; 0 if it did its work, 1 if refused or different, 2 otherwise.
@@ -99,6 +101,8 @@ fn dispatch(
         }
         ("vectors", _) => commands::vectors(&mut input, output),
         ("draw-vectors", &[seed]) => commands::draw_vectors(seed, output),
+        ("nearest", &[budget]) => commands::nearest(budget, &mut input, output),
+        ("draw-copied", &[seed, count]) => Ok(nearest::drawn_lines(seed, count, output)?),
         _ => Err(Stop::Trouble(io::Error::other("no such command"))),
     }
 }

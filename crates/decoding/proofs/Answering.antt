@@ -1,5 +1,5 @@
 -- What the code finds of the lengths and the budget, as S-12 judges them. Assumes nothing.
-use mathlib.Core.Path.{_≡_, refl, sym, ap, _∙_}
+use mathlib.Core.Path.{_≡_, refl, sym, ap, subst, _∙_}
 use mathlib.Core.Bool.{Bool, true, false, cond, not, _&&_}
 use mathlib.Core.Option.{none, some}
 use mathlib.Core.List.{List, [], _∷_}
@@ -11,7 +11,7 @@ use lib.ListN.{length}
 use borrow.Author.Tests.{eq-eqb, ne-eqb, le-leb, lt-leb}
 use Rattle.runs.specs.declared.Answer.{Answer}
 use Rattle.runs.specs.declared.Answer.the-variants.{Success, WrongLength, WrongBudget}
-use Rattle.runs.specs.Answers.{numberOf}
+use Rattle.runs.specs.Answers.{numberOf, placeOf}
 use Rattle.runs.specs.Causes.{at, judge, size, when, wrong}
 use Rattle.runs.proofs.Answered.{success-is}
 use Rattle.decoding.specs.declared.Decoded.{Decoded}
@@ -78,6 +78,18 @@ budget-low cells frame budget e =
                 | yes q ↦ budget-not (sym (judged-many cells frame budget p q l) ∙ e)
               ]
         ]
+
+pub judged-place : (cells frame : List ℕ) (budget : ℕ) → placeOf (judged cells frame budget) ≤ 1
+unfolding verdict judge
+judged-place cells frame budget =
+    subst (λ (a : Answer). placeOf a ≤ 1) (sym (by-tests cells frame budget))
+    (go (eqb (length cells) 200) (eqb (length frame) 10) (leb 1 budget && leb budget 64))
+  where
+    go : (p q t : Bool) → placeOf (verdict p q t) ≤ 1
+    go true true true = omega arith
+    go true true false = omega arith
+    go true false t = omega arith
+    go false q t = omega arith
 
 pub is-success : (a : Answer) → Dec (a ≡ Success)
 is-success a =

@@ -2,4 +2,5 @@ mod Places
 mod Outcomes
 mod Findings
 mod Fields
+mod Decoding
 mod Parts

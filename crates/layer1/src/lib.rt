@@ -1,4 +1,4 @@
-// The entry points: document 01's operations. Every function is total, and its contract is one equation.
+// The entry points: document 01's operations, and document 02's. Every function is total, and its contract is one equation, or a relation that holds of one outcome.
 pub use calls::Outcome;
 pub use calls::number;
 pub use calls::place;
@@ -6,6 +6,8 @@ pub use calls::reader_lengths;
 pub use calls::sender_lengths;
 pub use calls::start_reader;
 pub use calls::start_sender;
+pub use decoding::Decoded;
+pub use decoding::nearest;
 pub use queries::Found;
 pub use queries::FoundPx;
 pub use queries::LookedUp;
