@@ -1,6 +1,6 @@
 -- House matter: the 200 cells of one PIDS frame as a line of text, a character each in coded order: `0`, `1`, or `?` where a cell could not be read.
 use mathlib.Core.Path.{_≡_}
-use mathlib.Core.Bool.{Bool, cond, _&&_, _||_}
+use mathlib.Core.Bool.{Bool, true, false, cond, _&&_, _||_}
 use mathlib.Core.List.{List}
 use Prim.Native.Nat.{ℕ, _<_}
 use lib.Dec.{eqb}
@@ -23,5 +23,7 @@ pub record CellsOf (line cells : List ℕ) : Type 0 where
   pub each : (n : ℕ) → n < 200 → getD cells n 0 ≡ cellOf (getD line n 0)
 
 -- what reading a line leaves: its cells, or what was there where it is no frame's
-unfoldable pub Read : Bool → (line before after : List ℕ) → Type 0
-Read frame line before after = (frame ≡ isFrame line) × cond frame (CellsOf line after) (after ≡ before)
+pub record Read (frame : Bool) (line before after : List ℕ) : Type 0 where
+  pub judged : frame ≡ isFrame line
+  pub cells : frame ≡ true → CellsOf line after
+  pub none : frame ≡ false → after ≡ before

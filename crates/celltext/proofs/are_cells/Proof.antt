@@ -1,46 +1,57 @@
+-- `celltext::are_cells` meets its contract. The loop's invariant: the first i characters stand for cells. Assumes nothing.
+use mathlib.Core.Path.{_≡_, sym, subst, _∙_}
+use mathlib.Core.Bool.{true}
+use Prim.Native.Nat.{ℕ, _<_, _≤_, _-_}
+use native.Mathlib.Omega.{arith}
+use native.Mathlib.Decide.{decLt}
+use lib.ListN.{getD}
+use borrow.Author.Needs.{needs}
+use borrow.Author.Tests.{not-false, not-true}
+use Rattle.bits.proofs.Tests.{all-false, all-true}
+use Rattle.celltext.specs.Lines.{isCell}
 use Rattle.celltext.proofs.are_cells.Statement.{statement}
 use Rattle.celltext.proofs.are_cells.Tie as tie
-use Rattle.celltext.proofs.are_cells.Reads as reads
-use Rattle.celltext.proofs.are_cells.Lts as lts
-use Rattle.celltext.proofs.is_cell.Reads as is-cell-reads
 
 abbrev Inv-loop : tie.InvT-loop
-Inv-loop line i₀ i = ?
+Inv-loop line i₀ i = (i ≤ 200) × ((n : ℕ) → n < i → isCell (getD line n 0) ≡ true)
 
 abbrev μ-loop : tie.MeasureT-loop
-μ-loop line i₀ i = ?
+μ-loop line i₀ i = 200 - i
 
--- src/lib.rt:45:5
 loop-holds : tie.Need-loop-holds Inv-loop μ-loop
-loop-holds c = ?
+loop-holds c = (omega arith, λ n h. absurd (omega arith))
 
--- src/lib.rt:46:21
 shared-slice-read-is-cell : tie.Need-shared-slice-read-is-cell Inv-loop μ-loop
-shared-slice-read-is-cell c = ?
+shared-slice-read-is-cell c = search needs
 
--- src/lib.rt:46:13
 is-cell-requires : tie.Need-is-cell-requires Inv-loop μ-loop
-is-cell-requires c κs = ?
+is-cell-requires c κs = search needs
 
--- src/lib.rt:47:13
 returns : tie.Need-returns Inv-loop μ-loop
-returns c = ?
+returns c = 
+    let loop = c .before .before .before .before .loop in
+    sym (all-false 200 (λ n. isCell (getD (c .before .before .before .before .before .before .args .line .now) n 0)) (loop .i) (omega arith) (sym (c .before .is-cell .ensures) ∙ not-true _ (c .if1 .taken)))
 
--- src/lib.rt:49:9
 add-i : tie.Need-add-i Inv-loop μ-loop
-add-i c = ?
+add-i c = search needs
 
--- src/lib.rt:45:5
 loop-less : tie.Need-loop-less Inv-loop μ-loop
-loop-less c = ?
+loop-less c = search needs
 
--- src/lib.rt:45:5
 loop-again : tie.Need-loop-again Inv-loop μ-loop
-loop-again c = ?
+loop-again c = 
+    let loop = c .before .before .before .before .loop in
+    let line = c .before .before .before .before .before .before .args .line .now in (
+      search needs,
+      λ n h.
+          elim (decLt n (loop .i)) [
+            | yes l ↦ loop .inv .1 n l
+            | no l ↦ subst (λ (k : ℕ). isCell (getD line k 0) ≡ true) (omega arith) (sym (c .before .is-cell .ensures) ∙ not-false _ (c .if1 .left))
+          ],
+    )
 
--- src/lib.rt:40:1
 returns-2 : tie.Need-returns-2 Inv-loop μ-loop
-returns-2 c = ?
+returns-2 c = sym (all-true 200 (λ n. isCell (getD (c .before .before .before .args .line .now) n 0)) (λ n h. c .before .loop .inv .1 n (omega arith)))
 
 pub are-cells-spec : {M : Type 1} → statement M
 are-cells-spec =

@@ -1,19 +1,20 @@
+-- `celltext::is_cell` meets its contract. Assumes nothing.
+use borrow.Author.Tests.{eq-eqb, ne-eqb}
+use Rattle.celltext.specs.Lines.{isCell}
 use Rattle.celltext.proofs.is_cell.Statement.{statement}
 use Rattle.celltext.proofs.is_cell.Tie as tie
-use Rattle.celltext.proofs.is_cell.Reads as reads
-use Rattle.celltext.proofs.is_cell.Lts as lts
 
--- src/lib.rt:18:9
 returns : tie.Need-returns
-returns c = ?
+unfolding isCell
+returns c = rw (eq-eqb _ 48 (c .if1 .taken))
 
--- src/lib.rt:21:9
 returns-2 : tie.Need-returns-2
-returns-2 c = ?
+unfolding isCell
+returns-2 c = rw (ne-eqb _ 48 (c .before .if1 .left), eq-eqb _ 49 (c .if2 .taken))
 
--- src/lib.rt:14:1
 returns-3 : tie.Need-returns-3
-returns-3 c = ?
+unfolding isCell
+returns-3 c = rw (ne-eqb _ 48 (c .before .if1 .left), ne-eqb _ 49 (c .if2 .left))
 
 pub is-cell-spec : {M : Type 1} → statement M
 is-cell-spec = tie.close (tie.spec returns returns-2 returns-3)

@@ -1,46 +1,45 @@
+-- `celltext::put_hexadecimal` meets its contract. The loop's invariant: the first i bytes are put. Assumes nothing.
+use Prim.Native.Nat.{_*_, _≤_, _-_}
+use native.Mathlib.Omega.{arith}
+use lib.ListN.{length, take}
+use borrow.Author.Needs.{needs}
+use Rattle.listing.specs.Running.{Put}
+use Rattle.celltext.specs.Found.{hexadecimal}
+use Rattle.celltext.proofs.Hexadecimal.{put-start, put-next, put-bytes}
 use Rattle.celltext.proofs.put_hexadecimal.Statement.{statement}
 use Rattle.celltext.proofs.put_hexadecimal.Tie as tie
-use Rattle.celltext.proofs.put_hexadecimal.Reads as reads
-use Rattle.celltext.proofs.put_hexadecimal.Lts as lts
-use Rattle.celltext.proofs.put_byte.Reads as put-byte-reads
 
 abbrev Inv-loop : tie.InvT-loop
-Inv-loop out₀ at bytes end₀ i₀ out end i = ?
+Inv-loop out₀ at bytes end₀ i₀ out end i = (i ≤ length bytes) × Put out₀ out at end (2 * i) (hexadecimal (take i bytes))
 
 abbrev μ-loop : tie.MeasureT-loop
-μ-loop out₀ at bytes end₀ i₀ out end i = ?
+μ-loop out₀ at bytes end₀ i₀ out end i = length bytes - i
 
--- src/lib.rt:109:5
 loop-holds : tie.Need-loop-holds Inv-loop μ-loop
-loop-holds c = ?
+loop-holds c = (omega arith, put-start _ (c .before .before .args .bytes .now) _)
 
--- src/lib.rt:110:34
 shared-slice-read-put-byte : tie.Need-shared-slice-read-put-byte Inv-loop μ-loop
-shared-slice-read-put-byte c = ?
+shared-slice-read-put-byte c = search needs
 
--- src/lib.rt:110:9
 put-byte-requires : tie.Need-put-byte-requires Inv-loop μ-loop
-put-byte-requires c κs = ?
+put-byte-requires c κs = let loop = c .before .before .before .loop in omega (arith, loop .inv .1 .within, loop .inv .1 .size, c .before .before .before .before .before .before .pre)
 
--- src/lib.rt:111:9
 add-i : tie.Need-add-i Inv-loop μ-loop
-add-i c = ?
+add-i c = search needs
 
--- src/lib.rt:109:5
 loop-less : tie.Need-loop-less Inv-loop μ-loop
-loop-less c = ?
+loop-less c = search needs
 
--- src/lib.rt:109:5
 loop-again : tie.Need-loop-again Inv-loop μ-loop
-loop-again c = ?
+loop-again c = 
+    let loop = c .before .before .before .before .before .before .loop in
+    (search needs, put-next _ _ _ (c .before .before .before .before .before .before .before .before .before .args .bytes .now) _ _ _ (loop .i) (omega arith) (loop .inv .1) (c .before .before .put-byte .ensures))
 
--- src/lib.rt:103:1
 same-length : tie.Need-same-length Inv-loop μ-loop
-same-length c = ?
+same-length c = c .before .loop .inv .1 .size
 
--- src/lib.rt:103:1
 returns : tie.Need-returns Inv-loop μ-loop
-returns c = ?
+returns c = put-bytes _ _ _ _ _ (c .before .loop .i) (c .before .loop .inv .0) (omega arith) (c .before .loop .inv .1)
 
 pub put-hexadecimal-spec : {M : Type 1} → statement M
 put-hexadecimal-spec =
