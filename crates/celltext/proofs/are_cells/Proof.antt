@@ -28,7 +28,7 @@ is-cell-requires : tie.Need-is-cell-requires Inv-loop μ-loop
 is-cell-requires c κs = search needs
 
 returns : tie.Need-returns Inv-loop μ-loop
-returns c = 
+returns c =
     let loop = c .before .before .before .before .loop in
     sym (all-false 200 (λ n. isCell (getD (c .before .before .before .before .before .before .args .line .now) n 0)) (loop .i) (omega arith) (sym (c .before .is-cell .ensures) ∙ not-true _ (c .if1 .taken)))
 
@@ -39,7 +39,7 @@ loop-less : tie.Need-loop-less Inv-loop μ-loop
 loop-less c = search needs
 
 loop-again : tie.Need-loop-again Inv-loop μ-loop
-loop-again c = 
+loop-again c =
     let loop = c .before .before .before .before .loop in
     let line = c .before .before .before .before .before .before .args .line .now in (
       search needs,

@@ -21,7 +21,7 @@ same-length : tie.Need-same-length
 same-length c = search needs
 
 returns : tie.Need-returns
-returns c = 
+returns c =
     let put = c .before .before .refuse .ensures in
     let no = sym (c .before .before .before .before .before .before .read-cells .ensures .judged) ∙ not-true _ (c .before .before .before .before .if1 .taken) in
     (counts _ _ (omega (arith, put .within, put .size, c .before .before .before .before .before .before .before .before .before .before .pre)), record { named = λ e. absurd (true≢false (sym e ∙ no)); unnamed = λ e. put .holds })
@@ -45,7 +45,7 @@ same-length-2 : tie.Need-same-length-2
 same-length-2 c = search needs
 
 returns-2 : tie.Need-returns-2
-returns-2 c = 
+returns-2 c =
     let put = c .before .before .put-found .ensures in
     let read = c .before .before .before .before .before .before .before .before .before .before .before .read-cells .ensures in
     let yes = not-false _ (c .before .before .before .before .before .before .before .before .before .if1 .left) in (

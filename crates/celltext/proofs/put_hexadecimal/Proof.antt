@@ -31,7 +31,7 @@ loop-less : tie.Need-loop-less Inv-loop μ-loop
 loop-less c = search needs
 
 loop-again : tie.Need-loop-again Inv-loop μ-loop
-loop-again c = 
+loop-again c =
     let loop = c .before .before .before .before .before .before .loop in
     (search needs, put-next _ _ _ (c .before .before .before .before .before .before .before .before .before .args .bytes .now) _ _ _ (loop .i) (omega arith) (loop .inv .1) (c .before .before .put-byte .ensures))
 

@@ -14,7 +14,7 @@ are-cells-requires : tie.Need-are-cells-requires
 are-cells-requires c κs = search needs
 
 returns-2 : tie.Need-returns-2
-returns-2 c = 
+returns-2 c =
     let cells = sym (c .before .are-cells .ensures) ∙ not-true _ (c .if2 .taken) in
     record { judged = not-cells _ (c .before .before .if1 .left) cells; cells = λ e. absurd (true≢false (sym e)); none = λ e. refl }
 
@@ -25,7 +25,7 @@ same-length : tie.Need-same-length
 same-length c = search needs
 
 returns-3 : tie.Need-returns-3
-returns-3 c = 
+returns-3 c =
     let cells = sym (c .before .before .before .before .before .are-cells .ensures) ∙ not-false _ (c .before .before .before .before .if2 .left) in
     record { judged = all-cells _ (c .before .before .before .before .before .before .if1 .left) cells; cells = λ e. c .before .before .write-cells .ensures; none = λ e. absurd (true≢false e) }
 

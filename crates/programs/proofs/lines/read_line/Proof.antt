@@ -1,75 +1,63 @@
+-- `read_line` meets its contract. The loop's invariant: the buffer holds n bytes. Assumes nothing.
+use mathlib.Core.Path.{_≡_, refl}
+use Prim.Native.Nat.{_≤_}
+use native.Mathlib.Omega.{arith}
+use lib.ListN.{length}
+use borrow.Author.Needs.{needs}
+use Rattle.io.proofs.Counting.{counts}
 use Rattle.programs.proofs.lines.read_line.Statement.{statement}
 use Rattle.programs.proofs.lines.read_line.Tie as tie
-use Rattle.programs.proofs.lines.read_line.Reads as reads
-use Rattle.programs.proofs.lines.read_line.Lts as lts
-use Rattle.io.proofs.read_full.Reads as read-full-reads
-use Rattle.programs.proofs.lines.keep.Reads as keep-reads
 
 abbrev Inv-loop : tie.InvT-loop
-Inv-loop text₀ n₀ came₀ turns₀ text n came turns = ?
+Inv-loop text₀ n₀ came₀ turns₀ text n came turns = (n ≤ length text) × (length text ≡ length text₀)
 
 abbrev μ-loop : tie.MeasureT-loop
-μ-loop text₀ n₀ came₀ turns₀ text n came turns = ?
+μ-loop text₀ n₀ came₀ turns₀ text n came turns = turns
 
--- src/lines.rt:33:5
 loop-holds : tie.Need-loop-holds Inv-loop μ-loop
-loop-holds c = ?
+loop-holds c = (omega arith, refl)
 
--- src/lines.rt:34:9
 sub-turns : tie.Need-sub-turns Inv-loop μ-loop
-sub-turns c = ?
+sub-turns c = search needs
 
--- src/lines.rt:36:40
 slice-aggregate-read-full : tie.Need-slice-aggregate-read-full Inv-loop μ-loop
-slice-aggregate-read-full c = ?
+slice-aggregate-read-full c = search needs
 
--- src/lines.rt:36:12
 read-full-requires : tie.Need-read-full-requires Inv-loop μ-loop
-read-full-requires c κs = ?
+read-full-requires c κs = search needs
 
--- src/lines.rt:37:13
 same-length : tie.Need-same-length Inv-loop μ-loop
-same-length c = ?
+same-length c = c .before .before .before .before .before .loop .inv .1
 
--- src/lines.rt:37:13
 returns : tie.Need-returns Inv-loop μ-loop
-returns c = ?
+returns c = counts _ _ (c .before .before .before .before .before .loop .inv .0)
 
--- src/lines.rt:40:12
 array-read-if2 : tie.Need-array-read-if2 Inv-loop μ-loop
-array-read-if2 c = ?
+array-read-if2 c = search needs
 
--- src/lines.rt:41:13
 same-length-2 : tie.Need-same-length-2 Inv-loop μ-loop
-same-length-2 c = ?
+same-length-2 c = c .before .before .before .before .before .before .loop .inv .1
 
--- src/lines.rt:41:13
 returns-2 : tie.Need-returns-2 Inv-loop μ-loop
-returns-2 c = ?
+returns-2 c = counts _ _ (c .before .before .before .before .before .before .loop .inv .0)
 
--- src/lines.rt:43:27
 array-read-keep : tie.Need-array-read-keep Inv-loop μ-loop
-array-read-keep c = ?
+array-read-keep c = search needs
 
--- src/lines.rt:43:9
 keep-requires : tie.Need-keep-requires Inv-loop μ-loop
-keep-requires c κs = ?
+keep-requires c κs = c .before .before .before .before .before .before .before .loop .inv .0
 
--- src/lines.rt:33:5
 loop-less : tie.Need-loop-less Inv-loop μ-loop
-loop-less c = ?
+loop-less c = omega arith
 
--- src/lines.rt:33:5
 loop-again : tie.Need-loop-again Inv-loop μ-loop
-loop-again c = ?
+loop-again c = (c .before .before .keep .ensures, search needs)
 
--- src/lines.rt:27:1
 same-length-3 : tie.Need-same-length-3 Inv-loop μ-loop
-same-length-3 c = ?
+same-length-3 c = c .before .loop .inv .1
 
--- src/lines.rt:27:1
 returns-3 : tie.Need-returns-3 Inv-loop μ-loop
-returns-3 c = ?
+returns-3 c = counts _ _ (c .before .loop .inv .0)
 
 pub read-line-spec : {M : Type 1} → statement M
 read-line-spec =
