@@ -8,7 +8,7 @@ use lib.ListN.{getD}
 use borrow.Author.Tests.{le-ltb}
 use Rattle.trellis.specs.Cells.{differs, apart}
 
-differs-unread : (c b : ℕ) → 2 ≤ c → differs c b ≡ 0
+pub differs-unread : (c b : ℕ) → 2 ≤ c → differs c b ≡ 0
 unfolding differs
 differs-unread c b h = rw (le-ltb c 2 h)
 
