@@ -27,6 +27,8 @@
  *   6  the PIDS cells are no coded frame                                        the lowest such frame
  *   7  a cell that can show only the zero fill is 1                             the lowest such cell, through PX1, then PX2
  *   8  a P3 or P4 frame of the L1 frame two earlier is no coded frame           0 to 7 for P3, 8 to 15 for P4, the lowest
+ * and of document 02's:
+ *  10  the shares add up to more than 16                                        0
  */
 #ifndef LAYER1_H
 #define LAYER1_H
@@ -95,10 +97,24 @@ uint64_t layer1_lookup(const uint8_t *block, size_t block_len);
 uint64_t layer1_pm_row(size_t row, const uint8_t *pm, size_t pm_len);
 uint64_t layer1_px_row(uint8_t channel, size_t row, const uint8_t *px1, size_t px1_len, const uint8_t *px2, size_t px2_len);
 
+/* Shares the sixteen PIDS places of an L1 frame among eight sources (document 02, S-4). The shares, and the counts of messages waiting, are
+ * words of eight bytes as layer1_eight makes them. Writes to each of the sixteen bytes of places the number of its source, or
+ * LAYER1_ZEROS for a frame of zeros. Returns an answer word. */
+#define LAYER1_ZEROS 255
+uint64_t layer1_share_places(uint64_t shares, uint64_t waiting, uint8_t *places, size_t places_len);
+
+/* The word of eight numbers: source 0's weighs least. */
+static inline uint64_t layer1_eight(const uint8_t numbers[8]) {
+    uint64_t word = 0;
+    for (int source = 8; source-- > 0;)
+        word = word << 8 | numbers[source];
+    return word;
+}
+
 /* Every word but a row's. */
 static inline unsigned layer1_number(uint64_t word) { return word & 0xff; }
 
-/* An outcome word. */
+/* An outcome word; of an answer word, the place alone. */
 static inline uint8_t layer1_mode(uint64_t word) { return (uint8_t)(word >> 8); }
 static inline uint8_t layer1_half(uint64_t word) { return (uint8_t)(word >> 16); }
 static inline uint8_t layer1_age(uint64_t word) { return (uint8_t)(word >> 24); }

@@ -9,6 +9,7 @@ pub mod draw;
 pub mod interleaving;
 pub mod modes;
 pub mod packing;
+pub mod places;
 pub mod run;
 pub mod scrambling;
 pub mod sheet;

@@ -100,6 +100,13 @@ pub struct LookedUp {
     pub count: u8,
 }
 
+/// What a call returns that has no state: number and place of the table of causes.
+#[derive(Clone, Copy, Debug, PartialEq, Eq)]
+pub struct Answer {
+    pub number: u8,
+    pub place: u32,
+}
+
 /// The eight bits of a word from this one on.
 fn byte(word: u64, bit: u32) -> u8 {
     (word >> bit) as u8
@@ -115,6 +122,19 @@ fn outcome(word: u64) -> Outcome {
             half: byte(word, 16),
             age: byte(word, 24),
         },
+    }
+}
+
+/// Document 02, S-4: shares the sixteen PIDS places of an L1 frame among eight sources. Each place is the number of its source, or 255 for a
+/// frame of zeros.
+pub fn share_places(shares: [u8; 8], waiting: [u8; 8], places: &mut [u8]) -> Answer {
+    let (shares, waiting) = (u64::from_le_bytes(shares), u64::from_le_bytes(waiting));
+    // SAFETY: as in `start`.
+    let word =
+        unsafe { raw::layer1_share_places(shares, waiting, places.as_mut_ptr(), places.len()) };
+    Answer {
+        number: byte(word, 0),
+        place: (word >> 32) as u32,
     }
 }
 

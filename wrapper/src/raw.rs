@@ -1,6 +1,12 @@
 //! The functions of `include/layer1.h`.
 
 extern "C" {
+    pub fn layer1_share_places(
+        shares: u64,
+        waiting: u64,
+        places: *mut u8,
+        places_len: usize,
+    ) -> u64;
     pub fn layer1_start_sender(
         mode: u8,
         memory3: *mut u8,

@@ -16,6 +16,7 @@ pub fn number(answer: Answer) -> u8
         Answer::PidsNotCoded(_) => 6,
         Answer::FillNotZero(_) => 7,
         Answer::ExtendedNotCoded(_) => 8,
+        Answer::SharesTooMany => 10,
     }
 }
 
@@ -32,5 +33,6 @@ pub fn place(answer: Answer) -> usize
         Answer::PidsNotCoded(frame) => frame,
         Answer::FillNotZero(cell) => cell,
         Answer::ExtendedNotCoded(frame) => frame,
+        Answer::SharesTooMany => 0,
     }
 }

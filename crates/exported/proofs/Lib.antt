@@ -3,3 +3,4 @@ mod Outcomes
 mod Findings
 mod Fields
 mod Parts
+mod Shared

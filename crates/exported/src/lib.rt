@@ -4,6 +4,7 @@ mod questions;
 mod reads;
 mod rows;
 mod sends;
+mod sharing;
 mod starts;
 mod words;
 
@@ -16,5 +17,6 @@ pub use reads::layer1_read;
 pub use rows::layer1_pm_row;
 pub use rows::layer1_px_row;
 pub use sends::layer1_send;
+pub use sharing::layer1_share_places;
 pub use starts::layer1_start_reader;
 pub use starts::layer1_start_sender;

@@ -1,4 +1,5 @@
-// The entry points: document 01's operations. Every function is total, and its contract is one equation.
+// The entry points: the operations of documents 01 and 02. Every function is total, and its contract is one equation.
+pub use allocation::share_places;
 pub use calls::Outcome;
 pub use calls::number;
 pub use calls::place;

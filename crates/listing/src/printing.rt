@@ -25,7 +25,7 @@ pub fn put(out: &mut [u8], at: usize, text: &[u8]) -> usize
 }
 
 // Puts a number in decimal, and the byte that ends it.
-fn field(out: &mut [u8], at: usize, n: u64, end: u8) -> usize
+pub fn field(out: &mut [u8], at: usize, n: u64, end: u8) -> usize
     requires { ⌜ at + 21 ≤ length (now out) ⌝ }
     ensures { λ r. ⌜ Put (now (out .entry)) (now (out .exit)) at r 21 (decimal n ++ (end ∷ [])) ⌝ }
 {

@@ -31,4 +31,6 @@ pub enum Answer {
     PidsNotCoded(usize),
     FillNotZero(usize),
     ExtendedNotCoded(usize),
+    // document 02, S-4
+    SharesTooMany,
 }
