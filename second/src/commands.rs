@@ -6,6 +6,7 @@ use crate::coding::Rate;
 use crate::control::control;
 use crate::draw::{cell_list, Damage, Draw};
 use crate::modes::{Mode, P1_BITS, PIDS_BITS};
+use crate::nearest;
 use crate::packing::{pack, unpack};
 use crate::places::{self, INPUT_BYTES};
 use crate::run::{
@@ -407,4 +408,12 @@ pub fn draw_vectors(seed: u64, output: &mut impl Write) -> Result<(), Stop> {
         output.write_all(&draw.bytes(length))?;
     }
     Ok(())
+}
+
+/// Document 02, S-12: the nearest frame for each line of cells.
+pub fn nearest(budget: u64, input: &mut impl BufRead, output: &mut impl Write) -> Result<(), Stop> {
+    match nearest::lines(budget, input, output)? {
+        true => Ok(()),
+        false => Err(refused(16, 0, 0)),
+    }
 }

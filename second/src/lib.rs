@@ -8,6 +8,7 @@ pub mod control;
 pub mod draw;
 pub mod interleaving;
 pub mod modes;
+pub mod nearest;
 pub mod packing;
 pub mod places;
 pub mod run;

@@ -5,10 +5,10 @@ use std::io::{self, BufWriter, Write};
 use std::process::ExitCode;
 
 use second::commands::{self, Stop};
-use second::{cells, places, run::Refusal};
+use second::{cells, nearest, places, run::Refusal};
 
 /// The commands with their operands.
-const COMMANDS: [(&str, &str); 17] = [
+const COMMANDS: [(&str, &str); 19] = [
     ("draw", "SEED MODE COUNT"),
     ("send", "MODE COUNT"),
     ("sheet", "MODE COUNT"),
@@ -26,6 +26,8 @@ const COMMANDS: [(&str, &str); 17] = [
     ("allocate", ""),
     ("corner-shares", ""),
     ("draw-shares", "SEED"),
+    ("nearest", "BUDGET"),
+    ("draw-copied", "SEED COUNT"),
 ];
 
 /// No section: runs one command; 0 if it did its work, 1 if refused or different, 2 otherwise.
@@ -105,6 +107,8 @@ fn dispatch(
         ("allocate", _) => commands::allocate(&mut input, output),
         ("corner-shares", _) => Ok(places::corner_lines(output)?),
         ("draw-shares", &[seed]) => Ok(places::draw_lines(seed, output)?),
+        ("nearest", &[budget]) => commands::nearest(budget, &mut input, output),
+        ("draw-copied", &[seed, count]) => Ok(nearest::drawn_lines(seed, count, output)?),
         _ => Err(Stop::Trouble(io::Error::other("no such command"))),
     }
 }

@@ -107,6 +107,15 @@ pub struct Answer {
     pub place: u32,
 }
 
+/// Document 02, S-12: what a search for the nearest frame tells; distance and margin 0 when refused.
+#[derive(Clone, Copy, Debug, PartialEq, Eq)]
+pub struct Nearest {
+    pub number: u8,
+    pub place: u32,
+    pub distance: u8,
+    pub margin: u8,
+}
+
 /// The eight bits of a word from this one on.
 fn byte(word: u64, bit: u32) -> u8 {
     (word >> bit) as u8
@@ -278,6 +287,26 @@ pub fn lookup(block: &[u8]) -> LookedUp {
         place: (word >> 32) as u32,
         mode: byte(word, 8),
         count: byte(word, 16),
+    }
+}
+
+/// Leaves the PIDS frame that is nearest to its 200 cells in the buffer, among those of the first `budget` register starts.
+pub fn nearest(cells: &[u8], frame: &mut [u8], budget: usize) -> Nearest {
+    // SAFETY: as in `start`.
+    let word = unsafe {
+        raw::layer1_nearest(
+            cells.as_ptr(),
+            cells.len(),
+            frame.as_mut_ptr(),
+            frame.len(),
+            budget,
+        )
+    };
+    Nearest {
+        number: byte(word, 0),
+        place: (word >> 32) as u32,
+        distance: byte(word, 8),
+        margin: byte(word, 16),
     }
 }
 

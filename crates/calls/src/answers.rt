@@ -17,6 +17,7 @@ pub fn number(answer: Answer) -> u8
         Answer::FillNotZero(_) => 7,
         Answer::ExtendedNotCoded(_) => 8,
         Answer::SharesTooMany => 10,
+        Answer::WrongBudget => 16,
     }
 }
 
@@ -34,5 +35,6 @@ pub fn place(answer: Answer) -> usize
         Answer::FillNotZero(cell) => cell,
         Answer::ExtendedNotCoded(frame) => frame,
         Answer::SharesTooMany => 0,
+        Answer::WrongBudget => 0,
     }
 }

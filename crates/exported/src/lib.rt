@@ -1,4 +1,5 @@
 // The entry points of `layer1` for C: numbers and byte slices alone cross, a state as its three numbers, and what a call returns beside its buffers is a word of fields (specs/Words.antt). `include/layer1.h` declares them.
+mod decoded;
 mod lengths;
 mod questions;
 mod reads;
@@ -8,6 +9,7 @@ mod sharing;
 mod starts;
 mod words;
 
+pub use decoded::layer1_nearest;
 pub use lengths::layer1_reader_length;
 pub use lengths::layer1_sender_length;
 pub use questions::layer1_find;

@@ -9,3 +9,4 @@ pub use blocks::list;
 pub use blocks::start;
 pub use printing::field;
 pub use printing::put;
+pub use printing::refuse;

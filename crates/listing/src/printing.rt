@@ -64,7 +64,7 @@ fn cell(
 }
 
 // Puts a refused line.
-fn refuse(out: &mut [u8], at: usize, number: u64) -> usize
+pub fn refuse(out: &mut [u8], at: usize, number: u64) -> usize
     requires { ⌜ at + 92 ≤ length (now out) ⌝ }
     ensures { λ r. ⌜ Put (now (out .entry)) (now (out .exit)) at r 92 (refused number) ⌝ }
 {

@@ -33,4 +33,6 @@ pub enum Answer {
     ExtendedNotCoded(usize),
     // document 02, S-4
     SharesTooMany,
+    // document 02, S-12
+    WrongBudget,
 }
