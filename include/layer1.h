@@ -27,6 +27,9 @@
  *   6  the PIDS cells are no coded frame                                        the lowest such frame
  *   7  a cell that can show only the zero fill is 1                             the lowest such cell, through PX1, then PX2
  *   8  a P3 or P4 frame of the L1 frame two earlier is no coded frame           0 to 7 for P3, 8 to 15 for P4, the lowest
+ * and of document 02's:
+ *  10  the shares add up to more than 16                                        0
+ *  16  the budget of a search is 0 or above 64                                  0
  */
 #ifndef LAYER1_H
 #define LAYER1_H
@@ -95,10 +98,28 @@ uint64_t layer1_lookup(const uint8_t *block, size_t block_len);
 uint64_t layer1_pm_row(size_t row, const uint8_t *pm, size_t pm_len);
 uint64_t layer1_px_row(uint8_t channel, size_t row, const uint8_t *px1, size_t px1_len, const uint8_t *px2, size_t px2_len);
 
+/* Shares the sixteen PIDS places of an L1 frame among eight sources (document 02, S-4). The shares, and the counts of messages waiting, are
+ * words of eight bytes as layer1_eight makes them. Writes to each of the sixteen bytes of places the number of its source, or
+ * LAYER1_ZEROS for a frame of zeros. Returns an answer word. */
+#define LAYER1_ZEROS 255
+uint64_t layer1_share_places(uint64_t shares, uint64_t waiting, uint8_t *places, size_t places_len);
+
+/* The word of eight numbers: source 0's weighs least. */
+static inline uint64_t layer1_eight(const uint8_t numbers[8]) {
+    uint64_t word = 0;
+    for (int source = 8; source-- > 0;)
+        word = word << 8 | numbers[source];
+    return word;
+}
+
+/* The PIDS frame that is nearest to its 200 cells in coded order, a byte each: 0, 1, anything else where a cell could not be read. Written to
+ * the 10 bytes of the frame. The budget, 1 to 64, says how many register starts are tried. Returns a nearest word. */
+uint64_t layer1_nearest(const uint8_t *cells, size_t cells_len, uint8_t *frame, size_t frame_len, size_t budget);
+
 /* Every word but a row's. */
 static inline unsigned layer1_number(uint64_t word) { return word & 0xff; }
 
-/* An outcome word. */
+/* An outcome word; of an answer word, the place alone. */
 static inline uint8_t layer1_mode(uint64_t word) { return (uint8_t)(word >> 8); }
 static inline uint8_t layer1_half(uint64_t word) { return (uint8_t)(word >> 16); }
 static inline uint8_t layer1_age(uint64_t word) { return (uint8_t)(word >> 24); }
@@ -117,6 +138,11 @@ static inline uint32_t layer1_found_bit(uint64_t word) { return (uint32_t)(word 
 static inline uint8_t layer1_looked_up_mode(uint64_t word) { return (uint8_t)(word >> 8); }
 static inline uint8_t layer1_looked_up_count(uint64_t word) { return (uint8_t)(word >> 16); }
 static inline uint32_t layer1_looked_up_place(uint64_t word) { return (uint32_t)(word >> 32); }
+
+/* A nearest word: the number of read cells that differ from the frame's, and by how much at most a frame of another start is nearer. */
+static inline unsigned layer1_nearest_distance(uint64_t word) { return word >> 8 & 0xff; }
+static inline unsigned layer1_nearest_margin(uint64_t word) { return word >> 16 & 0xff; }
+static inline uint32_t layer1_nearest_place(uint64_t word) { return (uint32_t)(word >> 32); }
 
 /* A row word: where the row starts in its matrix, and how many bytes it has. */
 static inline size_t layer1_row_start(uint64_t word) { return word & 0xffffffff; }

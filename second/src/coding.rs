@@ -15,7 +15,7 @@ pub enum Rate {
 
 impl Rate {
     /// Table 9-1: the generators that the puncture matrix keeps for input bit i.
-    fn kept(self, i: usize) -> &'static [usize] {
+    pub(crate) fn kept(self, i: usize) -> &'static [usize] {
         match (self, i % 2) {
             (Rate::TwoFifths, 0) => &[0, 1, 2],
             (Rate::TwoFifths, _) => &[0, 1],
@@ -25,7 +25,7 @@ impl Rate {
 }
 
 /// Section 9.3.1: the output of one generator; bit 6 of the window is the newest bit.
-fn output(generator: usize, window: u8) -> bool {
+pub(crate) fn output(generator: usize, window: u8) -> bool {
     (GENERATORS[generator] & window).count_ones() % 2 == 1
 }
 

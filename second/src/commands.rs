@@ -6,7 +6,9 @@ use crate::coding::Rate;
 use crate::control::control;
 use crate::draw::{cell_list, Damage, Draw};
 use crate::modes::{Mode, P1_BITS, PIDS_BITS};
+use crate::nearest;
 use crate::packing::{pack, unpack};
+use crate::places::{self, INPUT_BYTES};
 use crate::run::{
     self, code_frames, decode_frames, Answer, Reading, Refusal, Sending, Side, State,
 };
@@ -18,6 +20,7 @@ use crate::sheet::{take_list, Sheet, GREATEST_COUNT, LIST_BYTES};
 pub enum Stop {
     Refused { refusal: Refusal, frame: u64 },
     NoList,
+    TooLong,
     Different(String),
     Trouble(io::Error),
 }
@@ -43,6 +46,20 @@ pub fn refusal_line(number: u32, place: usize, frame: u64) -> String {
 /// House matter: what is said of an input that does not begin with a cell list.
 pub fn no_list_line() -> String {
     format!("refused: the cell list has no empty line in its first {LIST_BYTES} bytes")
+}
+
+/// House matter: what is said of an input that is longer than the program takes.
+pub fn too_long_line() -> String {
+    format!("refused: the input has more than {INPUT_BYTES} bytes")
+}
+
+/// Document 02, S-4: the lines of shares and counts, and their places.
+pub fn allocate(input: &mut impl Read, output: &mut impl Write) -> Result<(), Stop> {
+    let text = take(input, INPUT_BYTES + 1)?;
+    if text.len() > INPUT_BYTES {
+        return Err(Stop::TooLong);
+    }
+    Ok(places::list(&text, output)?)
 }
 
 /// Document 01, refusal 1: the covered mode of a number.
@@ -391,4 +408,12 @@ pub fn draw_vectors(seed: u64, output: &mut impl Write) -> Result<(), Stop> {
         output.write_all(&draw.bytes(length))?;
     }
     Ok(())
+}
+
+/// Document 02, S-12: the nearest frame for each line of cells.
+pub fn nearest(budget: u64, input: &mut impl BufRead, output: &mut impl Write) -> Result<(), Stop> {
+    match nearest::lines(budget, input, output)? {
+        true => Ok(()),
+        false => Err(refused(16, 0, 0)),
+    }
 }

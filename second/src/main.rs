@@ -5,10 +5,10 @@ use std::io::{self, BufWriter, Write};
 use std::process::ExitCode;
 
 use second::commands::{self, Stop};
-use second::{cells, run::Refusal};
+use second::{cells, nearest, places, run::Refusal};
 
 /// The commands with their operands.
-const COMMANDS: [(&str, &str); 14] = [
+const COMMANDS: [(&str, &str); 19] = [
     ("draw", "SEED MODE COUNT"),
     ("send", "MODE COUNT"),
     ("sheet", "MODE COUNT"),
@@ -23,6 +23,11 @@ const COMMANDS: [(&str, &str); 14] = [
     ("compare", "MODE COUNT FILE_A FILE_B"),
     ("vectors", ""),
     ("draw-vectors", "SEED"),
+    ("allocate", ""),
+    ("corner-shares", ""),
+    ("draw-shares", "SEED"),
+    ("nearest", "BUDGET"),
+    ("draw-copied", "SEED COUNT"),
 ];
 
 /// No section: runs one command; 0 if it did its work, 1 if refused or different, 2 otherwise.
@@ -99,6 +104,11 @@ fn dispatch(
         }
         ("vectors", _) => commands::vectors(&mut input, output),
         ("draw-vectors", &[seed]) => commands::draw_vectors(seed, output),
+        ("allocate", _) => commands::allocate(&mut input, output),
+        ("corner-shares", _) => Ok(places::corner_lines(output)?),
+        ("draw-shares", &[seed]) => Ok(places::draw_lines(seed, output)?),
+        ("nearest", &[budget]) => commands::nearest(budget, &mut input, output),
+        ("draw-copied", &[seed, count]) => Ok(nearest::drawn_lines(seed, count, output)?),
         _ => Err(Stop::Trouble(io::Error::other("no such command"))),
     }
 }
@@ -114,6 +124,10 @@ fn ended(done: Result<(), Stop>) -> ExitCode {
         }
         Err(Stop::NoList) => {
             eprintln!("{}", commands::no_list_line());
+            ExitCode::from(1)
+        }
+        Err(Stop::TooLong) => {
+            eprintln!("{}", commands::too_long_line());
             ExitCode::from(1)
         }
         Err(Stop::Different(difference)) => {

@@ -100,6 +100,22 @@ pub struct LookedUp {
     pub count: u8,
 }
 
+/// What a call returns that has no state: number and place of the table of causes.
+#[derive(Clone, Copy, Debug, PartialEq, Eq)]
+pub struct Answer {
+    pub number: u8,
+    pub place: u32,
+}
+
+/// Document 02, S-12: what a search for the nearest frame tells; distance and margin 0 when refused.
+#[derive(Clone, Copy, Debug, PartialEq, Eq)]
+pub struct Nearest {
+    pub number: u8,
+    pub place: u32,
+    pub distance: u8,
+    pub margin: u8,
+}
+
 /// The eight bits of a word from this one on.
 fn byte(word: u64, bit: u32) -> u8 {
     (word >> bit) as u8
@@ -115,6 +131,19 @@ fn outcome(word: u64) -> Outcome {
             half: byte(word, 16),
             age: byte(word, 24),
         },
+    }
+}
+
+/// Document 02, S-4: shares the sixteen PIDS places of an L1 frame among eight sources. Each place is the number of its source, or 255 for a
+/// frame of zeros.
+pub fn share_places(shares: [u8; 8], waiting: [u8; 8], places: &mut [u8]) -> Answer {
+    let (shares, waiting) = (u64::from_le_bytes(shares), u64::from_le_bytes(waiting));
+    // SAFETY: as in `start`.
+    let word =
+        unsafe { raw::layer1_share_places(shares, waiting, places.as_mut_ptr(), places.len()) };
+    Answer {
+        number: byte(word, 0),
+        place: (word >> 32) as u32,
     }
 }
 
@@ -258,6 +287,26 @@ pub fn lookup(block: &[u8]) -> LookedUp {
         place: (word >> 32) as u32,
         mode: byte(word, 8),
         count: byte(word, 16),
+    }
+}
+
+/// Leaves the PIDS frame that is nearest to its 200 cells in the buffer, among those of the first `budget` register starts.
+pub fn nearest(cells: &[u8], frame: &mut [u8], budget: usize) -> Nearest {
+    // SAFETY: as in `start`.
+    let word = unsafe {
+        raw::layer1_nearest(
+            cells.as_ptr(),
+            cells.len(),
+            frame.as_mut_ptr(),
+            frame.len(),
+            budget,
+        )
+    };
+    Nearest {
+        number: byte(word, 0),
+        place: (word >> 32) as u32,
+        distance: byte(word, 8),
+        margin: byte(word, 16),
     }
 }
 

@@ -1,6 +1,12 @@
 //! The functions of `include/layer1.h`.
 
 extern "C" {
+    pub fn layer1_share_places(
+        shares: u64,
+        waiting: u64,
+        places: *mut u8,
+        places_len: usize,
+    ) -> u64;
     pub fn layer1_start_sender(
         mode: u8,
         memory3: *mut u8,
@@ -78,6 +84,13 @@ extern "C" {
         column: usize,
     ) -> u64;
     pub fn layer1_lookup(block: *const u8, block_len: usize) -> u64;
+    pub fn layer1_nearest(
+        cells: *const u8,
+        cells_len: usize,
+        frame: *mut u8,
+        frame_len: usize,
+        budget: usize,
+    ) -> u64;
     pub fn layer1_pm_row(row: usize, pm: *const u8, pm_len: usize) -> u64;
     pub fn layer1_px_row(
         channel: u8,

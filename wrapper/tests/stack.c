@@ -40,6 +40,11 @@ static void find(void)
     layer1_lookup(buffer[LAYER1_CONTROL], 256);
 }
 
+static void nearest(void)
+{
+    layer1_nearest(buffer[LAYER1_P1], 200, buffer[LAYER1_PIDS], 10, 63);
+}
+
 /* The bytes of the painted stack that a call has touched. */
 static size_t taken(void (*call)(void))
 {
@@ -84,5 +89,6 @@ int main(void)
         }
     }
     printf("%zu %zu\n", sending, reading);
-    return sending > LAYER1_SEND_STACK || reading > LAYER1_READ_STACK || taken(find) > LAYER1_SEND_STACK;
+    return sending > LAYER1_SEND_STACK || reading > LAYER1_READ_STACK || taken(find) > LAYER1_SEND_STACK
+        || taken(nearest) > LAYER1_SEND_STACK;
 }

@@ -8,3 +8,4 @@ pub mod Parts
 pub mod Words
 pub mod Stores
 pub mod Replaced
+pub mod Listed

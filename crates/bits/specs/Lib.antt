@@ -1,3 +1,4 @@
 pub mod Bits
 pub mod Tests
 pub mod Once
+pub mod Listed

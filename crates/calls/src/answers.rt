@@ -16,6 +16,8 @@ pub fn number(answer: Answer) -> u8
         Answer::PidsNotCoded(_) => 6,
         Answer::FillNotZero(_) => 7,
         Answer::ExtendedNotCoded(_) => 8,
+        Answer::SharesTooMany => 10,
+        Answer::WrongBudget => 16,
     }
 }
 
@@ -32,5 +34,7 @@ pub fn place(answer: Answer) -> usize
         Answer::PidsNotCoded(frame) => frame,
         Answer::FillNotZero(cell) => cell,
         Answer::ExtendedNotCoded(frame) => frame,
+        Answer::SharesTooMany => 0,
+        Answer::WrongBudget => 0,
     }
 }

@@ -3,7 +3,7 @@ use Prim.Native.Nat.{ℕ, _^_, _/_, _%_, _<_}
 use mathlib.Core.Path.{_≡_}
 use native.Mathlib.Omega.{arith}
 use Rattle.runs.specs.declared.Answer.{Answer}
-use Rattle.runs.specs.declared.Answer.the-variants.{Success, ModeNotCovered, StateNotValid, WrongLength, WrongControl, P1NotCoded, PidsNotCoded, FillNotZero, ExtendedNotCoded}
+use Rattle.runs.specs.declared.Answer.the-variants.{Success, ModeNotCovered, StateNotValid, WrongLength, WrongControl, P1NotCoded, PidsNotCoded, FillNotZero, ExtendedNotCoded, SharesTooMany, WrongBudget}
 use Rattle.runs.specs.declared.State.{State}
 use Rattle.runs.specs.Answers.{numberOf, placeOf}
 use Rattle.queries.specs.Finder.{Channel, none, p1, pids}
@@ -11,7 +11,7 @@ use Rattle.queries.specs.Finder as Finder
 use Rattle.queries.specs.FinderPX.{Content, none as nothing, coded, fill}
 use Rattle.queries.specs.FinderPX as FinderPX
 use Rattle.queries.specs.Lookup as Lookup
-use Rattle.exported.specs.Words.{channelNumber, contentNumber, outcomeWord, foundWord, foundPxWord, lookedUpWord}
+use Rattle.exported.specs.Words.{answerWord, channelNumber, contentNumber, outcomeWord, foundWord, foundPxWord, lookedUpWord}
 use Rattle.exported.proofs.Findings.{Small, SmallPX}
 
 pub number-lt : (a : Answer) → numberOf a < 2 ^ 8
@@ -24,6 +24,8 @@ number-lt P1NotCoded = omega arith
 number-lt (PidsNotCoded k) = omega arith
 number-lt (FillNotZero k) = omega arith
 number-lt (ExtendedNotCoded k) = omega arith
+number-lt SharesTooMany = omega arith
+number-lt WrongBudget = omega arith
 
 -- the byte of a word at a power of two
 abbrev pub byte : ℕ → ℕ → ℕ
@@ -81,3 +83,7 @@ pub looked-up-fields : (v : Lookup.Values) → v .number < 2 ^ 8 → v .mode < 2
     × (lookedUpWord v / 2 ^ 32 ≡ v .place)
 unfolding lookedUpWord
 looked-up-fields v n m c = (omega arith, omega arith, omega arith, omega arith)
+
+pub answer-fields : (a : Answer) → (answerWord a % 2 ^ 8 ≡ numberOf a) × (answerWord a / 2 ^ 32 ≡ placeOf a)
+unfolding answerWord
+answer-fields a = let n = number-lt a in (omega arith, omega arith)

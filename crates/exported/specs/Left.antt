@@ -1,9 +1,11 @@
 -- What a call of the C library leaves: its word, and the memory and the buffers, beside what the definitions of runs say.
 use Prim.Native.Nat.{ℕ}
+use mathlib.Core.List.{List}
+use Rattle.allocation.specs.Allocation.{Outcome}
 use Rattle.runs.specs.declared.State.{State}
 use Rattle.runs.specs.Lent.{Lent, Memory, Result}
 use Rattle.runs.specs.Starting.{Started}
-use Rattle.exported.specs.Words.{outcomeWord}
+use Rattle.exported.specs.Words.{answerWord, outcomeWord}
 
 -- a state crosses as its three numbers
 abbrev pub stateOf : (mode half age : ℕ) → State
@@ -31,3 +33,14 @@ left word memory lent = record { word = word; memory = memory; lent = lent }
 
 abbrev pub leftBy : Result → Left
 leftBy g = left (outcomeWord (g .answer) (g .state)) (g .memory) (g .lent)
+
+-- by sharing places
+pub record PlacesLeft : Type 0 where
+  pub word : ℕ
+  pub places : List ℕ
+
+abbrev pub placesLeft : ℕ → List ℕ → PlacesLeft
+placesLeft word places = record { word = word; places = places }
+
+abbrev pub placesLeftBy : Outcome → PlacesLeft
+placesLeftBy g = placesLeft (answerWord (g .answer)) (g .places)

@@ -4,6 +4,7 @@ use mathlib.Core.Bool.{cond}
 use mathlib.Core.List.{List}
 use lib.Dec.{eqb}
 use lib.ListN.{length, take, drop}
+use Rattle.bits.specs.Listed.{listed}
 use Rattle.runs.specs.declared.Answer.{Answer}
 use Rattle.runs.specs.declared.State.{State}
 use Rattle.runs.specs.Answers.{numberOf, placeOf}
@@ -52,3 +53,11 @@ partAt word matrix = take (word / 2 ^ 32) (drop (word % 2 ^ 32) matrix)
 -- it is a part of PX2 for channel 4, and else of PX1
 abbrev pub chosen : ℕ → List ℕ → List ℕ → List ℕ
 chosen channel px1 px2 = cond (eqb channel 4) px2 px1
+
+-- an answer alone
+unfoldable pub answerWord : Answer → ℕ
+answerWord a = numberOf a + 2 ^ 32 * placeOf a
+
+-- eight numbers of a byte cross as one word: number d weighs 2 ^ (8 * d)
+unfoldable pub eightOf : ℕ → List ℕ
+eightOf word = listed 8 (λ d. word / 2 ^ (8 * d) % 2 ^ 8)

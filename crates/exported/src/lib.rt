@@ -1,12 +1,15 @@
 // The entry points of `layer1` for C: numbers and byte slices alone cross, a state as its three numbers, and what a call returns beside its buffers is a word of fields (specs/Words.antt). `include/layer1.h` declares them.
+mod decoded;
 mod lengths;
 mod questions;
 mod reads;
 mod rows;
 mod sends;
+mod sharing;
 mod starts;
 mod words;
 
+pub use decoded::layer1_nearest;
 pub use lengths::layer1_reader_length;
 pub use lengths::layer1_sender_length;
 pub use questions::layer1_find;
@@ -16,5 +19,6 @@ pub use reads::layer1_read;
 pub use rows::layer1_pm_row;
 pub use rows::layer1_px_row;
 pub use sends::layer1_send;
+pub use sharing::layer1_share_places;
 pub use starts::layer1_start_reader;
 pub use starts::layer1_start_sender;

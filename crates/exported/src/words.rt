@@ -1,4 +1,5 @@
 // The words that the entry points return. Every place, frame and bit is small enough for its field, by the definitions.
+use layer1::Answer;
 use layer1::Found;
 use layer1::FoundPx;
 use layer1::LookedUp;
@@ -12,7 +13,7 @@ ghost use Rattle.runs.specs.Answers.{placeOf};
 ghost use Rattle.queries.specs.Finder.{values};
 ghost use Rattle.queries.specs.FinderPX.{values as valuesPX};
 ghost use Rattle.queries.specs.Lookup.{values as valuesOfBlock};
-ghost use Rattle.exported.specs.Words.{foundPxWord, foundWord, lookedUpWord, outcomeWord, rowWord};
+ghost use Rattle.exported.specs.Words.{answerWord, eightOf, foundPxWord, foundWord, lookedUpWord, outcomeWord, rowWord};
 
 // The word of a start, a sending or a reading.
 pub fn outcome_word(outcome: Outcome) -> u64
@@ -83,4 +84,25 @@ pub fn row_word(n: usize, row: usize, part: &[u8]) -> u64
         return 0;
     }
     (row * n) as u64 + 4294967296 * (part.len() as u64)
+}
+
+// The word of an answer alone.
+pub fn answer_word(answer: Answer) -> u64
+    requires { ⌜ placeOf answer < 2 ^ 32 ⌝ }
+    ensures { λ r. ⌜ r ≡ answerWord answer ⌝ }
+{
+    number(answer) as u64 + 4294967296 * (place(answer) as u64)
+}
+
+// The eight numbers that cross in a word.
+pub fn eight(word: u64) -> [u8; 8]
+    ensures { λ r. ⌜ r ≡ eightOf word ⌝ }
+{
+    let mut numbers = [0u8; 8];
+    let mut d: usize = 0;
+    while d < 8 {
+        numbers[d] = ((word >> (8 * d)) % 256) as u8;
+        d += 1;
+    }
+    numbers
 }

@@ -3,6 +3,7 @@ pub mod Matrix
 pub mod Written
 pub mod Permutation
 pub mod Block
+pub mod TableI
 pub mod Spot
 pub mod Fills
 pub mod FillsI

@@ -1,4 +1,5 @@
-// The entry points: document 01's operations. Every function is total, and its contract is one equation.
+// The entry points: the operations of documents 01 and 02. Every function is total, and its contract is one equation, or a relation that holds of one outcome.
+pub use allocation::share_places;
 pub use calls::Outcome;
 pub use calls::number;
 pub use calls::place;
@@ -6,6 +7,8 @@ pub use calls::reader_lengths;
 pub use calls::sender_lengths;
 pub use calls::start_reader;
 pub use calls::start_sender;
+pub use decoding::Decoded;
+pub use decoding::nearest;
 pub use queries::Found;
 pub use queries::FoundPx;
 pub use queries::LookedUp;

@@ -2,6 +2,6 @@ mod Spelling
 mod Pushed
 mod Cuts
 mod Meaning
-mod Stored
+pub mod Stored
 mod Going
 mod Examples

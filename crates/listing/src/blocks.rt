@@ -9,6 +9,7 @@ ghost use mathlib.Core.Path.{_≡_};
 ghost use Prim.Native.Nat.{ℕ, _+_, _*_, _^_, _≤_, _<_};
 ghost use mathlib.Core.List.{List, [], _∷_, _++_};
 ghost use lib.ListN.{length, take};
+ghost use Rattle.interleaving.specs.TableI.{ks};
 ghost use Rattle.io.specs.Counts.{Counts};
 ghost use Rattle.listing.specs.Printed.{output};
 ghost use Rattle.listing.specs.Running.{Reached};
@@ -35,8 +36,8 @@ pub fn start(out: &mut [u8]) -> Progress
 }
 
 // Takes one byte of the input: a newline puts the open line's meaning behind the buffer's text.
-fn take_byte(p: Progress, b: u8, out: &mut [u8]) -> Progress
-    requires { ⌜ (p .end + 92 ≤ length (now out)) × (p .number + 1 < 2 ^ 64) ⌝ }
+fn take_byte(table: &[u16; 1152], p: Progress, b: u8, out: &mut [u8]) -> Progress
+    requires { ⌜ (now table ≡ ks) × (p .end + 92 ≤ length (now out)) × (p .number + 1 < 2 ^ 64) ⌝ }
     ensures { λ r. ⌜ (r .end ≤ p .end + 92) × (r .number ≤ p .number + 1) × (length (now (out .exit)) ≡ length (now (out .entry))) ⌝ }
     ensures { λ r. ⌜ ((seen text : List ℕ) → Reached seen (text ++ take (p .end) (now (out .entry))) p → Reached (seen ++ (b ∷ [])) (text ++ take (r .end) (now (out .exit))) r) ⌝ }
 {
@@ -44,7 +45,7 @@ fn take_byte(p: Progress, b: u8, out: &mut [u8]) -> Progress
     let number = p.number;
     let end = p.end;
     if b == 10 {
-        let after = print(out, end, line, number);
+        let after = print(table, out, end, line, number);
         let none = empty();
         return Progress {
             line: none,
@@ -66,6 +67,7 @@ pub fn list(p: Progress, block: &[u8], out: &mut [u8]) -> Progress
     ensures { λ r. ⌜ (Counts (r .end) (now (out .exit))) × (r .number ≤ p .number + length (now (block .entry))) × (length (now (out .exit)) ≡ length (now (out .entry))) ⌝ }
     ensures { λ r. ⌜ ((seen text : List ℕ) → Reached seen text p → Reached (seen ++ now (block .entry)) (text ++ take (r .end) (now (out .exit))) r) ⌝ }
 {
+    let table = pm::index_table();
     let line = p.line;
     let mut q = Progress {
         line: line,
@@ -74,7 +76,7 @@ pub fn list(p: Progress, block: &[u8], out: &mut [u8]) -> Progress
     };
     let mut i: usize = 0;
     while i < block.len() {
-        q = take_byte(q, block[i], out);
+        q = take_byte(&table, q, block[i], out);
         i += 1;
     }
     q
@@ -90,5 +92,6 @@ pub fn finish(p: Progress, out: &mut [u8]) -> usize
     if !is_begun(line) {
         return 0;
     }
-    print(out, 0, line, p.number)
+    let table = pm::index_table();
+    print(&table, out, 0, line, p.number)
 }

@@ -1,11 +1,12 @@
 // Text put behind what a buffer holds: each function answers where the text ends.
 use crate::parsing::Line;
 use crate::parsing::Part;
-use layer1::Found;
+use queries::Found;
 ghost use mathlib.Core.Path.{_≡_};
 ghost use Prim.Native.Nat.{ℕ, _+_, _≤_};
 ghost use mathlib.Core.List.{List, [], _∷_, _++_};
 ghost use lib.ListN.{length, take};
+ghost use Rattle.interleaving.specs.TableI.{ks};
 ghost use Rattle.listing.specs.Numbers.{decimal};
 ghost use Rattle.listing.specs.Printed.{cell as «cell-of», refused, space, printed};
 ghost use Rattle.listing.specs.Running.{lineOf, known, shown, Put};
@@ -24,7 +25,7 @@ pub fn put(out: &mut [u8], at: usize, text: &[u8]) -> usize
 }
 
 // Puts a number in decimal, and the byte that ends it.
-fn field(out: &mut [u8], at: usize, n: u64, end: u8) -> usize
+pub fn field(out: &mut [u8], at: usize, n: u64, end: u8) -> usize
     requires { ⌜ at + 21 ≤ length (now out) ⌝ }
     ensures { λ r. ⌜ Put (now (out .entry)) (now (out .exit)) at r 21 (decimal n ++ (end ∷ [])) ⌝ }
 {
@@ -63,7 +64,7 @@ fn cell(
 }
 
 // Puts a refused line.
-fn refuse(out: &mut [u8], at: usize, number: u64) -> usize
+pub fn refuse(out: &mut [u8], at: usize, number: u64) -> usize
     requires { ⌜ at + 92 ≤ length (now out) ⌝ }
     ensures { λ r. ⌜ Put (now (out .entry)) (now (out .exit)) at r 92 (refused number) ⌝ }
 {
@@ -79,8 +80,8 @@ fn number_of(part: Part) -> usize
 }
 
 // Puts what a line means.
-pub fn print(out: &mut [u8], at: usize, line: Line, number: u64) -> usize
-    requires { ⌜ at + 92 ≤ length (now out) ⌝ }
+pub fn print(table: &[u16; 1152], out: &mut [u8], at: usize, line: Line, number: u64) -> usize
+    requires { ⌜ (now table ≡ ks) × (at + 92 ≤ length (now out)) ⌝ }
     ensures { λ r. ⌜ Put (now (out .entry)) (now (out .exit)) at r 92 (shown number line) ⌝ }
     ensures { λ r. ⌜ ((bytes : List ℕ) → line ≡ lineOf bytes → shown number line ≡ printed number bytes) ⌝ }
 {
@@ -88,7 +89,7 @@ pub fn print(out: &mut [u8], at: usize, line: Line, number: u64) -> usize
     let second = line.column;
     let row = number_of(first);
     let column = number_of(second);
-    match layer1::find(row, column) {
+    match queries::find_by(table, row, column) {
         Found::P1 { bit } => cell(out, at, row, column, b"P1 ", 0, bit),
         Found::Pids { frame, bit } => cell(out, at, row, column, b"PIDS ", frame, bit),
         Found::Refused { answer: _ } => refuse(out, at, number),

@@ -1,10 +1,15 @@
 // The PM interleaving process (section 10.4.1): P1 by Interleaver I, PIDS by Interleaver II, into one matrix of 368640 cells.
+mod table;
+
+pub use crate::table::index_table;
+use crate::table::k_at;
 ghost use mathlib.Core.Path.{_≡_};
 ghost use Prim.Native.Nat.{ℕ, _+_, _*_, _/_, _<_};
 ghost use lib.ListN.{length, getD, take};
 ghost use Rattle.bits.specs.Bits.{bitAt, packed, written, byteOf};
-ghost use Rattle.interleaving.specs.InverseI.{spot as «spot-of», kAt};
+ghost use Rattle.interleaving.specs.InverseI.{spot as «spot-of»};
 ghost use Rattle.interleaving.specs.Source.{at};
+ghost use Rattle.interleaving.specs.TableI.{ks};
 ghost use Rattle.interleaving.specs.PM.{v, p1Place, pidsPlace, matrix};
 ghost use Rattle.interleaving.specs.FinderPM.{w, source};
 ghost use Rattle.pm.specs.FirstCells.{FirstCells, shiftOf};
@@ -104,23 +109,23 @@ pub enum Bit {
     Pids(usize),
 }
 
-// 10.2.3.3 turned round: the k of the row r and the column c of an interleaver block.
-fn k_at(r: usize, c: usize) -> usize
-    requires { ⌜ (r < 32) × (c < 36) ⌝ }
-    ensures { λ x. ⌜ (x ≡ kAt 4 r c) × (x < 1152) ⌝ }
-{
-    let q = (c + 32 - r) % 4;
-    288 * q + (99 * r + 32 * c + 256 * q) % 288
-}
-
 // 10.4.1 turned round: the bit that stands in the cell c.
 pub fn find(c: usize) -> Bit
     requires { ⌜ c < 368640 ⌝ }
     ensures { λ r. ⌜ r ≡ at Bit.P1 Bit.Pids (source c) ⌝ }
 {
+    let table = index_table();
+    find_by(&table, c)
+}
+
+// The same by a table that is lent.
+pub fn find_by(table: &[u16; 1152], c: usize) -> Bit
+    requires { ⌜ (now table ≡ ks) × (c < 368640) ⌝ }
+    ensures { λ r. ⌜ r ≡ at Bit.P1 Bit.Pids (source c) ⌝ }
+{
     let p = c % 720 / 36;
     let b = c / 720 / 32;
-    let k = k_at(c / 720 % 32, c % 720 % 36);
+    let k = k_at(table, c / 720 % 32, c % 720 % 36);
     let s = turn(p);
     if k < 1142 {
         return Bit::P1((k * 16 + (b + (16 - p * 7 % 16)) % 16) * 20 + s);

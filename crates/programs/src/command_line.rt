@@ -61,6 +61,14 @@ pub fn read_arguments(words: usize) -> Arguments {
     arguments_of(mode, count)
 }
 
+// The one argument of a program that must have been started with this many words.
+pub fn read_number(words: usize) -> Operand {
+    if os::arg_count() != words {
+        return Operand::NotDecimal;
+    }
+    operand(1)
+}
+
 // Says how the program is started.
 pub fn usage(line: &[u8]) {
     io::write_all(STDERR_FILENO, b"usage: ");

@@ -2,6 +2,7 @@
 mod buffers;
 mod command_line;
 mod frames;
+mod lines;
 
 pub use buffers::Four;
 pub use buffers::read_four;
@@ -11,10 +12,13 @@ pub use buffers::write_two;
 pub use command_line::Arguments;
 pub use command_line::argument_is;
 pub use command_line::read_arguments;
+pub use command_line::read_number;
 pub use command_line::usage;
 pub use frames::send_next;
 pub use frames::start_sending;
 use libc::STDERR_FILENO;
+pub use lines::Line;
+pub use lines::read_line;
 use runs::State;
 ghost use Prim.Native.Nat.{_<_};
 

@@ -2,6 +2,7 @@
 use pm::Bit;
 use runs::Answer;
 ghost use mathlib.Core.Path.{_≡_};
+ghost use Rattle.interleaving.specs.TableI.{ks};
 ghost use Rattle.queries.specs.Finder.{found, values};
 
 // Whose coded bit stands in a cell of PM.
@@ -15,6 +16,15 @@ pub enum Found {
 pub fn find(row: usize, column: usize) -> Found
     ensures { λ r. ⌜ (r ≡ found row column) × (values r ≡ values (found row column)) ⌝ }
 {
+    let table = pm::index_table();
+    find_by(&table, row, column)
+}
+
+// The same by the table of S-1, lent: who finds many cells reads it once.
+pub fn find_by(table: &[u16; 1152], row: usize, column: usize) -> Found
+    requires { ⌜ now table ≡ ks ⌝ }
+    ensures { λ r. ⌜ (r ≡ found row column) × (values r ≡ values (found row column)) ⌝ }
+{
     if row >= 512 {
         return Found::Refused {
             answer: Answer::WrongLength(0),
@@ -25,7 +35,7 @@ pub fn find(row: usize, column: usize) -> Found
             answer: Answer::WrongLength(1),
         };
     }
-    match pm::find(row * 720 + column) {
+    match pm::find_by(table, row * 720 + column) {
         Bit::P1(i) => Found::P1 { bit: i },
         Bit::Pids(i) => Found::Pids {
             frame: i / 200,

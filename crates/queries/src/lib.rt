@@ -8,6 +8,7 @@ pub use blocks::LookedUp;
 pub use blocks::lookup;
 pub use finder::Found;
 pub use finder::find;
+pub use finder::find_by;
 pub use finder_px::FoundPx;
 pub use finder_px::columns;
 pub use finder_px::find_px;

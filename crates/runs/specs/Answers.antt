@@ -1,7 +1,7 @@
--- Document 01, the table of causes: the number and the place that each answer stands for.
+-- Document 01, the table of causes, and document 02's: the number and the place that each answer stands for.
 use Prim.Native.Nat.{ℕ}
 use Rattle.runs.specs.declared.Answer.{Answer}
-use Rattle.runs.specs.declared.Answer.the-variants.{Success, ModeNotCovered, StateNotValid, WrongLength, WrongControl, P1NotCoded, PidsNotCoded, FillNotZero, ExtendedNotCoded}
+use Rattle.runs.specs.declared.Answer.the-variants.{Success, ModeNotCovered, StateNotValid, WrongLength, WrongControl, P1NotCoded, PidsNotCoded, FillNotZero, ExtendedNotCoded, SharesTooMany, WrongBudget}
 
 abbrev pub numberOf : Answer → ℕ
 numberOf Success = 0
@@ -13,6 +13,8 @@ numberOf P1NotCoded = 5
 numberOf (PidsNotCoded frame) = 6
 numberOf (FillNotZero cell) = 7
 numberOf (ExtendedNotCoded frame) = 8
+numberOf SharesTooMany = 10
+numberOf WrongBudget = 16
 
 abbrev pub placeOf : Answer → ℕ
 placeOf Success = 0
@@ -24,6 +26,8 @@ placeOf P1NotCoded = 0
 placeOf (PidsNotCoded frame) = frame
 placeOf (FillNotZero cell) = cell
 placeOf (ExtendedNotCoded frame) = frame
+placeOf SharesTooMany = 0
+placeOf WrongBudget = 0
 
 -- the one thing on success, the other on each refusal
 unfoldable pub onSuccess : {A : Type 0} → Answer → A → A → A
@@ -36,3 +40,5 @@ onSuccess P1NotCoded done refused = refused
 onSuccess (PidsNotCoded frame) done refused = refused
 onSuccess (FillNotZero cell) done refused = refused
 onSuccess (ExtendedNotCoded frame) done refused = refused
+onSuccess SharesTooMany done refused = refused
+onSuccess WrongBudget done refused = refused

@@ -31,4 +31,8 @@ pub enum Answer {
     PidsNotCoded(usize),
     FillNotZero(usize),
     ExtendedNotCoded(usize),
+    // document 02, S-4
+    SharesTooMany,
+    // document 02, S-12
+    WrongBudget,
 }

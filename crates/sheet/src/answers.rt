@@ -2,6 +2,8 @@
 use libc::STDOUT_FILENO;
 use sheetlines::Entry;
 use sheetlines::Question;
+ghost use mathlib.Core.Path.{_≡_};
+ghost use Rattle.interleaving.specs.TableI.{ks};
 
 // The list is gone through once for the refused lines, and once for each L1 frame.
 pub enum Pass {
@@ -98,6 +100,7 @@ fn is_refused(entry: Entry) -> bool {
 
 // Prints what a pass prints for line `number`. Answers whether to go on.
 fn print_line(
+    table: &[u16; 1152],
     pass: Pass,
     mode: u8,
     count: u64,
@@ -106,9 +109,11 @@ fn print_line(
     pm: &[u8],
     px1: &[u8],
     px2: &[u8],
-) -> bool {
+) -> bool
+    requires { ⌜ now table ≡ ks ⌝ }
+{
     let question = sheetlines::asked(line);
-    let entry = sheetlines::entry_for(mode, count, question);
+    let entry = sheetlines::entry_for(table, mode, count, question);
     let refused = is_refused(entry);
     match pass {
         Pass::Refusals => {
@@ -139,12 +144,23 @@ pub fn print_lines(
     px1: &[u8],
     px2: &[u8],
 ) -> bool {
+    let table = pm::index_table();
     let mut at: usize = 0;
     let mut number: u64 = 0;
     while at < list.len() {
         let end = sheetlines::line_end(list, at);
         number += 1;
-        if !print_line(pass, mode, count, number, &list[at..end], pm, px1, px2) {
+        if !print_line(
+            &table,
+            pass,
+            mode,
+            count,
+            number,
+            &list[at..end],
+            pm,
+            px1,
+            px2,
+        ) {
             return false;
         }
         if end >= list.len() {

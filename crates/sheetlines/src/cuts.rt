@@ -5,7 +5,7 @@ ghost use lib.ListN.{length, drop};
 ghost use Rattle.sheetlines.specs.Cuts.{after, before, endsList, newline, space};
 
 // Where the first separator stands from `at` on: at the text's end, where there is none.
-fn end_of(text: &[u8], at: usize, separator: u8) -> usize
+pub fn end_of(text: &[u8], at: usize, separator: u8) -> usize
     requires { ⌜ at ≤ length (now text) ⌝ }
     ensures { λ r. ⌜ (r ≡ at + length (before separator (drop at (now (text .entry))))) × (r ≤ length (now (text .entry))) ⌝ }
 {

@@ -5,6 +5,7 @@ use queries::FoundPx;
 use runs::State;
 ghost use mathlib.Core.Path.{_≡_};
 ghost use Prim.Native.Nat.{_+_, _*_, _≤_, _<_};
+ghost use Rattle.interleaving.specs.TableI.{ks};
 ghost use Rattle.runs.specs.Starting.{stateAt};
 ghost use Rattle.queries.specs.Finder.{found};
 ghost use Rattle.queries.specs.FinderPX.{cellOf, foundPX, kindOfNumber};
@@ -65,10 +66,11 @@ fn px_cell(mode: u8, channel: u8, pair: usize, row: usize, column: usize) -> usi
 }
 
 // A cell of PM.
-fn pm_entry(row: usize, column: usize) -> Entry
+fn pm_entry(table: &[u16; 1152], row: usize, column: usize) -> Entry
+    requires { ⌜ now table ≡ ks ⌝ }
     ensures { λ r. ⌜ r ≡ pmEntry (row * 720 + column) (found row column) ⌝ }
 {
-    match queries::find(row, column) {
+    match queries::find_by(table, row, column) {
         Found::P1 { bit } => Entry::P1 {
             bit,
             cell: pm_cell(row, column),
@@ -104,14 +106,15 @@ fn px_entry(mode: u8, sent: u64, channel: u8, pair: usize, row: usize, column: u
     }
 }
 
-// What the sheet of a run of `count` L1 frames says of what a line asks for.
-pub fn entry_for(mode: u8, count: u64, question: Question) -> Entry
+// What the sheet of a run of `count` L1 frames says of what a line asks for. The table of S-1 is lent, since a list asks for many cells.
+pub fn entry_for(table: &[u16; 1152], mode: u8, count: u64, question: Question) -> Entry
+    requires { ⌜ now table ≡ ks ⌝ }
     ensures { λ r. ⌜ r ≡ entryOf mode count question ⌝ }
 {
     match question {
         Question::Pm { frame, row, column } => {
             if frame < count {
-                return pm_entry(row, column);
+                return pm_entry(table, row, column);
             }
             Entry::Refused
         }

@@ -12,12 +12,15 @@ use Rattle.listing.proofs.blocks.list.Statement.{statement}
 use Rattle.listing.proofs.blocks.list.Tie as tie
 
 abbrev Inv-loop : tie.InvT-loop
-Inv-loop block out₀ q₀ i₀ out q i =
+Inv-loop block out₀ table q₀ i₀ out q i =
     (i ≤ length block) × (length out ≡ length out₀) × (q .end ≤ 92 * i) × (q .number ≤ q₀ .number + i) ×
     ((seen text : List ℕ) → Reached seen text q₀ → Reached (seen ++ take i block) (text ++ take (q .end) out) q)
 
 abbrev μ-loop : tie.MeasureT-loop
-μ-loop block out₀ q₀ i₀ out q i = length block - i
+μ-loop block out₀ table q₀ i₀ out q i = length block - i
+
+index-table-requires : tie.Need-index-table-requires Inv-loop μ-loop
+index-table-requires c κs = search needs
 
 loop-holds : tie.Need-loop-holds Inv-loop μ-loop
 loop-holds c = (search needs, refl, search needs, search needs, λ seen text r. block-start seen text r)
@@ -26,7 +29,9 @@ shared-slice-read-take-byte : tie.Need-shared-slice-read-take-byte Inv-loop μ-l
 shared-slice-read-take-byte c = search needs
 
 take-byte-requires : tie.Need-take-byte-requires Inv-loop μ-loop
-take-byte-requires c κs = (omega (arith, c .before .before .before .loop .inv), omega (arith, c .before .before .before .loop .inv))
+take-byte-requires c κs =
+    let loop = c .before .before .before .before in
+    (loop .before .before .index-table .ensures, omega (arith, loop .loop .inv), omega (arith, loop .loop .inv))
 
 add-i : tie.Need-add-i Inv-loop μ-loop
 add-i c = search needs
@@ -37,7 +42,7 @@ loop-less c = search needs
 loop-again : tie.Need-loop-again Inv-loop μ-loop
 loop-again c =
     let e = c .before .before .take-byte .ensures in
-    let t = c .before .before .before .before .before in
+    let t = c .before .before .before .before .before .before in
     let l = t .before .loop .inv in (
       search needs,
       e .0 .2 ∙ l .1,
@@ -61,6 +66,7 @@ list-spec =
     (tie.spec
     Inv-loop
     μ-loop
+    index-table-requires
     loop-holds
     shared-slice-read-take-byte
     take-byte-requires

@@ -13,8 +13,8 @@ print-requires c κs = search needs
 empty-requires : tie.Need-empty-requires
 empty-requires c κs = search needs
 
-add-t13 : tie.Need-add-t13
-add-t13 c = search needs
+add-t14 : tie.Need-add-t14
+add-t14 c = search needs
 
 same-length : tie.Need-same-length
 same-length c = search needs
@@ -36,4 +36,4 @@ returns-2 c = ((omega arith, omega arith, refl), λ seen text r. longer r _ _ (c
 pub take-byte-spec : {M : Type 1} → statement M
 take-byte-spec =
     tie.close
-    (tie.spec print-requires empty-requires add-t13 same-length returns step-requires returns-2)
+    (tie.spec print-requires empty-requires add-t14 same-length returns step-requires returns-2)

@@ -13,8 +13,8 @@ number-of-requires c κs = search needs
 number-of-requires-2 : tie.Need-number-of-requires-2
 number-of-requires-2 c κs = search needs
 
-find-requires : tie.Need-find-requires
-find-requires c κs = search needs
+find-by-requires : tie.Need-find-by-requires
+find-by-requires c κs = search needs
 
 enum-known-bit : tie.Need-enum-known-bit
 enum-known-bit c = search needs
@@ -47,7 +47,7 @@ returns : tie.Need-returns
 returns c =
     let m = c .before .before .before .before .before .before in
     let f = m .before .before in (
-      put-text (ap (told _ _ _) (sym (m .bit .given .1)) ∙ told-shown _ _ _ _ _ (f .before .before .number-of .ensures) (f .before .number-of2 .ensures) (f .find .ensures .0))
+      put-text (ap (told _ _ _) (sym (m .bit .given .1)) ∙ told-shown _ _ _ _ _ (f .before .before .number-of .ensures) (f .before .number-of2 .ensures) (f .find-by .ensures .0))
           (c .before .before .cell .ensures namedP1 refl),
       λ bytes e. shown-printed _ _ bytes e,
     )
@@ -59,7 +59,7 @@ returns-2 : tie.Need-returns-2
 returns-2 c =
     let m = c .before .before .before .before .before .before in
     let f = m .before .before in (
-      put-text (ap (told _ _ _) (sym (m .frame .given .1)) ∙ told-shown _ _ _ _ _ (f .before .before .number-of .ensures) (f .before .number-of2 .ensures) (f .find .ensures .0))
+      put-text (ap (told _ _ _) (sym (m .frame .given .1)) ∙ told-shown _ _ _ _ _ (f .before .before .number-of .ensures) (f .before .number-of2 .ensures) (f .find-by .ensures .0))
           (c .before .before .cell2 .ensures namedPIDS refl),
       λ bytes e. shown-printed _ _ bytes e,
     )
@@ -71,7 +71,7 @@ returns-3 : tie.Need-returns-3
 returns-3 c =
     let m = c .before .before .before .before in
     let f = m .before .before in (
-      put-text (ap (told _ _ _) (sym (m .enum-told .given .1)) ∙ told-shown _ _ _ _ _ (f .before .before .number-of .ensures) (f .before .number-of2 .ensures) (f .find .ensures .0))
+      put-text (ap (told _ _ _) (sym (m .enum-told .given .1)) ∙ told-shown _ _ _ _ _ (f .before .before .number-of .ensures) (f .before .number-of2 .ensures) (f .find-by .ensures .0))
           (c .before .before .refuse .ensures),
       λ bytes e. shown-printed _ _ bytes e,
     )
@@ -82,7 +82,7 @@ print-spec =
     (tie.spec
     number-of-requires
     number-of-requires-2
-    find-requires
+    find-by-requires
     enum-known-bit
     slice-aggregate-cell
     cell-requires

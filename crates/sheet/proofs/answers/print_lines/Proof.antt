@@ -10,10 +10,13 @@ use Rattle.sheet.proofs.answers.print_lines.Statement.{statement}
 use Rattle.sheet.proofs.answers.print_lines.Tie as tie
 
 abbrev Inv-loop : tie.InvT-loop
-Inv-loop pass mode count list pm px1 px2 at₀ number₀ at number = (at ≤ length list) × (number ≤ at)
+Inv-loop pass mode count list pm px1 px2 table at₀ number₀ at number = (at ≤ length list) × (number ≤ at)
 
 abbrev μ-loop : tie.MeasureT-loop
-μ-loop pass mode count list pm px1 px2 at₀ number₀ at number = length list - at
+μ-loop pass mode count list pm px1 px2 table at₀ number₀ at number = length list - at
+
+index-table-requires : tie.Need-index-table-requires Inv-loop μ-loop
+index-table-requires c κs = search needs
 
 loop-holds : tie.Need-loop-holds Inv-loop μ-loop
 loop-holds c = search needs
@@ -31,7 +34,10 @@ part-print-line-start : tie.Need-part-print-line-start Inv-loop μ-loop
 part-print-line-start c = search needs
 
 part-print-line-end : tie.Need-part-print-line-end Inv-loop μ-loop
-part-print-line-end c = omega (arith, end-within newline (now (c .before .before .before .before .before .before .before .args .list)) (c .before .before .loop .at) (omega arith), c .line-end .ensures)
+part-print-line-end c =
+    let loop = c .before .before .before in
+    let list = now (loop .before .before .before .before .before .before .args .list) in
+    omega (arith, end-within newline list (loop .loop .at) (omega arith), c .before .line-end .ensures)
 
 print-line-requires : tie.Need-print-line-requires Inv-loop μ-loop
 print-line-requires c κs = search needs
@@ -40,13 +46,19 @@ returns : tie.Need-returns Inv-loop μ-loop
 returns c = search needs
 
 add-at : tie.Need-add-at Inv-loop μ-loop
-add-at c = omega (arith, end-within newline (now (c .before .before .before .before .before .before .before .before .before .before .before .args .list)) (c .before .before .before .before .before .before .loop .at) (omega arith), c .before .before .before .before .line-end .ensures)
+add-at c =
+    let loop = c .before .before .before .before .before .before .before in
+    let list = now (loop .before .before .before .before .before .before .args .list) in
+    omega (arith, end-within newline list (loop .loop .at) (omega arith), c .before .before .before .before .before .line-end .ensures)
 
 loop-less : tie.Need-loop-less Inv-loop μ-loop
 loop-less c = search needs
 
 loop-again : tie.Need-loop-again Inv-loop μ-loop
-loop-again c = omega (arith, end-within newline (now (c .before .before .before .before .before .before .before .before .before .before .before .args .list)) (c .before .before .before .before .before .before .loop .at) (omega arith), c .before .before .before .before .line-end .ensures)
+loop-again c =
+    let loop = c .before .before .before .before .before .before .before in
+    let list = now (loop .before .before .before .before .before .before .args .list) in
+    omega (arith, end-within newline list (loop .loop .at) (omega arith), c .before .before .before .before .before .line-end .ensures)
 
 returns-2 : tie.Need-returns-2 Inv-loop μ-loop
 returns-2 c = search needs
@@ -60,6 +72,7 @@ print-lines-spec =
     (tie.spec
     Inv-loop
     μ-loop
+    index-table-requires
     loop-holds
     line-end-requires
     add-number

@@ -5,38 +5,38 @@ use Rattle.sheetlines.proofs.Ranges.{p1-in-range, pids-in-range}
 use Rattle.sheetlines.proofs.entries.pm_entry.Statement.{statement}
 use Rattle.sheetlines.proofs.entries.pm_entry.Tie as tie
 
-find-requires : tie.Need-find-requires
-find-requires c κs = search needs
+find-by-requires : tie.Need-find-by-requires
+find-by-requires c κs = search needs
 
 enum-known-bit : tie.Need-enum-known-bit
 enum-known-bit c = search needs
 
 pm-cell-requires : tie.Need-pm-cell-requires
-pm-cell-requires c κs = p1-in-range _ _ _ (sym (c .before .before .before .find .ensures .0) ∙ c .before .bit .given .1)
+pm-cell-requires c κs = p1-in-range _ _ _ (sym (c .before .before .before .find-by .ensures .0) ∙ c .before .bit .given .1)
 
 enum-known-frame : tie.Need-enum-known-frame
 enum-known-frame c = search needs
 
 pm-cell-requires-2 : tie.Need-pm-cell-requires-2
-pm-cell-requires-2 c κs = pids-in-range _ _ _ _ (sym (c .before .before .before .find .ensures .0) ∙ c .before .frame .given .1)
+pm-cell-requires-2 c κs = pids-in-range _ _ _ _ (sym (c .before .before .before .find-by .ensures .0) ∙ c .before .frame .given .1)
 
 enum-told : tie.Need-enum-told
 enum-told c = search needs
 
 returns : tie.Need-returns
-returns c = rw (c .pm-cell .ensures, sym (c .before .before .before .before .find .ensures .0) ∙ c .before .before .bit .given .1)
+returns c = rw (c .pm-cell .ensures, sym (c .before .before .before .before .find-by .ensures .0) ∙ c .before .before .bit .given .1)
 
 returns-2 : tie.Need-returns-2
-returns-2 c = rw (c .pm-cell2 .ensures, sym (c .before .before .before .before .find .ensures .0) ∙ c .before .before .frame .given .1)
+returns-2 c = rw (c .pm-cell2 .ensures, sym (c .before .before .before .before .find-by .ensures .0) ∙ c .before .before .frame .given .1)
 
 returns-3 : tie.Need-returns-3
-returns-3 c = rw (sym (c .before .before .find .ensures .0) ∙ c .enum-told .given .1)
+returns-3 c = rw (sym (c .before .before .find-by .ensures .0) ∙ c .enum-told .given .1)
 
 pub pm-entry-spec : {M : Type 1} → statement M
 pm-entry-spec =
     tie.close
     (tie.spec
-    find-requires
+    find-by-requires
     enum-known-bit
     pm-cell-requires
     enum-known-frame
