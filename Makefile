@@ -3,10 +3,10 @@
 .PHONY: sheet sheet-html test bench
 
 sheet:
-	sheets/print
+	@sheets/print
 
 sheet-html:
-	sheets/html
+	@sheets/html
 
 test:
 	.ci/run
