@@ -29,6 +29,8 @@
  *   8  a P3 or P4 frame of the L1 frame two earlier is no coded frame           0 to 7 for P3, 8 to 15 for P4, the lowest
  * and of document 02's:
  *  10  the shares add up to more than 16                                        0
+ *  14  no frame fits the cells that were read                                   0
+ *  15  more than one frame fits them                                            0
  *  16  the budget of a search is 0 or above 64                                  0
  */
 #ifndef LAYER1_H
@@ -115,6 +117,10 @@ static inline uint64_t layer1_eight(const uint8_t numbers[8]) {
 /* The PIDS frame that is nearest to its 200 cells in coded order, a byte each: 0, 1, anything else where a cell could not be read. Written to
  * the 10 bytes of the frame. The budget, 1 to 64, says how many register starts are tried. Returns a nearest word. */
 uint64_t layer1_nearest(const uint8_t *cells, size_t cells_len, uint8_t *frame, size_t frame_len, size_t budget);
+
+/* The PIDS frame that fits its 200 cells in coded order, a byte each as for layer1_nearest, where exactly one does. Written to the 10 bytes of the
+ * frame. Returns an answer word. */
+uint64_t layer1_restore(const uint8_t *cells, size_t cells_len, uint8_t *frame, size_t frame_len);
 
 /* Every word but a row's. */
 static inline unsigned layer1_number(uint64_t word) { return word & 0xff; }

@@ -11,6 +11,7 @@ pub mod modes;
 pub mod nearest;
 pub mod packing;
 pub mod places;
+pub mod restoring;
 pub mod run;
 pub mod scrambling;
 pub mod sheet;

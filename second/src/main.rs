@@ -5,10 +5,10 @@ use std::io::{self, BufWriter, Write};
 use std::process::ExitCode;
 
 use second::commands::{self, Stop};
-use second::{cells, nearest, places, run::Refusal};
+use second::{cells, nearest, places, restoring, run::Refusal};
 
 /// The commands with their operands.
-const COMMANDS: [(&str, &str); 19] = [
+const COMMANDS: [(&str, &str); 21] = [
     ("draw", "SEED MODE COUNT"),
     ("send", "MODE COUNT"),
     ("sheet", "MODE COUNT"),
@@ -28,6 +28,8 @@ const COMMANDS: [(&str, &str); 19] = [
     ("draw-shares", "SEED"),
     ("nearest", "BUDGET"),
     ("draw-copied", "SEED COUNT"),
+    ("restore", ""),
+    ("draw-unread", "SEED"),
 ];
 
 /// No section: runs one command; 0 if it did its work, 1 if refused or different, 2 otherwise.
@@ -109,6 +111,8 @@ fn dispatch(
         ("draw-shares", &[seed]) => Ok(places::draw_lines(seed, output)?),
         ("nearest", &[budget]) => commands::nearest(budget, &mut input, output),
         ("draw-copied", &[seed, count]) => Ok(nearest::drawn_lines(seed, count, output)?),
+        ("restore", _) => Ok(restoring::lines(&mut input, output)?),
+        ("draw-unread", &[seed]) => Ok(restoring::drawn_lines(seed, output)?),
         _ => Err(Stop::Trouble(io::Error::other("no such command"))),
     }
 }

@@ -134,6 +134,14 @@ fn outcome(word: u64) -> Outcome {
     }
 }
 
+/// The fields of an answer word.
+fn answer(word: u64) -> Answer {
+    Answer {
+        number: byte(word, 0),
+        place: (word >> 32) as u32,
+    }
+}
+
 /// Document 02, S-4: shares the sixteen PIDS places of an L1 frame among eight sources. Each place is the number of its source, or 255 for a
 /// frame of zeros.
 pub fn share_places(shares: [u8; 8], waiting: [u8; 8], places: &mut [u8]) -> Answer {
@@ -141,10 +149,7 @@ pub fn share_places(shares: [u8; 8], waiting: [u8; 8], places: &mut [u8]) -> Ans
     // SAFETY: as in `start`.
     let word =
         unsafe { raw::layer1_share_places(shares, waiting, places.as_mut_ptr(), places.len()) };
-    Answer {
-        number: byte(word, 0),
-        place: (word >> 32) as u32,
-    }
+    answer(word)
 }
 
 /// Starts a sender or a reader: zeroes its memory.
@@ -308,6 +313,15 @@ pub fn nearest(cells: &[u8], frame: &mut [u8], budget: usize) -> Nearest {
         distance: byte(word, 8),
         margin: byte(word, 16),
     }
+}
+
+/// Document 02, S-11: leaves the PIDS frame that fits its 200 cells in the buffer, a byte each, 0, 1, or anything else where a cell could not be
+/// read. Where none fits (14) or more than one does (15), the buffer is left alone.
+pub fn restore(cells: &[u8], frame: &mut [u8]) -> Answer {
+    // SAFETY: as in `start`.
+    answer(unsafe {
+        raw::layer1_restore(cells.as_ptr(), cells.len(), frame.as_mut_ptr(), frame.len())
+    })
 }
 
 /// The part of a matrix that a row word tells.

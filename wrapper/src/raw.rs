@@ -91,6 +91,12 @@ extern "C" {
         frame_len: usize,
         budget: usize,
     ) -> u64;
+    pub fn layer1_restore(
+        cells: *const u8,
+        cells_len: usize,
+        frame: *mut u8,
+        frame_len: usize,
+    ) -> u64;
     pub fn layer1_pm_row(row: usize, pm: *const u8, pm_len: usize) -> u64;
     pub fn layer1_px_row(
         channel: u8,

@@ -14,6 +14,7 @@ static size_t len[PLACES];
 static uint64_t word;
 static uint8_t stack[STACK] __attribute__((aligned(16)));
 static ucontext_t here, there;
+static const uint8_t zeros[200];
 
 #define LENT(place) buffer[place], len[place]
 
@@ -43,6 +44,12 @@ static void find(void)
 static void nearest(void)
 {
     layer1_nearest(buffer[LAYER1_P1], 200, buffer[LAYER1_PIDS], 10, 63);
+}
+
+/* The cells are those of zeros, which fit one frame: every step is gone through. */
+static void restore(void)
+{
+    layer1_restore(zeros, sizeof zeros, buffer[LAYER1_PIDS], 10);
 }
 
 /* The bytes of the painted stack that a call has touched. */
@@ -90,5 +97,5 @@ int main(void)
     }
     printf("%zu %zu\n", sending, reading);
     return sending > LAYER1_SEND_STACK || reading > LAYER1_READ_STACK || taken(find) > LAYER1_SEND_STACK
-        || taken(nearest) > LAYER1_SEND_STACK;
+        || taken(nearest) > LAYER1_SEND_STACK || taken(restore) > LAYER1_SEND_STACK;
 }

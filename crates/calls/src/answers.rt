@@ -17,6 +17,8 @@ pub fn number(answer: Answer) -> u8
         Answer::FillNotZero(_) => 7,
         Answer::ExtendedNotCoded(_) => 8,
         Answer::SharesTooMany => 10,
+        Answer::NoFrameFits => 14,
+        Answer::SeveralFit => 15,
         Answer::WrongBudget => 16,
     }
 }
@@ -35,6 +37,8 @@ pub fn place(answer: Answer) -> usize
         Answer::FillNotZero(cell) => cell,
         Answer::ExtendedNotCoded(frame) => frame,
         Answer::SharesTooMany => 0,
+        Answer::NoFrameFits => 0,
+        Answer::SeveralFit => 0,
         Answer::WrongBudget => 0,
     }
 }

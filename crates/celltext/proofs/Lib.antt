@@ -1,2 +1,4 @@
 mod Hexadecimal
 mod Reading
+mod Restored
+mod Once

@@ -1,4 +1,4 @@
--- House matter: what the program `nearest` prints for a line.
+-- House matter: what the program `nearest` prints for a line. `NearestLine` holds of one text only: the law `nearest-line-once`.
 use mathlib.Core.Path.{_≡_}
 use mathlib.Core.Bool.{true, false}
 use mathlib.Core.List.{List}

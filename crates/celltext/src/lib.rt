@@ -1,14 +1,16 @@
-// House matter: the cells of one PIDS frame as a line of text, and the line that is printed for the frame that is found.
+// House matter: the cells of one PIDS frame as a line of text, and the line that is printed for the frame that is found or restored.
 ghost use mathlib.Core.Path.{_≡_};
-ghost use mathlib.Core.List.{[], _∷_};
+ghost use mathlib.Core.List.{[], _∷_, _++_};
 ghost use Prim.Native.Nat.{_+_, _*_, _/_, _%_, _<_, _≤_};
 ghost use lib.ListN.{length, getD, take};
 ghost use Rattle.bits.specs.Tests.{all};
 ghost use Rattle.io.specs.Counts.{Counts};
+ghost use Rattle.listing.specs.Printed.{newline};
 ghost use Rattle.listing.specs.Running.{Put};
 ghost use Rattle.celltext.specs.Found.{digit as «digit-of», found, hexadecimal};
 ghost use Rattle.celltext.specs.Lines.{cellOf, CellsOf, isCell, Read};
 ghost use Rattle.celltext.specs.Nearest.{NearestLine};
+ghost use Rattle.celltext.specs.Restored.{RestoredLine, told};
 
 // Whether a character stands for a cell.
 fn is_cell(b: u8) -> bool
@@ -136,4 +138,42 @@ pub fn print_nearest(budget: usize, number: u64, line: &[u8], out: &mut [u8]) ->
     let mut frame = [0u8; 10];
     let nearest = decoding::nearest(&cells, &mut frame, budget);
     put_found(out, &frame, nearest.distance, nearest.margin)
+}
+
+// Puts a frame's line.
+fn put_frame(out: &mut [u8], frame: &[u8]) -> usize
+    requires { ⌜ (length (now frame) ≡ 10) × (21 ≤ length (now out)) ⌝ }
+    ensures { λ r. ⌜ Put (now (out .entry)) (now (out .exit)) 0 r 21 (hexadecimal (now (frame .entry)) ++ newline) ⌝ }
+{
+    let end = put_hexadecimal(out, 0, frame);
+    listing::put(out, end, b"\n")
+}
+
+// Puts the line of a frame that was restored, or why there is none.
+fn put_restored(out: &mut [u8], frame: &[u8], number: u8) -> usize
+    requires { ⌜ (length (now frame) ≡ 10) × (21 ≤ length (now out)) ⌝ }
+    ensures { λ r. ⌜ Put (now (out .entry)) (now (out .exit)) 0 r 21 (told number (now (frame .entry))) ⌝ }
+{
+    if number == 0 {
+        return put_frame(out, frame);
+    }
+    if number == 14 {
+        return listing::put(out, 0, b"NO FRAME FITS\n");
+    }
+    listing::put(out, 0, b"SEVERAL FRAMES FIT\n")
+}
+
+// S-11: puts what is printed for line `number`: the frame that fits, why there is none, or that the line is refused.
+pub fn print_restored(number: u64, line: &[u8], out: &mut [u8]) -> usize
+    requires { ⌜ 92 ≤ length (now out) ⌝ }
+    ensures { λ r. ⌜ Counts r (now (out .exit)) × RestoredLine number (now (line .entry)) (take r (now (out .exit))) ⌝ }
+{
+    let mut cells = [0u8; 200];
+    if !read_cells(line, &mut cells) {
+        return listing::refuse(out, 0, number);
+    }
+    let mut frame = [0u8; 10];
+    let answer = restoring::restore(&cells, &mut frame);
+    let said = calls::number(answer);
+    put_restored(out, &frame, said)
 }

@@ -3,5 +3,6 @@ mod Outcomes
 mod Findings
 mod Fields
 mod Decoding
+mod Restoring
 mod Parts
 mod Shared

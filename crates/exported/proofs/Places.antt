@@ -12,7 +12,7 @@ use Rattle.bits.specs.Tests.{lowest}
 use Rattle.control.specs.Departs.{departs}
 use Rattle.control.specs.Modes.{covered}
 use Rattle.runs.specs.declared.Answer.{Answer}
-use Rattle.runs.specs.declared.Answer.the-variants.{Success, ModeNotCovered, StateNotValid, WrongLength, WrongControl, P1NotCoded, PidsNotCoded, FillNotZero, ExtendedNotCoded, SharesTooMany, WrongBudget}
+use Rattle.runs.specs.declared.Answer.the-variants.{Success, ModeNotCovered, StateNotValid, WrongLength, WrongControl, P1NotCoded, PidsNotCoded, FillNotZero, ExtendedNotCoded, SharesTooMany, NoFrameFits, SeveralFit, WrongBudget}
 use Rattle.runs.specs.declared.Extended.the-variants.{P3, P4}
 use Rattle.runs.specs.declared.Kind.{Kind}
 use Rattle.runs.specs.declared.Kind.the-variants.{Unused, Narrow, Wide}
@@ -99,6 +99,8 @@ either place (PidsNotCoded k) done other h l = l
 either place (FillNotZero k) done other h l = l
 either place (ExtendedNotCoded k) done other h l = l
 either place SharesTooMany done other h l = l
+either place NoFrameFits done other h l = l
+either place SeveralFit done other h l = l
 either place WrongBudget done other h l = l
 
 small-lengths : (sizes : List Size) → length sizes < 2 ^ 32 → Small (at WrongLength (wrong 0 sizes))

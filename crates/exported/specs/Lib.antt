@@ -1,3 +1,4 @@
 pub mod Words
 pub mod Left
 pub mod Decoded
+pub mod Restored

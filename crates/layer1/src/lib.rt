@@ -18,6 +18,7 @@ pub use queries::lookup;
 pub use queries::pm_row;
 pub use queries::px_row;
 pub use reading::read;
+pub use restoring::restore;
 pub use runs::Answer;
 pub use runs::State;
 pub use sending::send;

@@ -33,6 +33,9 @@ pub enum Answer {
     ExtendedNotCoded(usize),
     // document 02, S-4
     SharesTooMany,
+    // document 02, S-11
+    NoFrameFits,
+    SeveralFit,
     // document 02, S-12
     WrongBudget,
 }

@@ -1,0 +1,5 @@
+pub mod Fitting
+pub mod Lengths
+pub mod Opposites
+pub mod Unique
+pub mod Outcomes
