@@ -1,12 +1,15 @@
-# `make sheet` is the main job on a sample, `make sheet-html` the same for paper, `make test` the gate, `make bench` measures sender and reader beside
+# `make sheet` is the main job on a sample, `make sheet-html` the same for paper, `make spectrum` a picture of one symbol, `make test` the gate, `make bench` measures sender and reader beside
 # the second program.
-.PHONY: sheet sheet-html test bench
+.PHONY: sheet sheet-html spectrum test bench
 
 sheet:
 	@sheets/print
 
 sheet-html:
 	@sheets/html
+
+spectrum:
+	@sheets/spectrum
 
 test:
 	.ci/run

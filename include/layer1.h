@@ -5,7 +5,8 @@
  * numbers, lengths or the bytes themselves.
  *
  * What the caller must guarantee, since the proofs assume it:
- * - a pointer points to as many readable bytes as the length beside it says, and writable ones where it is not const;
+ * - a pointer points to as many readable bytes, or numbers where it is one to float, as the length beside it says, and writable ones
+ *   where it is not const;
  * - it is not NULL, also where the length is 0: any address will do there;
  * - a buffer that is written overlaps no other buffer of the call;
  * - nothing else reads a buffer that is written, or writes any buffer of the call, while the call runs: on another thread, in a signal
@@ -19,7 +20,7 @@
  *
  * The numbers of document 01's table of causes, and the place that comes with each:
  *   0  success                                                                  0
- *   1  start: the mode is not 1, 2, 3 or 11                                     0
+ *   1  start, vector: the mode is not 1, 2, 3 or 11                             0
  *   2  the state is not valid                                                   0
  *   3  a length is wrong, or a row, column, block pair or channel out of range  the first such buffer or argument, from 0
  *   4  a control block is not the one of this mode and count                    the lowest such block
@@ -29,6 +30,8 @@
  *   8  a P3 or P4 frame of the L1 frame two earlier is no coded frame           0 to 7 for P3, 8 to 15 for P4, the lowest
  * and of document 02's:
  *  10  the shares add up to more than 16                                        0
+ *  11  the symbol of a vector is above 511                                      0
+ *  12  a scale is not finite or not above zero                                  0 for the lower sideband, 1 for the upper
  *  14  no frame fits the cells that were read                                   0
  *  15  more than one frame fits them                                            0
  *  16  the budget of a search is 0 or above 64                                  0
@@ -121,6 +124,16 @@ uint64_t layer1_nearest(const uint8_t *cells, size_t cells_len, uint8_t *frame, 
 /* The PIDS frame that fits its 200 cells in coded order, a byte each as for layer1_nearest, where exactly one does. Written to the 10 bytes of the
  * frame. Returns an answer word. */
 uint64_t layer1_restore(const uint8_t *cells, size_t cells_len, uint8_t *frame, size_t frame_len);
+
+/* The output vector of a symbol, 0 to 511, of an L1 frame (document 02, S-7): from PM, PX1, PX2 and control, with the lengths of a sending or
+ * a reading, and a scale for each sideband. Writes the real parts, then the imaginary parts, LAYER1_POINTS numbers each; element k belongs
+ * to subcarrier k - 546. Each is the scale, its negation, or positive zero where the subcarrier is not used. Lengths count numbers for these
+ * two. The places under 3 are 0 to 3 for PM, PX1, PX2 and control, 4 for the real and 5 for the imaginary parts. Returns an answer word. */
+#define LAYER1_POINTS 1093
+uint64_t layer1_fill_vector(uint8_t mode, size_t symbol, float lower, float upper,
+                            const uint8_t *pm, size_t pm_len, const uint8_t *px1, size_t px1_len, const uint8_t *px2, size_t px2_len,
+                            const uint8_t *control, size_t control_len,
+                            float *re, size_t re_len, float *im, size_t im_len);
 
 /* Every word but a row's. */
 static inline unsigned layer1_number(uint64_t word) { return word & 0xff; }

@@ -14,6 +14,7 @@ use crate::run::{
 };
 use crate::scrambling::scramble;
 use crate::sheet::{take_list, Sheet, GREATEST_COUNT, LIST_BYTES};
+use crate::vector::{self, Mapping};
 
 /// Why a command ends before its work is done.
 #[derive(Debug)]
@@ -21,6 +22,7 @@ pub enum Stop {
     Refused { refusal: Refusal, frame: u64 },
     NoList,
     TooLong,
+    Usage,
     Different(String),
     Trouble(io::Error),
 }
@@ -416,4 +418,22 @@ pub fn nearest(budget: u64, input: &mut impl BufRead, output: &mut impl Write) -
         true => Ok(()),
         false => Err(refused(16, 0, 0)),
     }
+}
+
+/// Document 02, S-7: the vector of a symbol of one L1 frame.
+pub fn vector(
+    mode: u64,
+    symbol: u64,
+    scales: [f32; 2],
+    input: &mut impl Read,
+    output: &mut impl Write,
+) -> Result<(), Stop> {
+    let matrices = take_four(input, covered(mode)?.matrix_lengths())?;
+    let lent = Mapping {
+        mode,
+        symbol,
+        matrices: [0, 1, 2, 3].map(|n| &matrices[n][..]),
+        scales,
+    };
+    vector::lines(&lent, output)?.map_err(|refusal| Stop::Refused { refusal, frame: 0 })
 }

@@ -15,3 +15,4 @@ pub mod restoring;
 pub mod run;
 pub mod scrambling;
 pub mod sheet;
+pub mod vector;

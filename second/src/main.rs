@@ -5,10 +5,10 @@ use std::io::{self, BufWriter, Write};
 use std::process::ExitCode;
 
 use second::commands::{self, Stop};
-use second::{cells, nearest, places, restoring, run::Refusal};
+use second::{cells, nearest, places, restoring, run::Refusal, vector};
 
 /// The commands with their operands.
-const COMMANDS: [(&str, &str); 21] = [
+const COMMANDS: [(&str, &str); 23] = [
     ("draw", "SEED MODE COUNT"),
     ("send", "MODE COUNT"),
     ("sheet", "MODE COUNT"),
@@ -30,6 +30,8 @@ const COMMANDS: [(&str, &str); 21] = [
     ("draw-copied", "SEED COUNT"),
     ("restore", ""),
     ("draw-unread", "SEED"),
+    ("vector", "MODE SYMBOL LOWER UPPER"),
+    ("draw-scales", "SEED COUNT"),
 ];
 
 /// No section: runs one command; 0 if it did its work, 1 if refused or different, 2 otherwise.
@@ -42,26 +44,34 @@ fn main() -> ExitCode {
         return ExitCode::from(2);
     };
     let Some((numbers, files)) = split(operands, &arguments[1..]) else {
-        let usage = format!("usage: second {name} {operands}");
-        eprintln!("{}", usage.trim_end());
-        return ExitCode::from(2);
+        return misused(name, operands);
     };
     let mut output = BufWriter::new(io::stdout().lock());
     let done = dispatch(name, &numbers, files, &mut output);
     let flushed = output.flush().map_err(Stop::Trouble);
+    if let Err(Stop::Usage) = done {
+        return misused(name, operands);
+    }
     ended(done.and(flushed))
 }
 
-/// No section: the operands as numbers and files; none if they do not fit the usage.
+/// No section: says how a command is used.
+fn misused(name: &str, operands: &str) -> ExitCode {
+    let usage = format!("usage: second {name} {operands}");
+    eprintln!("{}", usage.trim_end());
+    ExitCode::from(2)
+}
+
+/// The operands that are no whole numbers; they stand last.
+const WORDS: [&str; 4] = ["FILE_A", "FILE_B", "LOWER", "UPPER"];
+
+/// No section: the operands as numbers and words; none if they do not fit the usage.
 fn split<'a>(operands: &str, given: &'a [OsString]) -> Option<(Vec<u64>, &'a [OsString])> {
     let names: Vec<&str> = operands.split_whitespace().collect();
     if names.len() != given.len() {
         return None;
     }
-    let numbers = names
-        .iter()
-        .filter(|name| !name.starts_with("FILE"))
-        .count();
+    let numbers = names.iter().filter(|name| !WORDS.contains(name)).count();
     let (given, files) = given.split_at(numbers);
     let numbers: Option<Vec<u64>> = given.iter().map(decimal).collect();
     Some((numbers?, files))
@@ -113,6 +123,15 @@ fn dispatch(
         ("draw-copied", &[seed, count]) => Ok(nearest::drawn_lines(seed, count, output)?),
         ("restore", _) => Ok(restoring::lines(&mut input, output)?),
         ("draw-unread", &[seed]) => Ok(restoring::drawn_lines(seed, output)?),
+        ("vector", &[mode, symbol]) => {
+            let scales =
+                [&files[0], &files[1]].map(|word| word.to_str().and_then(vector::scale_of));
+            let [Some(lower), Some(upper)] = scales else {
+                return Err(Stop::Usage);
+            };
+            commands::vector(mode, symbol, [lower, upper], &mut input, output)
+        }
+        ("draw-scales", &[seed, count]) => Ok(vector::drawn_scales(seed, count, output)?),
         _ => Err(Stop::Trouble(io::Error::other("no such command"))),
     }
 }
@@ -138,6 +157,7 @@ fn ended(done: Result<(), Stop>) -> ExitCode {
             println!("{difference}");
             ExitCode::from(1)
         }
+        Err(Stop::Usage) => ExitCode::from(2),
         Err(Stop::Trouble(error)) => {
             eprintln!("trouble: {error}");
             ExitCode::from(2)

@@ -56,6 +56,25 @@ pub struct Reading<'a> {
     pub memory4: &'a mut [u8],
 }
 
+/// Document 02, S-7: the numbers of each part of a vector; element k belongs to subcarrier k - 546.
+pub const POINTS: usize = 1_093;
+
+/// The matrices and the control of an L1 frame, lent to be read.
+#[derive(Clone, Copy)]
+pub struct L1Frame<'a> {
+    pub pm: &'a [u8],
+    pub px1: &'a [u8],
+    pub px2: &'a [u8],
+    pub control: &'a [u8],
+}
+
+/// Document 02, S-7: a scale for each sideband.
+#[derive(Clone, Copy)]
+pub struct Scales {
+    pub lower: f32,
+    pub upper: f32,
+}
+
 /// The channels that meet in PM.
 #[derive(Clone, Copy, Debug, PartialEq, Eq)]
 pub enum Channel {
@@ -321,6 +340,38 @@ pub fn restore(cells: &[u8], frame: &mut [u8]) -> Answer {
     // SAFETY: as in `start`.
     answer(unsafe {
         raw::layer1_restore(cells.as_ptr(), cells.len(), frame.as_mut_ptr(), frame.len())
+    })
+}
+
+/// Fills the output vector of a symbol: the real and the imaginary parts.
+pub fn fill_vector(
+    mode: u8,
+    symbol: usize,
+    scales: Scales,
+    lent: L1Frame,
+    re: &mut [f32],
+    im: &mut [f32],
+) -> Answer {
+    // SAFETY: each pointer and length are those of one slice, and those written overlap no other.
+    answer(unsafe {
+        raw::layer1_fill_vector(
+            mode,
+            symbol,
+            scales.lower,
+            scales.upper,
+            lent.pm.as_ptr(),
+            lent.pm.len(),
+            lent.px1.as_ptr(),
+            lent.px1.len(),
+            lent.px2.as_ptr(),
+            lent.px2.len(),
+            lent.control.as_ptr(),
+            lent.control.len(),
+            re.as_mut_ptr(),
+            re.len(),
+            im.as_mut_ptr(),
+            im.len(),
+        )
     })
 }
 

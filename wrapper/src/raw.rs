@@ -97,6 +97,24 @@ extern "C" {
         frame: *mut u8,
         frame_len: usize,
     ) -> u64;
+    pub fn layer1_fill_vector(
+        mode: u8,
+        symbol: usize,
+        lower: f32,
+        upper: f32,
+        pm: *const u8,
+        pm_len: usize,
+        px1: *const u8,
+        px1_len: usize,
+        px2: *const u8,
+        px2_len: usize,
+        control: *const u8,
+        control_len: usize,
+        re: *mut f32,
+        re_len: usize,
+        im: *mut f32,
+        im_len: usize,
+    ) -> u64;
     pub fn layer1_pm_row(row: usize, pm: *const u8, pm_len: usize) -> u64;
     pub fn layer1_px_row(
         channel: u8,

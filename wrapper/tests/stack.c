@@ -52,6 +52,13 @@ static void restore(void)
     layer1_restore(zeros, sizeof zeros, buffer[LAYER1_PIDS], 10);
 }
 
+static void fill(void)
+{
+    static float re[LAYER1_POINTS], im[LAYER1_POINTS];
+    layer1_fill_vector(11, 511, 0.5f, 0.25f, buffer[LAYER1_PM], 46080, buffer[LAYER1_PX1], 9216, buffer[LAYER1_PX2], 9216,
+                       buffer[LAYER1_CONTROL], 4096, re, LAYER1_POINTS, im, LAYER1_POINTS);
+}
+
 /* The bytes of the painted stack that a call has touched. */
 static size_t taken(void (*call)(void))
 {
@@ -97,5 +104,5 @@ int main(void)
     }
     printf("%zu %zu\n", sending, reading);
     return sending > LAYER1_SEND_STACK || reading > LAYER1_READ_STACK || taken(find) > LAYER1_SEND_STACK
-        || taken(nearest) > LAYER1_SEND_STACK || taken(restore) > LAYER1_SEND_STACK;
+        || taken(nearest) > LAYER1_SEND_STACK || taken(restore) > LAYER1_SEND_STACK || taken(fill) > LAYER1_SEND_STACK;
 }

@@ -15,7 +15,7 @@ pub record Place (l : List ℕ) (m : ℕ) : Type 0 where
   pub inside : at < length l
   pub is : getD l at 0 ≡ m
 
-place : (l : List ℕ) (m : ℕ) → oneOf l m ≡ true → Place l m
+pub place : (l : List ℕ) (m : ℕ) → oneOf l m ≡ true → Place l m
 unfolding oneOf
 place [] m e = let z : _≡_ {A = ℕ} 0 1 = cc in absurd (omega arith)
 place (x ∷ l) m e = go (eqb m x) refl e (place l m)

@@ -3,7 +3,7 @@ use Prim.Native.Nat.{ℕ, _^_, _/_, _%_, _<_}
 use mathlib.Core.Path.{_≡_}
 use native.Mathlib.Omega.{arith}
 use Rattle.runs.specs.declared.Answer.{Answer}
-use Rattle.runs.specs.declared.Answer.the-variants.{Success, ModeNotCovered, StateNotValid, WrongLength, WrongControl, P1NotCoded, PidsNotCoded, FillNotZero, ExtendedNotCoded, SharesTooMany, NoFrameFits, SeveralFit, WrongBudget}
+use Rattle.runs.specs.declared.Answer.the-variants.{Success, ModeNotCovered, StateNotValid, WrongLength, WrongControl, P1NotCoded, PidsNotCoded, FillNotZero, ExtendedNotCoded, SharesTooMany, SymbolTooHigh, ScaleNotUsable, NoFrameFits, SeveralFit, WrongBudget}
 use Rattle.runs.specs.declared.State.{State}
 use Rattle.runs.specs.Answers.{numberOf, placeOf}
 use Rattle.queries.specs.Finder.{Channel, none, p1, pids}
@@ -25,6 +25,8 @@ number-lt (PidsNotCoded k) = omega arith
 number-lt (FillNotZero k) = omega arith
 number-lt (ExtendedNotCoded k) = omega arith
 number-lt SharesTooMany = omega arith
+number-lt SymbolTooHigh = omega arith
+number-lt (ScaleNotUsable k) = omega arith
 number-lt NoFrameFits = omega arith
 number-lt SeveralFit = omega arith
 number-lt WrongBudget = omega arith

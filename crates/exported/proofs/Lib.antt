@@ -1,4 +1,5 @@
 mod Places
+mod Filling
 mod Outcomes
 mod Findings
 mod Fields

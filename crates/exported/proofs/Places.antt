@@ -1,4 +1,4 @@
--- The place of every answer of a start, a sending or a reading fits its field of a word. Assumes nothing.
+-- The place of every answer of a start, a sending, a reading or a vector fits its field of a word. Assumes nothing.
 use Prim.Native.Nat.{ℕ, suc, _+_, _^_, _<_, _≤_}
 use mathlib.Core.Path.{_≡_, refl}
 use mathlib.Core.Bool.{Bool, true, false, cond, not}
@@ -7,12 +7,13 @@ use mathlib.Core.List.{List, [], _∷_, _++_}
 use native.Mathlib.Omega.{arith}
 use lib.Dec.{eqb, ltb}
 use lib.ListN.{length}
+use lib.Ieee.{Float}
 use borrow.Author.Tests.{ltb-true}
 use Rattle.bits.specs.Tests.{lowest}
 use Rattle.control.specs.Departs.{departs}
 use Rattle.control.specs.Modes.{covered}
 use Rattle.runs.specs.declared.Answer.{Answer}
-use Rattle.runs.specs.declared.Answer.the-variants.{Success, ModeNotCovered, StateNotValid, WrongLength, WrongControl, P1NotCoded, PidsNotCoded, FillNotZero, ExtendedNotCoded, SharesTooMany, NoFrameFits, SeveralFit, WrongBudget}
+use Rattle.runs.specs.declared.Answer.the-variants.{Success, ModeNotCovered, StateNotValid, WrongLength, WrongControl, P1NotCoded, PidsNotCoded, FillNotZero, ExtendedNotCoded, SharesTooMany, SymbolTooHigh, ScaleNotUsable, NoFrameFits, SeveralFit, WrongBudget}
 use Rattle.runs.specs.declared.Extended.the-variants.{P3, P4}
 use Rattle.runs.specs.declared.Kind.{Kind}
 use Rattle.runs.specs.declared.Kind.the-variants.{Unused, Narrow, Wide}
@@ -21,10 +22,13 @@ use Rattle.runs.specs.Answers.{placeOf, onSuccess}
 use Rattle.runs.specs.Causes.{Size, size, at, first, judge, when, wrong}
 use Rattle.runs.specs.Chain.{p1Bad, pidsBad}
 use Rattle.runs.specs.Lengths.{kindOf, matrixLen, readerLen, senderLen}
-use Rattle.runs.specs.Lent.{Lent, Matrices, Memory}
+use Rattle.runs.specs.Lent.{Lent, Matrices, Memory, Signal}
 use Rattle.runs.specs.Reading.{fillPlace, framePlace, pushed, readAnswer, readStep, received}
 use Rattle.runs.specs.Sending.{lentSizes, sendAnswer, sendStep, sent}
 use Rattle.runs.specs.Starting.{memorySizes, start, startAnswer, started, valid}
+use Rattle.mapping.specs.Points.{usable}
+use Rattle.mapping.specs.Tables.{mapped}
+use Rattle.mapping.specs.Vector.{Vector, answerOf, admitted, filled, imaginaryParts, realParts, vector, vectorSizes}
 
 -- ---- the causes of a list, each not met or met at a place that fits
 
@@ -99,6 +103,8 @@ either place (PidsNotCoded k) done other h l = l
 either place (FillNotZero k) done other h l = l
 either place (ExtendedNotCoded k) done other h l = l
 either place SharesTooMany done other h l = l
+either place SymbolTooHigh done other h l = l
+either place (ScaleNotUsable k) done other h l = l
 either place NoFrameFits done other h l = l
 either place SeveralFit done other h l = l
 either place WrongBudget done other h l = l
@@ -132,3 +138,18 @@ read-place s m l =
     (and (small-at PidsNotCoded (λ k. refl) (below-first 16 (pidsBad (x .pm)) (omega arith)))
     (and (small-at FillNotZero (λ k. refl) (below-cond (ltb (s .age) 2) (below-fill s x) nowhere))
     (and (small-at ExtendedNotCoded (λ k. refl) (below-cond (ltb (s .age) 2) nowhere (below-frame s (pushed m x)))) end))))))))
+
+-- the place of a scale is 0 or 1
+small-scale : (t : Bool) (k : ℕ) → k < 2 → Small (when t (ScaleNotUsable k))
+small-scale true k h = met (ScaleNotUsable k) (omega arith)
+small-scale false k h = not-met
+
+pub fill-place : (mode symbol : ℕ) (lower upper : Float) (g : Signal) (re im : List Float) → placeOf (filled mode symbol lower upper g re im .answer) < 2 ^ 32
+unfolding filled answerOf admitted vectorSizes
+fill-place mode symbol lower upper g re im =
+    either (λ (v : Vector). placeOf (v .answer)) _ (vector Success (realParts mode symbol lower upper g) (imaginaryParts mode symbol lower upper g)) _ (omega arith)
+    (judged (and (small-when (not (mapped mode)) ModeNotCovered refl)
+    (and (small-lengths (vectorSizes mode g re im) (omega arith))
+    (and (small-when (not (ltb symbol 512)) SymbolTooHigh refl)
+    (and (small-scale (not (usable lower)) 0 (omega arith))
+    (and (small-scale (not (usable upper)) 1 (omega arith)) end))))))

@@ -1,7 +1,9 @@
 -- What a call of the C library leaves: its word, and the memory and the buffers, beside what the definitions of runs say.
 use Prim.Native.Nat.{ℕ}
 use mathlib.Core.List.{List}
+use lib.Ieee.{Float}
 use Rattle.allocation.specs.Allocation.{Outcome}
+use Rattle.mapping.specs.Vector.{Vector}
 use Rattle.runs.specs.declared.State.{State}
 use Rattle.runs.specs.Lent.{Lent, Memory, Result}
 use Rattle.runs.specs.Starting.{Started}
@@ -44,3 +46,15 @@ placesLeft word places = record { word = word; places = places }
 
 abbrev pub placesLeftBy : Outcome → PlacesLeft
 placesLeftBy g = placesLeft (answerWord (g .answer)) (g .places)
+
+-- by filling a vector
+pub record VectorLeft : Type 0 where
+  pub word : ℕ
+  pub re : List Float
+  pub im : List Float
+
+abbrev pub vectorLeft : ℕ → (re im : List Float) → VectorLeft
+vectorLeft word re im = record { word = word; re = re; im = im }
+
+abbrev pub vectorLeftBy : Vector → VectorLeft
+vectorLeftBy g = vectorLeft (answerWord (g .answer)) (g .re) (g .im)

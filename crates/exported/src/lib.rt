@@ -1,4 +1,4 @@
-// The entry points of `layer1` for C: numbers and byte slices alone cross, a state as its three numbers, and what a call returns beside its buffers is a word of fields (specs/Words.antt). `include/layer1.h` declares them.
+// The entry points of `layer1` for C: numbers and slices of numbers alone cross, a state as its three numbers, and what a call returns beside its buffers is a word of fields (specs/Words.antt). `include/layer1.h` declares them.
 mod decoded;
 mod lengths;
 mod questions;
@@ -8,6 +8,7 @@ mod rows;
 mod sends;
 mod sharing;
 mod starts;
+mod vectors;
 mod words;
 
 pub use decoded::layer1_nearest;
@@ -24,3 +25,4 @@ pub use sends::layer1_send;
 pub use sharing::layer1_share_places;
 pub use starts::layer1_start_reader;
 pub use starts::layer1_start_sender;
+pub use vectors::layer1_fill_vector;

@@ -3,7 +3,7 @@ use mathlib.Core.Path.{_≡_, refl, ap, _∙_}
 use mathlib.Core.Logic.{_⊎_, inl, inr, _≢_}
 use native.Mathlib.Omega.{arith}
 use Rattle.runs.specs.declared.Answer.{Answer}
-use Rattle.runs.specs.declared.Answer.the-variants.{Success, ModeNotCovered, StateNotValid, WrongLength, WrongControl, P1NotCoded, PidsNotCoded, FillNotZero, ExtendedNotCoded, SharesTooMany, NoFrameFits, SeveralFit, WrongBudget}
+use Rattle.runs.specs.declared.Answer.the-variants.{Success, ModeNotCovered, StateNotValid, WrongLength, WrongControl, P1NotCoded, PidsNotCoded, FillNotZero, ExtendedNotCoded, SharesTooMany, SymbolTooHigh, ScaleNotUsable, NoFrameFits, SeveralFit, WrongBudget}
 use Rattle.runs.specs.Answers.{numberOf, onSuccess}
 use Rattle.runs.specs.Lent.{Result}
 
@@ -19,6 +19,8 @@ either (PidsNotCoded k) = inr (λ x y. refl)
 either (FillNotZero k) = inr (λ x y. refl)
 either (ExtendedNotCoded k) = inr (λ x y. refl)
 either SharesTooMany = inr (λ x y. refl)
+either SymbolTooHigh = inr (λ x y. refl)
+either (ScaleNotUsable k) = inr (λ x y. refl)
 either NoFrameFits = inr (λ x y. refl)
 either SeveralFit = inr (λ x y. refl)
 either WrongBudget = inr (λ x y. refl)
@@ -56,6 +58,8 @@ success-is (PidsNotCoded k) e = absurd (omega arith)
 success-is (FillNotZero k) e = absurd (omega arith)
 success-is (ExtendedNotCoded k) e = absurd (omega arith)
 success-is SharesTooMany e = absurd (omega arith)
+success-is SymbolTooHigh e = absurd (omega arith)
+success-is (ScaleNotUsable k) e = absurd (omega arith)
 success-is NoFrameFits e = absurd (omega arith)
 success-is SeveralFit e = absurd (omega arith)
 success-is WrongBudget e = absurd (omega arith)

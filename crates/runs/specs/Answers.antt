@@ -1,7 +1,7 @@
 -- Document 01, the table of causes, and document 02's: the number and the place that each answer stands for.
 use Prim.Native.Nat.{ℕ}
 use Rattle.runs.specs.declared.Answer.{Answer}
-use Rattle.runs.specs.declared.Answer.the-variants.{Success, ModeNotCovered, StateNotValid, WrongLength, WrongControl, P1NotCoded, PidsNotCoded, FillNotZero, ExtendedNotCoded, SharesTooMany, NoFrameFits, SeveralFit, WrongBudget}
+use Rattle.runs.specs.declared.Answer.the-variants.{Success, ModeNotCovered, StateNotValid, WrongLength, WrongControl, P1NotCoded, PidsNotCoded, FillNotZero, ExtendedNotCoded, SharesTooMany, SymbolTooHigh, ScaleNotUsable, NoFrameFits, SeveralFit, WrongBudget}
 
 abbrev pub numberOf : Answer → ℕ
 numberOf Success = 0
@@ -14,6 +14,8 @@ numberOf (PidsNotCoded frame) = 6
 numberOf (FillNotZero cell) = 7
 numberOf (ExtendedNotCoded frame) = 8
 numberOf SharesTooMany = 10
+numberOf SymbolTooHigh = 11
+numberOf (ScaleNotUsable place) = 12
 numberOf NoFrameFits = 14
 numberOf SeveralFit = 15
 numberOf WrongBudget = 16
@@ -29,6 +31,8 @@ placeOf (PidsNotCoded frame) = frame
 placeOf (FillNotZero cell) = cell
 placeOf (ExtendedNotCoded frame) = frame
 placeOf SharesTooMany = 0
+placeOf SymbolTooHigh = 0
+placeOf (ScaleNotUsable place) = place
 placeOf NoFrameFits = 0
 placeOf SeveralFit = 0
 placeOf WrongBudget = 0
@@ -45,6 +49,8 @@ onSuccess (PidsNotCoded frame) done refused = refused
 onSuccess (FillNotZero cell) done refused = refused
 onSuccess (ExtendedNotCoded frame) done refused = refused
 onSuccess SharesTooMany done refused = refused
+onSuccess SymbolTooHigh done refused = refused
+onSuccess (ScaleNotUsable place) done refused = refused
 onSuccess NoFrameFits done refused = refused
 onSuccess SeveralFit done refused = refused
 onSuccess WrongBudget done refused = refused

@@ -33,6 +33,9 @@ pub enum Answer {
     ExtendedNotCoded(usize),
     // document 02, S-4
     SharesTooMany,
+    // document 02, S-7; the place is 0 for the scale of the lower sideband, 1 for that of the upper
+    SymbolTooHigh,
+    ScaleNotUsable(usize),
     // document 02, S-11
     NoFrameFits,
     SeveralFit,

@@ -1,0 +1,158 @@
+// vector MODE SYMBOL LOWER UPPER: reads PM, PX1, PX2 and control of an L1 frame, and prints for each subcarrier of a symbol its number, its real and its
+// imaginary part and what they come from (document 02, S-7).
+mod numbers;
+mod scales;
+
+use layer1::Source;
+use libc::STDOUT_FILENO;
+use numbers::print_part;
+use programs::Arguments;
+use scales::Typed;
+use scales::scale_of;
+use scales::value_of;
+
+// Prints a subcarrier's number, k - 546.
+fn print_subcarrier(k: usize) {
+    if k < 546 {
+        io::write_all(STDOUT_FILENO, b"-");
+        io::print_decimal(STDOUT_FILENO, (546 - k) as u64);
+        return;
+    }
+    io::print_decimal(STDOUT_FILENO, (k - 546) as u64);
+}
+
+// Prints what a subcarrier carries: the matrix and the first of two columns, the column of the control, or a dash.
+fn print_source(source: Source) {
+    match source {
+        Source::Unused => {
+            io::write_all(STDOUT_FILENO, b"-");
+        }
+        Source::Pm(c) => {
+            io::write_all(STDOUT_FILENO, b"PM ");
+            io::print_decimal(STDOUT_FILENO, c as u64);
+        }
+        Source::Px1(c) => {
+            io::write_all(STDOUT_FILENO, b"PX1 ");
+            io::print_decimal(STDOUT_FILENO, c as u64);
+        }
+        Source::Px2(c) => {
+            io::write_all(STDOUT_FILENO, b"PX2 ");
+            io::print_decimal(STDOUT_FILENO, c as u64);
+        }
+        Source::Control(c) => {
+            io::write_all(STDOUT_FILENO, b"R ");
+            io::print_decimal(STDOUT_FILENO, c as u64);
+        }
+    }
+}
+
+// Prints the line of element k.
+fn print_line(mode: u8, k: usize, re: f32, im: f32) {
+    print_subcarrier(k);
+    io::write_all(STDOUT_FILENO, b" ");
+    print_part(re);
+    io::write_all(STDOUT_FILENO, b" ");
+    print_part(im);
+    io::write_all(STDOUT_FILENO, b" ");
+    print_source(layer1::source_at(mode, k));
+    io::write_all(STDOUT_FILENO, b"\n");
+}
+
+// Prints a line for each element of the vector.
+fn print_all(mode: u8, re: &[f32; 1093], im: &[f32; 1093]) {
+    let mut k: usize = 0;
+    while k < 1093 {
+        print_line(mode, k, re[k], im[k]);
+        k += 1;
+    }
+}
+
+// Reads the L1 frame and prints the vector. An input that ends early lends a buffer that is too short, which `fill_vector` refuses.
+fn answer_symbol(
+    mode: u8,
+    symbol: usize,
+    lower: f32,
+    upper: f32,
+    pm: &mut [u8],
+    px1: &mut [u8],
+    px2: &mut [u8],
+    control: &mut [u8],
+) {
+    let came = programs::read_four(pm, px1, px2, control);
+    let a = came.first;
+    let b = came.second;
+    let c = came.third;
+    let d = came.fourth;
+    let mut re = [0.0f32; 1093];
+    let mut im = [0.0f32; 1093];
+    let answer = layer1::fill_vector(
+        mode,
+        symbol,
+        lower,
+        upper,
+        &pm[..a],
+        &px1[..b],
+        &px2[..c],
+        &control[..d],
+        &mut re,
+        &mut im,
+    );
+    let number = layer1::number(answer);
+    if number != 0 {
+        programs::refuse(number, layer1::place(answer), 0);
+        return;
+    }
+    print_all(mode, &re, &im);
+}
+
+// The buffers of an L1 frame, each of its length in this mode.
+fn run(mode: u8, symbol: usize, lower: f32, upper: f32) {
+    let lengths = layer1::reader_lengths(mode);
+    let mut pm = [0u8; 46080];
+    let mut px1 = [0u8; 9216];
+    let mut px2 = [0u8; 9216];
+    let mut control = [0u8; 4096];
+    let b = programs::within(lengths[5], &px1);
+    let c = programs::within(lengths[6], &px2);
+    answer_symbol(
+        mode,
+        symbol,
+        lower,
+        upper,
+        &mut pm,
+        &mut px1[..b],
+        &mut px2[..c],
+        &mut control,
+    );
+}
+
+// The scale that an argument of the program gives.
+fn scale(i: usize) -> Typed {
+    let mut text = io::buffer();
+    let n = os::arg(i, &mut text);
+    scale_of(&text[..n])
+}
+
+fn usage() {
+    programs::usage(b"vector MODE SYMBOL LOWER UPPER");
+}
+
+// Goes on with both scales.
+fn with_scales(mode: u8, symbol: u64, lower: Typed, upper: Typed) {
+    match lower {
+        Typed::Times(a) => {
+            match upper {
+                Typed::Times(b) => run(mode, symbol as usize, value_of(a), value_of(b)),
+                Typed::NotExact => usage(),
+            }
+        }
+        Typed::NotExact => usage(),
+    }
+}
+
+fn main() {
+    match programs::read_arguments(5) {
+        Arguments::Run { mode, count } => with_scales(mode, count, scale(3), scale(4)),
+        Arguments::Wrong => usage(),
+    }
+}
