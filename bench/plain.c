@@ -8,7 +8,7 @@
 #include <stdlib.h>
 #include <string.h>
 
-enum { P1_BITS = 146176, P1_CODED = 365440, PIDS_BITS = 80 };
+enum { U_BITS = 365440, PIDS_BITS = 80, DELAY = 3 };
 
 static const int order[20] = {10, 2, 18, 6, 14, 8, 16, 0, 12, 4, 11, 3, 19, 7, 15, 9, 17, 1, 13, 5};
 static const unsigned generators[3] = {0133, 0171, 0165};
@@ -90,7 +90,7 @@ static void decode_channel(int half, const uint8_t *coded, size_t bits, size_t c
 
 static size_t pm_cell(size_t p, size_t b, size_t k) { return (32 * b + k * 11 % 32) * 720 + 36 * p + (k * 11 + k / 288) % 36; }
 
-static size_t p1_cell(size_t i) {
+static size_t u_cell(size_t i) {
     size_t p = (size_t)order[i % 20];
     return pm_cell(p, (i / 20 + p * 7) % 16, i / 320);
 }
@@ -136,6 +136,22 @@ static void px_fill(const struct px *k, size_t half, uint8_t *reached, const uin
     }
 }
 
+// ---- 10.4.2.3 and 10.4.2.4
+
+// The matrix of a P1' frame, by interleaver I; J partitions, runs of M.
+struct path { size_t parts, run; const int *order; };
+
+static const int order5[4] = {0, 1, 2, 3}, order6[8] = {0, 1, 3, 2, 4, 5, 7, 6};
+static const struct path path5 = {4, 2, order5}, path6 = {8, 1, order6};
+
+static size_t path_bits(const struct path *k) { return 64 * 36 * k->parts; }
+
+static size_t path_cell(const struct path *k, size_t i) {
+    size_t p = (size_t)k->order[i / k->run % k->parts], n = i / (2 * k->parts);
+    size_t b = (k->run == 1 ? i / k->parts + p * 7 : i + n) % 2;
+    return (32 * b + n * 11 % 32) * 36 * k->parts + 36 * p + (n * 11 + n / 288) % 36;
+}
+
 // ---- 11
 
 static int odd(uint32_t sequence, int from, int to) {
@@ -166,8 +182,16 @@ static void control_of(unsigned mode, uint8_t *control) {
 
 // ---- runs
 
-static uint8_t p1[18272], pids[160], p3[2][4608], pm[46080], matrix[2][9216], control[4096], coded[45680], coded16[400];
-static uint8_t memory[2][27648], reached[2][18432];
+// Frames and bits of P1, bits of P2, the extended channels, and the second path of P1.
+struct mode { unsigned number; size_t p1_frames, p1_bits, p2_bits; const struct px *extended[2]; const struct path *path; };
+
+static const struct mode modes[6] = {
+    {1, 1, 146176, 0, {NULL, NULL}, NULL},   {2, 1, 146176, 0, {&narrow, NULL}, NULL},     {3, 1, 146176, 0, {&wide, NULL}, NULL},
+    {11, 1, 146176, 0, {&wide, &wide}, NULL}, {5, 8, 4608, 109312, {&wide, NULL}, &path5}, {6, 8, 9216, 72448, {NULL, NULL}, &path6},
+};
+
+static uint8_t p1[18272], pids[160], p2[13664], p3[2][4608], pm[46080], matrix[2][18432], control[4096], coded[45680], coded16[400], delayed[18432];
+static uint8_t memory[2][27648], reached[2][18432], delay[DELAY * 9216], newest[9216];
 
 static void in(void *bytes, size_t n) {
     if (fread(bytes, 1, n, stdin) != n) exit(1);
@@ -177,69 +201,100 @@ static void out(const void *bytes, size_t n) {
     if (fwrite(bytes, 1, n, stdout) != n) exit(1);
 }
 
-static const struct px *kind_of(unsigned mode, int channel) {
-    if (channel) return mode == 11 ? &wide : NULL;
-    return mode == 1 ? NULL : mode == 2 ? &narrow : &wide;
+static size_t p1_bytes(const struct mode *m) { return m->p1_frames * m->p1_bits / 8; }
+
+static size_t matrix_bytes(const struct mode *m, int e) {
+    if (m->extended[e]) return m->extended[e]->bits / 8;
+    return e == 1 && m->path ? path_bits(m->path) : 0;
 }
 
-static void send_frame(unsigned mode, size_t half) {
-    in(p1, sizeof p1), in(pids, sizeof pids);
+static void shift(uint8_t *bytes, size_t third, const uint8_t *last) {
+    memmove(bytes, bytes + third, 2 * third);
+    memcpy(bytes + 2 * third, last, third);
+}
+
+// P1' from the oldest scrambled frames; those of this L1 frame stand in between.
+static void send_path(const struct mode *m) {
+    size_t bits = path_bits(m->path);
+    encode(1, delay, m->p1_bits, m->p1_frames, delayed);
+    for (size_t i = 0; i < m->p1_frames * bits; i++) put(matrix[1], i / bits * bits + path_cell(m->path, i % bits), get(delayed, i));
+    shift(delay, p1_bytes(m), between);
+}
+
+static void send_frame(const struct mode *m, size_t half) {
+    size_t p1_coded = m->p1_frames * coded_bits(0, m->p1_bits);
+    in(p1, p1_bytes(m)), in(pids, sizeof pids), in(p2, m->p2_bits / 8);
     for (int e = 0; e < 2; e++)
-        if (kind_of(mode, e)) in(p3[e], kind_of(mode, e)->bits / 16);
-    encode_channel(0, p1, P1_BITS, 1, coded);
-    for (size_t i = 0; i < P1_CODED; i++) put(pm, p1_cell(i), get(coded, i));
+        if (m->extended[e]) in(p3[e], m->extended[e]->bits / 16);
+    encode_channel(0, p1, m->p1_bits, m->p1_frames, coded);
+    if (m->path) send_path(m);
+    if (m->p2_bits) encode_channel(0, p2, m->p2_bits, 1, coded + p1_coded / 8);
+    for (size_t i = 0; i < U_BITS; i++) put(pm, u_cell(i), get(coded, i));
     encode_channel(0, pids, PIDS_BITS, 16, coded16);
     for (size_t i = 0; i < 3200; i++) put(pm, pids_cell(i), get(coded16, i));
-    out(pm, sizeof pm);
     for (int e = 0; e < 2; e++) {
-        const struct px *k = kind_of(mode, e);
+        const struct px *k = m->extended[e];
         if (!k) continue;
         encode_channel(1, p3[e], k->bits / 16, 8, coded);
         px_pass(k, half, coded, memory[e], matrix[e]);
-        out(matrix[e], k->bits / 8);
     }
-    control_of(mode, control);
-    out(control, sizeof control);
+    control_of(m->number, control);
+    out(pm, sizeof pm), out(matrix[0], matrix_bytes(m, 0)), out(matrix[1], matrix_bytes(m, 1)), out(control, sizeof control);
 }
 
-static void read_frame(unsigned mode, size_t half, int age) {
-    in(pm, sizeof pm);
-    for (int e = 0; e < 2; e++)
-        if (kind_of(mode, e)) in(matrix[e], kind_of(mode, e)->bits / 8);
+// The P1 frames that P1' completes, which must be those that PM brought before; this L1 frame's stand in between.
+static void read_path(const struct mode *m, long age) {
+    size_t bits = path_bits(m->path);
+    memcpy(newest, between, p1_bytes(m));
+    for (size_t i = 0; i < m->p1_frames * bits; i++) put(delayed, i, get(matrix[1], i / bits * bits + path_cell(m->path, i % bits)));
+    decode_channel(1, delayed, m->p1_bits, m->p1_frames, p1);
+    if (memcmp(between, delay, p1_bytes(m))) exit(1);
+    shift(delay, p1_bytes(m), newest);
+    if (age >= DELAY) out(p1, p1_bytes(m));
+}
+
+static void read_extended(const struct px *k, int e, size_t half, long age) {
+    shift(memory[e], k->bits / 8, matrix[e]);
+    if (age < 2) {
+        px_fill(k, half, reached[e], matrix[e]);
+        return;
+    }
+    px_gather(k, half, memory[e], coded);
+    decode_channel(1, coded, k->bits / 16, 8, p3[e]);
+    out(p3[e], k->bits / 16);
+}
+
+static void read_frame(const struct mode *m, size_t half, long age) {
+    size_t p1_coded = m->p1_frames * coded_bits(0, m->p1_bits);
     uint8_t sent[4096];
-    in(sent, sizeof sent);
-    control_of(mode, control);
+    in(pm, sizeof pm), in(matrix[0], matrix_bytes(m, 0)), in(matrix[1], matrix_bytes(m, 1)), in(sent, sizeof sent);
+    control_of(m->number, control);
     if (memcmp(sent, control, sizeof sent)) exit(1);
-    for (size_t i = 0; i < P1_CODED; i++) put(coded, i, get(pm, p1_cell(i)));
-    decode_channel(0, coded, P1_BITS, 1, p1);
+    for (size_t i = 0; i < U_BITS; i++) put(coded, i, get(pm, u_cell(i)));
+    decode_channel(0, coded, m->p1_bits, m->p1_frames, p1);
+    if (m->path)
+        read_path(m, age);
+    else
+        out(p1, p1_bytes(m));
+    if (m->p2_bits) decode_channel(0, coded + p1_coded / 8, m->p2_bits, 1, p2);
     for (size_t i = 0; i < 3200; i++) put(coded16, i, get(pm, pids_cell(i)));
     decode_channel(0, coded16, PIDS_BITS, 16, pids);
-    out(p1, sizeof p1), out(pids, sizeof pids);
-    for (int e = 0; e < 2; e++) {
-        const struct px *k = kind_of(mode, e);
-        if (!k) continue;
-        size_t bytes = k->bits / 8;
-        memmove(memory[e], memory[e] + bytes, 2 * bytes);
-        memcpy(memory[e] + 2 * bytes, matrix[e], bytes);
-        if (age < 2) {
-            px_fill(k, half, reached[e], matrix[e]);
-            continue;
-        }
-        px_gather(k, half, memory[e], coded);
-        decode_channel(1, coded, k->bits / 16, 8, p3[e]);
-        out(p3[e], bytes / 2);
-    }
+    out(pids, sizeof pids), out(p2, m->p2_bits / 8);
+    for (int e = 0; e < 2; e++)
+        if (m->extended[e]) read_extended(m->extended[e], e, half, age);
 }
 
 int main(int argc, char **argv) {
     if (argc != 4) return 2;
-    unsigned mode = (unsigned)atoi(argv[2]);
+    const struct mode *m = modes;
+    while (m < modes + 6 && m->number != (unsigned)atoi(argv[2])) m++;
+    if (m == modes + 6) return 2;
     long count = atol(argv[3]);
     for (long t = 0; t < count; t++) {
         if (strcmp(argv[1], "send") == 0)
-            send_frame(mode, (size_t)(t % 2));
+            send_frame(m, (size_t)(t % 2));
         else
-            read_frame(mode, (size_t)(t % 2), t < 2 ? (int)t : 2);
+            read_frame(m, (size_t)(t % 2), t);
     }
     return 0;
 }

@@ -1,7 +1,7 @@
-/* The FM Layer 1 bit chain of SY_IDD_1011s revision G, with the house matters of document 01, for C.
+/* The FM Layer 1 bit chain of SY_IDD_1011s revision G, with the house matters of documents 01 and 02, for C.
  *
  * The functions are those of the proved crate `exported`: its contracts (crates/exported/src, crates/exported/specs) say exactly what
- * each returns and what it leaves in every buffer. Every call returns, and refuses what document 01 refuses; none has a condition on
+ * each returns and what it leaves in every buffer. Every call returns, and refuses what the documents refuse; none has a condition on
  * numbers, lengths or the bytes themselves.
  *
  * What the caller must guarantee, since the proofs assume it:
@@ -14,19 +14,21 @@
  * - the stack has room for LAYER1_SEND_STACK or LAYER1_READ_STACK bytes, below what the caller itself uses.
  * Nothing is allocated, and nothing of C but memcpy and memset is called.
  *
- * A run: a start, then sendings, or then readings. Each is handed the state in the word of the last call, and the memory as it left it.
- * Every buffer has exactly the length that layer1_sender_length or layer1_reader_length gives for the mode and its place; an unused
+ * A run: a start, then sendings, or then readings. Each is handed the state in the word of the last call, and the memories as it left
+ * them. Every buffer has exactly the length that layer1_sender_length or layer1_reader_length gives for the mode and its place; an unused
  * channel's has length 0. A refused call leaves the state and all buffers as they were.
  *
- * The numbers of document 01's table of causes, and the place that comes with each:
+ * The numbers of the table of causes, and the place that comes with each:
  *   0  success                                                                  0
- *   1  start, vector: the mode is not 1, 2, 3 or 11                             0
+ *   1  start: the mode is not 1, 2, 3, 5, 6 or 11; vector: not 1, 2, 3 or 11      0
  *   2  the state is not valid                                                   0
  *   3  a length is wrong, or a row, column, block pair or channel out of range  the first such buffer or argument, from 0
  *   4  a control block is not the one of this mode and count                    the lowest such block
- *   5  the P1 cells are no coded frame                                          0
+ *   5  a P1 frame or P2 in PM is no coded frame; at age 3 a P1' frame in PX2    the lowest such P1 frame, from 0; 8 for P2
+ *      is none, or not the P1 frame of the L1 frame three earlier
  *   6  the PIDS cells are no coded frame                                        the lowest such frame
- *   7  a cell that can show only the zero fill is 1                             the lowest such cell, through PX1, then PX2
+ *   7  a cell that can show only the zero fill, or at ages 0 to 2 only the      the lowest such cell, through PX1, then PX2; in MP5
+ *      delay's zeros, is 1                                                      and MP6 behind the 368,640 cells of PM
  *   8  a P3 or P4 frame of the L1 frame two earlier is no coded frame           0 to 7 for P3, 8 to 15 for P4, the lowest
  * and of document 02's:
  *  10  the shares add up to more than 16                                        0
@@ -50,10 +52,11 @@ extern "C" {
 #define LAYER1_SEND_STACK 61440
 #define LAYER1_READ_STACK 118784
 
-/* The places of the buffers of a sending or a reading. */
+/* The places of the buffers of a sending or a reading. PX2 has P4's matrices in MP11, and those of P1' in MP5 and MP6. */
 enum layer1_place {
     LAYER1_P1,
     LAYER1_PIDS,
+    LAYER1_P2,
     LAYER1_P3,
     LAYER1_P4,
     LAYER1_PM,
@@ -61,39 +64,44 @@ enum layer1_place {
     LAYER1_PX2,
     LAYER1_CONTROL,
     LAYER1_MEMORY3,
-    LAYER1_MEMORY4
+    LAYER1_MEMORY4,
+    LAYER1_DELAY
 };
 
-/* Starts a sender, a reader: zeroes its memory and returns the state before the first L1 frame. Returns an outcome word. */
-uint64_t layer1_start_sender(uint8_t mode, uint8_t *memory3, size_t memory3_len, uint8_t *memory4, size_t memory4_len);
-uint64_t layer1_start_reader(uint8_t mode, uint8_t *memory3, size_t memory3_len, uint8_t *memory4, size_t memory4_len);
+/* Starts a sender, a reader: zeroes its memories and returns the state before the first L1 frame. Returns an outcome word. Refused under 3:
+ * the memory for P3 at place 0, that for P4 at 1, the delay memory at 2. */
+uint64_t layer1_start_sender(uint8_t mode, uint8_t *memory3, size_t memory3_len, uint8_t *memory4, size_t memory4_len,
+                             uint8_t *delay, size_t delay_len);
+uint64_t layer1_start_reader(uint8_t mode, uint8_t *memory3, size_t memory3_len, uint8_t *memory4, size_t memory4_len,
+                             uint8_t *delay, size_t delay_len);
 
-/* Sends an L1 frame: writes PM, PX1, PX2 and control from the transfer frames, and the sender's memory. Returns an outcome word. */
+/* Sends an L1 frame: writes PM, PX1, PX2 and control from the transfer frames, and the sender's memories. Returns an outcome word. */
 uint64_t layer1_send(uint8_t mode, uint8_t half, uint8_t age,
-                     const uint8_t *p1, size_t p1_len, const uint8_t *pids, size_t pids_len,
+                     const uint8_t *p1, size_t p1_len, const uint8_t *pids, size_t pids_len, const uint8_t *p2, size_t p2_len,
                      const uint8_t *p3, size_t p3_len, const uint8_t *p4, size_t p4_len,
                      uint8_t *pm, size_t pm_len, uint8_t *px1, size_t px1_len, uint8_t *px2, size_t px2_len,
                      uint8_t *control, size_t control_len,
-                     uint8_t *memory3, size_t memory3_len, uint8_t *memory4, size_t memory4_len);
+                     uint8_t *memory3, size_t memory3_len, uint8_t *memory4, size_t memory4_len, uint8_t *delay, size_t delay_len);
 
-/* Reads an L1 frame: writes its P1 and PIDS frames and, from the third on, the P3 and P4 frames of the one two earlier, and the reader's
- * memory. Returns an outcome word. */
+/* Reads an L1 frame: writes its PIDS and P2 frames, its P1 frames or, in MP5 and MP6 and from the fourth on, those of the one three earlier,
+ * from the third on the P3 and P4 frames of the one two earlier, and the reader's memories. Returns an outcome word. */
 uint64_t layer1_read(uint8_t mode, uint8_t half, uint8_t age,
-                     uint8_t *p1, size_t p1_len, uint8_t *pids, size_t pids_len,
+                     uint8_t *p1, size_t p1_len, uint8_t *pids, size_t pids_len, uint8_t *p2, size_t p2_len,
                      uint8_t *p3, size_t p3_len, uint8_t *p4, size_t p4_len,
                      const uint8_t *pm, size_t pm_len, const uint8_t *px1, size_t px1_len, const uint8_t *px2, size_t px2_len,
                      const uint8_t *control, size_t control_len,
-                     uint8_t *memory3, size_t memory3_len, uint8_t *memory4, size_t memory4_len);
+                     uint8_t *memory3, size_t memory3_len, uint8_t *memory4, size_t memory4_len, uint8_t *delay, size_t delay_len);
 
 /* The length of the buffer at a place of a sending, of a reading; 0 past the last place. For a mode that is not covered, that of MP3. */
 size_t layer1_sender_length(uint8_t mode, size_t place);
 size_t layer1_reader_length(uint8_t mode, size_t place);
 
-/* Whose coded bit stands in a cell of PM. Returns a finding word. */
+/* Whose coded bit stands in a cell of PM, in the modes without P2. Returns a finding word. */
 uint64_t layer1_find(size_t row, size_t column);
 
 /* Whose coded bit stands in a cell of PX1 (channel 3) or PX2 (channel 4), in a block pair's matrix, of the L1 frame that this state comes
- * before. Returns a finding word. Refused under 3: the channel at place 0, the block pair at 1, the row at 2, the column at 3. */
+ * before. Returns a finding word. Refused under 3: a channel that the mode does not have, or any in MP5 and MP6, at place 0, the block pair
+ * at 1, the row at 2, the column at 3. */
 uint64_t layer1_find_px(uint8_t mode, uint8_t half, uint8_t age, uint8_t channel, size_t pair, size_t row, size_t column);
 
 /* The mode and the block count of one control block of 256 bytes. Returns a lookup word. */

@@ -4,7 +4,7 @@ use std::io::{self, BufRead, Write};
 use std::sync::OnceLock;
 
 use crate::interleaving::{
-    pm_matrix, ALL_PIDS_CODED_BITS, P1_CODED_BITS, PIDS_CODED_BITS, PM_COLUMNS, PM_ROWS,
+    pm_matrix, ALL_PIDS_CODED_BITS, PIDS_CODED_BITS, PM_COLUMNS, PM_ROWS, U_BITS,
 };
 
 /// The channels that meet in the PM matrix.
@@ -31,9 +31,7 @@ type Owner = (Channel, usize, usize);
 fn owners() -> &'static [Option<Owner>] {
     static OWNERS: OnceLock<Vec<Option<Owner>>> = OnceLock::new();
     OWNERS.get_or_init(|| {
-        let p1: Vec<_> = (0..P1_CODED_BITS)
-            .map(|i| Some((Channel::P1, 0, i)))
-            .collect();
+        let p1: Vec<_> = (0..U_BITS).map(|i| Some((Channel::P1, 0, i))).collect();
         let pids: Vec<_> = (0..ALL_PIDS_CODED_BITS)
             .map(|i| Some((Channel::Pids, i / PIDS_CODED_BITS, i % PIDS_CODED_BITS)))
             .collect();

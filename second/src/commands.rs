@@ -5,13 +5,12 @@ use std::io::{self, BufRead, Read, Write};
 use crate::coding::Rate;
 use crate::control::control;
 use crate::draw::{cell_list, Damage, Draw};
-use crate::modes::{Mode, P1_BITS, PIDS_BITS};
+use crate::modes::{Mode, EXTENDED_WAIT, P1_BITS, PIDS_BITS};
 use crate::nearest;
 use crate::packing::{pack, unpack};
 use crate::places::{self, INPUT_BYTES};
-use crate::run::{
-    self, code_frames, decode_frames, Answer, Reading, Refusal, Sending, Side, State,
-};
+use crate::reading::decode_frames;
+use crate::run::{self, code_frames, Answer, Reading, Refusal, Sending, Side, State};
 use crate::scrambling::scramble;
 use crate::sheet::{take_list, Sheet, GREATEST_COUNT, LIST_BYTES};
 use crate::vector::{self, Mapping};
@@ -21,6 +20,8 @@ use crate::vector::{self, Mapping};
 pub enum Stop {
     Refused { refusal: Refusal, frame: u64 },
     NoList,
+    /// Document 02, S-9: the finder keeps to the older modes.
+    NoSheet,
     TooLong,
     Usage,
     Different(String),
@@ -69,6 +70,15 @@ fn covered(mode: u64) -> Result<&'static Mode, Stop> {
     Mode::of_number(mode).ok_or(refused(1, 0, 0))
 }
 
+/// Document 02, S-9: the covered mode of a number, if the cell finder knows it: one without P1'.
+fn in_finder(mode: u64) -> Result<&'static Mode, Stop> {
+    let mode = covered(mode)?;
+    match mode.delayed {
+        None => Ok(mode),
+        Some(_) => Err(Stop::NoSheet),
+    }
+}
+
 /// Document 01, lent lengths: the next bytes of the input, fewer if it ends before.
 fn take(input: &mut impl Read, length: usize) -> io::Result<Vec<u8>> {
     let mut bytes = Vec::with_capacity(length);
@@ -76,93 +86,100 @@ fn take(input: &mut impl Read, length: usize) -> io::Result<Vec<u8>> {
     Ok(bytes)
 }
 
-/// Document 01, lent lengths: the next four buffers of the input.
-fn take_four(input: &mut impl Read, lengths: [usize; 4]) -> io::Result<[Vec<u8>; 4]> {
-    Ok([
-        take(input, lengths[0])?,
-        take(input, lengths[1])?,
-        take(input, lengths[2])?,
-        take(input, lengths[3])?,
-    ])
+/// Documents 01 and 02, lent lengths: the next buffers of the input.
+fn take_each<const N: usize>(
+    input: &mut impl Read,
+    lengths: [usize; N],
+) -> io::Result<[Vec<u8>; N]> {
+    let mut buffers = lengths.map(|_| Vec::new());
+    for (buffer, length) in buffers.iter_mut().zip(lengths) {
+        *buffer = take(input, length)?;
+    }
+    Ok(buffers)
 }
 
-/// Document 01, operations: one side of a run with its memories.
+/// Documents 01 and 02, operations: one side of a run with its memories.
 #[derive(Clone)]
 struct Run {
     mode: &'static Mode,
     state: State,
-    memory_p3: Vec<u8>,
-    memory_p4: Vec<u8>,
+    /// For P3, for P4, and the delay memory.
+    memories: [Vec<u8>; 3],
 }
 
 impl Run {
-    /// Document 01, operations: a start with memories of the right lengths.
+    /// Documents 01 and 02, operations: a start with memories of the right lengths.
     fn start(side: Side, number: u64) -> Result<Run, Stop> {
         let mode = covered(number)?;
-        let [p3, p4] = match side {
-            Side::Sender => mode.sender_memory_lengths(),
-            Side::Reader => mode.reader_memory_lengths(),
-        };
-        let (mut memory_p3, mut memory_p4) = (vec![0; p3], vec![0; p4]);
-        let answer = run::start(side, number, &mut memory_p3, &mut memory_p4);
+        let mut memories = side.memory_lengths(mode).map(|length| vec![0; length]);
+        let lent = memories.each_mut().map(Vec::as_mut_slice);
+        let answer = run::start(side, number, lent);
         if answer.number != 0 {
             return Err(refused(answer.number, answer.place, 0));
         }
         Ok(Run {
             mode,
             state: answer.state,
-            memory_p3,
-            memory_p4,
+            memories,
         })
     }
 
-    /// Document 01, operations: sends P1, PIDS, P3 and P4; gives PM, PX1, PX2 and control.
-    fn send(&mut self, frames: &[Vec<u8>; 4]) -> (Answer, [Vec<u8>; 4]) {
-        let [p1, pids, p3, p4] = frames;
+    /// Documents 01 and 02, operations: sends P1, PIDS, P2, P3 and P4; gives PM, PX1, PX2 and
+    /// control.
+    fn send(&mut self, frames: &[Vec<u8>; 5]) -> (Answer, [Vec<u8>; 4]) {
+        let [p1, pids, p2, p3, p4] = frames;
         let [mut pm, mut px1, mut px2, mut control] =
             self.mode.matrix_lengths().map(|length| vec![0; length]);
+        let [memory_p3, memory_p4, delay] = &mut self.memories;
         let mut lent = Sending {
             p1,
             pids,
+            p2,
             p3,
             p4,
             pm: &mut pm,
             px1: &mut px1,
             px2: &mut px2,
             control: &mut control,
-            memory_p3: &mut self.memory_p3,
-            memory_p4: &mut self.memory_p4,
+            memory_p3,
+            memory_p4,
+            delay,
         };
         let answer = run::send(self.state, &mut lent);
         self.state = answer.state;
         (answer, [pm, px1, px2, control])
     }
 
-    /// Document 01, operations: reads PM, PX1, PX2 and control; gives the returned frames.
+    /// Documents 01 and 02, operations: reads PM, PX1, PX2 and control; gives the returned frames.
     fn read(&mut self, matrices: &[Vec<u8>; 4]) -> (Answer, Vec<u8>) {
         let [pm, px1, px2, control] = matrices;
-        let [mut p1, mut pids, mut p3, mut p4] =
+        let [mut p1, mut pids, mut p2, mut p3, mut p4] =
             self.mode.frame_lengths().map(|length| vec![0; length]);
+        let [memory_p3, memory_p4, delay] = &mut self.memories;
         let mut lent = Reading {
             p1: &mut p1,
             pids: &mut pids,
+            p2: &mut p2,
             p3: &mut p3,
             p4: &mut p4,
             pm,
             px1,
             px2,
             control,
-            memory_p3: &mut self.memory_p3,
-            memory_p4: &mut self.memory_p4,
+            memory_p3,
+            memory_p4,
+            delay,
         };
         let age = self.state.age;
         let answer = run::read(self.state, &mut lent);
         self.state = answer.state;
-        let returned = match (answer.number, age) {
-            (0, 2) => [p1, pids, p3, p4].concat(),
-            (0, _) => [p1, pids].concat(),
-            _ => Vec::new(),
-        };
+        let waits = [self.mode.delay(), 0, 0, EXTENDED_WAIT, EXTENDED_WAIT];
+        let mut returned = Vec::new();
+        for (frames, wait) in [p1, pids, p2, p3, p4].iter().zip(waits) {
+            if answer.number == 0 && age >= wait {
+                returned.extend_from_slice(frames);
+            }
+        }
         (answer, returned)
     }
 }
@@ -188,7 +205,7 @@ pub fn send(
 ) -> Result<(), Stop> {
     let mut sender = Run::start(Side::Sender, mode)?;
     for frame in 0..count {
-        let frames = take_four(input, sender.mode.frame_lengths())?;
+        let frames = take_each(input, sender.mode.frame_lengths())?;
         let (answer, matrices) = sender.send(&frames);
         if answer.number != 0 {
             return Err(refused(answer.number, answer.place, frame));
@@ -205,13 +222,13 @@ pub fn sheet(
     input: &mut impl BufRead,
     output: &mut impl Write,
 ) -> Result<(), Stop> {
-    let mut sender = Run::start(Side::Sender, mode)?;
+    let mut sender = Run::start(Side::Sender, in_finder(mode)?.number)?;
     let count = count.min(GREATEST_COUNT);
     let list = take_list(input)?.ok_or(Stop::NoList)?;
     let mut sheet = Sheet::new(sender.mode, count, &list);
     output.write_all(sheet.refusals().as_bytes())?;
     for frame in 0..count {
-        let frames = take_four(input, sender.mode.frame_lengths())?;
+        let frames = take_each(input, sender.mode.frame_lengths())?;
         let (answer, matrices) = sender.send(&frames);
         if answer.number != 0 {
             return Err(refused(answer.number, answer.place, frame));
@@ -223,7 +240,7 @@ pub fn sheet(
 
 /// House matter: draws a cell list.
 pub fn draw_cells(seed: u64, mode: u64, count: u64, output: &mut impl Write) -> Result<(), Stop> {
-    output.write_all(&cell_list(seed, covered(mode)?, count))?;
+    output.write_all(&cell_list(seed, in_finder(mode)?, count))?;
     Ok(())
 }
 
@@ -236,7 +253,7 @@ pub fn read(
 ) -> Result<(), Stop> {
     let mut reader = Run::start(Side::Reader, mode)?;
     for frame in 0..count {
-        let matrices = take_four(input, reader.mode.matrix_lengths())?;
+        let matrices = take_each(input, reader.mode.matrix_lengths())?;
         let (answer, returned) = reader.read(&matrices);
         if answer.number != 0 {
             return Err(refused(answer.number, answer.place, frame));
@@ -256,7 +273,7 @@ pub fn read_on(
 ) -> Result<(), Stop> {
     let mut reader = Run::start(Side::Reader, mode)?;
     for frame in 0..count {
-        let matrices = take_four(input, reader.mode.matrix_lengths())?;
+        let matrices = take_each(input, reader.mode.matrix_lengths())?;
         let (answer, returned) = reader.read(&matrices);
         let Answer { number, place, .. } = answer;
         if number != 0 {
@@ -285,12 +302,13 @@ pub fn damage(
     input: &mut impl Read,
     output: &mut impl Write,
 ) -> Result<(), Stop> {
-    let lengths = covered(mode)?.matrix_lengths();
-    let mut damage = Damage::new(seed, count);
+    let mode = covered(mode)?;
+    let lengths = mode.matrix_lengths();
+    let mut damage = Damage::new(seed, mode, count);
     for frame in 0..count {
-        let mut matrices = take_four(input, lengths)?;
+        let mut matrices = take_each(input, lengths)?;
         if let Some(short) = (0..4).find(|&m| matrices[m].len() != lengths[m]) {
-            return Err(refused(3, 4 + short, frame));
+            return Err(refused(3, mode.frame_lengths().len() + short, frame));
         }
         damage.frame(frame, &mut matrices);
         output.write_all(&matrices.concat())?;
@@ -308,9 +326,9 @@ pub fn damage_before(
     output: &mut impl Write,
 ) -> Result<(), Stop> {
     let mut reader = Run::start(Side::Reader, mode)?;
-    let mut damage = Damage::new(seed, count);
+    let mut damage = Damage::new(seed, reader.mode, count);
     for frame in 0..count {
-        let matrices = take_four(input, reader.mode.matrix_lengths())?;
+        let matrices = take_each(input, reader.mode.matrix_lengths())?;
         let copy = refused_copy(&reader, &mut damage, &matrices);
         let (answer, _) = reader.read(&matrices);
         if answer.number != 0 {
@@ -382,7 +400,7 @@ const VECTORS: [(Rate, usize, usize); 4] = [
 
 /// Sections 8, 9 and 11: scrambled, coded and returned frames, and the control blocks.
 pub fn vectors(input: &mut impl Read, output: &mut impl Write) -> Result<(), Stop> {
-    let buffers = take_four(input, VECTORS.map(|(_, _, length)| length))?;
+    let buffers = take_each(input, VECTORS.map(|(_, _, length)| length))?;
     if let Some(short) = (0..4).find(|&n| buffers[n].len() != VECTORS[n].2) {
         return Err(refused(3, short, 0));
     }
@@ -428,7 +446,7 @@ pub fn vector(
     input: &mut impl Read,
     output: &mut impl Write,
 ) -> Result<(), Stop> {
-    let matrices = take_four(input, covered(mode)?.matrix_lengths())?;
+    let matrices = take_each(input, covered(mode)?.matrix_lengths())?;
     let lent = Mapping {
         mode,
         symbol,

@@ -1,9 +1,11 @@
 //! Document 01, sheet guarantees: drawn frames and cells, and damage to matrices, for the test
 //! room.
 
-use crate::interleaving::{interleaver_two, ALL_PIDS_CODED_BITS, PM_COLUMNS, PM_ROWS};
-use crate::modes::Mode;
-use crate::packing::flip;
+use crate::coding::{encode, Rate};
+use crate::interleaving::{interleaver_two, pm_cells, Partitions};
+use crate::interleaving::{ALL_PIDS_CODED_BITS, PM_COLUMNS, PM_ROWS, U_BITS};
+use crate::modes::{Frames, Mode, BLOCK_PAIRS, PIDS};
+use crate::packing::{flip, unpack};
 use crate::sheet::LIST_BYTES;
 
 /// A splitmix generator of 64-bit numbers.
@@ -52,62 +54,202 @@ impl Draw {
     }
 }
 
+/// The matrices of an L1 frame: PM, PX1, PX2 and control.
+type Matrices = [Vec<u8>; 4];
+
+/// Where the coded frames of a channel stand in the matrices of one L1 frame.
+struct Target {
+    /// The place of the matrix.
+    matrix: usize,
+    rate: Rate,
+    frame_bits: usize,
+    coded_bits: usize,
+    /// The cells of the coded bits, frame after frame.
+    cells: Vec<usize>,
+}
+
+impl Target {
+    /// Section 10.4: P1, PIDS, and P2 and P1' if the mode has them.
+    fn all(mode: &Mode) -> Vec<Target> {
+        let p1_bits = mode.p1.all_coded_bits();
+        let mut targets = vec![
+            Target::in_pm(mode.p1, &pm_cells()[..p1_bits]),
+            Target::in_pm(PIDS, &pm_cells()[U_BITS..]),
+            Target::in_pm(mode.p2, &pm_cells()[p1_bits..U_BITS]),
+        ];
+        targets.extend(mode.delayed.map(|px2| Target::in_px2(mode.p1, px2)));
+        targets.retain(|target| !target.cells.is_empty());
+        targets
+    }
+
+    /// Section 10.4.1: a channel in PM.
+    fn in_pm(channel: Frames, cells: &[usize]) -> Target {
+        Target {
+            matrix: 0,
+            rate: Rate::TwoFifths,
+            frame_bits: channel.bits,
+            coded_bits: channel.coded_bits(),
+            cells: cells.to_vec(),
+        }
+    }
+
+    /// Sections 10.4.2.3 and 10.4.2.4: the second path of P1, in the eight matrices of PX2.
+    fn in_px2(p1: Frames, px2: &Partitions) -> Target {
+        let bits = px2.bits();
+        let cell = |i| i / bits * bits + px2.interleaver_one(i % bits);
+        Target {
+            matrix: 2,
+            rate: Rate::OneHalf,
+            frame_bits: p1.bits,
+            coded_bits: bits,
+            cells: (0..BLOCK_PAIRS * bits).map(cell).collect(),
+        }
+    }
+
+    /// Section 10.4: the cells of a drawn frame.
+    fn frame(&self, draw: &mut Draw) -> &[usize] {
+        let frames = self.cells.chunks(self.coded_bits);
+        let chosen = draw.index(frames.len());
+        &self.cells[self.coded_bits * chosen..][..self.coded_bits]
+    }
+}
+
+/// The sorts of damage, each by a place in Damage::targets or in the matrices.
+#[derive(Clone, Copy)]
+enum Sort {
+    /// Drawn cells, or neighbours, of a matrix.
+    Anywhere(usize),
+    /// Drawn cells of one coded frame of a channel.
+    InFrame(usize),
+    /// Another coded frame of a channel in the place of one.
+    OtherFrame(usize),
+}
+
+/// Which L1 frames of a run are damaged.
+enum Plan {
+    /// One alone, by one hit.
+    Single { frame: u64, sort: Sort },
+    /// Half of them, by up to three hits each.
+    Several,
+}
+
 /// A plan of damage to the matrices of a run.
 pub struct Damage {
     draw: Draw,
-    /// The only L1 frame to be damaged, if there is only one.
-    only: Option<u64>,
+    targets: Vec<Target>,
+    sorts: Vec<Sort>,
+    plan: Plan,
 }
 
 impl Damage {
-    /// Damaged cells: decides whether one L1 frame alone is damaged, and which.
-    pub fn new(seed: u64, count: u64) -> Damage {
+    /// Damaged cells: 24 seeds that follow each other have a single hit of each sort, and as many
+    /// runs with several hits.
+    pub fn new(seed: u64, mode: &Mode, count: u64) -> Damage {
         let mut draw = Draw::new(seed);
-        let only = if count > 0 && draw.coin() {
-            Some(draw.below(count))
-        } else {
-            None
+        let targets = Target::all(mode);
+        let lengths = mode.matrix_lengths();
+        let matrices = (0..4).filter(|&m| lengths[m] > 0).map(Sort::Anywhere);
+        let inside = (0..targets.len()).map(Sort::InFrame);
+        let others = (0..targets.len()).map(Sort::OtherFrame);
+        let sorts: Vec<Sort> = matrices.chain(inside).chain(others).collect();
+        let sort = sorts[(seed % sorts.len() as u64) as usize];
+        let plan = match (seed / sorts.len() as u64) % 2 {
+            0 => Plan::Single {
+                frame: draw.below(frames_to_damage(sort, mode, count)),
+                sort,
+            },
+            _ => Plan::Several,
         };
-        Damage { draw, only }
+        Damage {
+            draw,
+            targets,
+            sorts,
+            plan,
+        }
     }
 
     /// Damaged cells: leaves one L1 frame's PM, PX1, PX2 and control alone, or damages them.
-    pub fn frame(&mut self, frame: u64, matrices: &mut [Vec<u8>; 4]) {
-        let damaged = match self.only {
-            Some(only) => frame == only,
-            None => self.draw.coin(),
-        };
-        if damaged {
-            for _ in 0..1 + self.draw.below(3) {
-                self.hit(matrices);
+    pub fn frame(&mut self, frame: u64, matrices: &mut Matrices) {
+        match self.plan {
+            Plan::Single { frame: only, sort } if frame == only => self.hit_by(sort, matrices),
+            Plan::Several if self.draw.coin() => {
+                for _ in 0..1 + self.draw.below(3) {
+                    self.hit(matrices);
+                }
             }
+            _ => (),
         }
     }
 
-    /// Damaged cells: a single flip or a small group in one of the matrices that are not empty.
-    pub fn hit(&mut self, matrices: &mut [Vec<u8>; 4]) {
-        let used: Vec<usize> = (0..4).filter(|&m| !matrices[m].is_empty()).collect();
-        let chosen = used[self.draw.index(used.len())];
-        let bits = 8 * matrices[chosen].len();
-        let aim_at_pids = chosen == 0 && self.draw.coin();
-        let size = if self.draw.coin() {
-            1
-        } else {
-            2 + self.draw.index(7)
+    /// Damaged cells: a hit of a drawn sort.
+    pub fn hit(&mut self, matrices: &mut Matrices) {
+        let sort = self.sorts[self.draw.index(self.sorts.len())];
+        self.hit_by(sort, matrices);
+    }
+
+    /// Damaged cells: a hit of one sort.
+    fn hit_by(&mut self, sort: Sort, matrices: &mut Matrices) {
+        let draw = &mut self.draw;
+        let (matrix, cells) = match sort {
+            Sort::Anywhere(matrix) => (matrix, anywhere(draw, 8 * matrices[matrix].len())),
+            Sort::InFrame(target) => {
+                let target = &self.targets[target];
+                let cells = target.frame(draw);
+                let drawn = (0..size(draw)).map(|_| cells[draw.index(cells.len())]);
+                (target.matrix, drawn.collect())
+            }
+            Sort::OtherFrame(target) => {
+                let target = &self.targets[target];
+                let cells = target.frame(draw);
+                let sum = encode(target.rate, &difference(draw, target.frame_bits));
+                let turned = cells.iter().zip(sum).filter(|(_, turned)| *turned);
+                (target.matrix, turned.map(|(&cell, _)| cell).collect())
+            }
         };
-        let neighbours = self.draw.coin();
-        let first = self.draw.index(bits);
-        for n in 0..size {
-            let cell = if aim_at_pids {
-                interleaver_two(self.draw.index(ALL_PIDS_CODED_BITS))
-            } else if neighbours {
-                (first + n) % bits
-            } else {
-                self.draw.index(bits)
-            };
-            flip(&mut matrices[chosen], cell);
+        for cell in cells {
+            flip(&mut matrices[matrix], cell);
         }
     }
+}
+
+/// Damaged cells: of how many first L1 frames one is to be damaged alone: all, or of another P1
+/// frame those that are followed by their second path.
+fn frames_to_damage(sort: Sort, mode: &Mode, count: u64) -> u64 {
+    match sort {
+        Sort::OtherFrame(0) => count.saturating_sub(mode.delay()).max(1),
+        _ => count.max(1),
+    }
+}
+
+/// Damaged cells: how many are hit.
+fn size(draw: &mut Draw) -> usize {
+    match draw.coin() {
+        true => 1,
+        false => 2 + draw.index(7),
+    }
+}
+
+/// Damaged cells: a single one or a small group, of neighbours or not.
+fn anywhere(draw: &mut Draw, bits: usize) -> Vec<usize> {
+    let size = size(draw);
+    let neighbours = draw.coin();
+    let first = draw.index(bits);
+    let cell = |n| match neighbours {
+        true => (first + n) % bits,
+        false => draw.index(bits),
+    };
+    (0..size).map(cell).collect()
+}
+
+/// Section 9.3, a sum of coded frames is one: in which bits two scrambled frames differ, a single
+/// one or many.
+fn difference(draw: &mut Draw, bits: usize) -> Vec<bool> {
+    let mut frame = match draw.coin() {
+        true => vec![false; bits],
+        false => unpack(&draw.bytes(bits / 8)),
+    };
+    frame[draw.index(bits)] ^= true;
+    frame
 }
 
 /// Lines of a cell list at the edge of what can be answered, and of each sort that cannot.

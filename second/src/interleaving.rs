@@ -5,82 +5,151 @@ use std::sync::OnceLock;
 /// Rows of an interleaver block (section 10.2.1).
 const BLOCK_ROWS: usize = 32;
 
-/// Tables 10-12 and 10-13: partitions of the PM matrix.
-const PM_J: usize = 20;
-/// Tables 10-12 and 10-13: interleaver blocks of a PM partition.
-const PM_B: usize = 16;
-/// Tables 10-12 and 10-13: columns of a PM partition.
-const PM_C: usize = 36;
-/// Table 10-12: the partition factor.
-const PM_M: usize = 1;
-/// Tables 10-12 and 10-13: the partition assignment vector.
-const PM_V: [usize; PM_J] = [
-    10, 2, 18, 6, 14, 8, 16, 0, 12, 4, 11, 3, 19, 7, 15, 9, 17, 1, 13, 5,
-];
+/// Tables 10-12, 10-13, 10-17 and 10-19: the parameters of a matrix that interleaver I fills.
+pub struct Partitions {
+    /// J, partitions.
+    partitions: usize,
+    /// B, interleaver blocks of a partition.
+    blocks: usize,
+    /// C, columns of a partition.
+    columns: usize,
+    /// M, the partition factor.
+    factor: usize,
+    /// v, the partition assignment vector.
+    order: &'static [usize],
+}
 
-/// Table 10-12: coded bits of a P1 frame, also the index offset of Table 10-13.
-pub const P1_CODED_BITS: usize = 365_440;
+/// Tables 10-12 and 10-13: the PM matrix of every service mode.
+static PM: Partitions = Partitions {
+    partitions: 20,
+    blocks: 16,
+    columns: 36,
+    factor: 1,
+    order: &[
+        10, 2, 18, 6, 14, 8, 16, 0, 12, 4, 11, 3, 19, 7, 15, 9, 17, 1, 13, 5,
+    ],
+};
+
+/// Table 10-17: the PX2 matrix of a P1' frame in service mode MP5. Its row has the first 4 twice.
+pub static PX2_MP5: Partitions = Partitions {
+    partitions: 4,
+    blocks: 2,
+    columns: 36,
+    factor: 2,
+    order: &[0, 1, 2, 3],
+};
+
+/// Table 10-19: the PX2 matrix of a P1' frame in service mode MP6.
+pub static PX2_MP6: Partitions = Partitions {
+    partitions: 8,
+    blocks: 2,
+    columns: 36,
+    factor: 1,
+    order: &[0, 1, 3, 2, 4, 5, 7, 6],
+};
+
+impl Partitions {
+    /// Section 10.2.2: the columns of the matrix.
+    const fn width(&self) -> usize {
+        self.partitions * self.columns
+    }
+
+    /// Section 10.2.2: the cells of the matrix.
+    pub const fn bits(&self) -> usize {
+        self.blocks * BLOCK_ROWS * self.width()
+    }
+
+    /// Section 10.2.2: the cell number, row by row, of a place in a partition's block.
+    fn cell(&self, partition: usize, block: usize, k: usize) -> usize {
+        let row = (k * 11) % BLOCK_ROWS;
+        let column = (k * 11 + k / (32 * 9)) % self.columns;
+        (block * BLOCK_ROWS + row) * self.width() + partition * self.columns + column
+    }
+
+    /// Section 10.2.3: interleaver I, the cell of coded bit i.
+    pub fn interleaver_one(&self, i: usize) -> usize {
+        let (j, b, m) = (self.partitions, self.blocks, self.factor);
+        let partition = self.order[((i + 2 * (m / 4)) / m) % j];
+        let block = match m {
+            1 => (i / j + partition * 7) % b,
+            _ => (i + i / (j * b)) % b,
+        };
+        self.cell(partition, block, i / (j * b))
+    }
+
+    /// Section 10.2.3: the matrix of the coded bits of one transfer frame, which fill it.
+    pub fn matrix(&self, coded: &[bool]) -> Vec<bool> {
+        let mut matrix = vec![false; self.bits()];
+        for (i, &bit) in coded.iter().enumerate() {
+            matrix[self.interleaver_one(i)] = bit;
+        }
+        matrix
+    }
+
+    /// Section 10.2.3, way back: the coded bits that fill a matrix.
+    pub fn coded_bits(&self, matrix: &[bool]) -> Vec<bool> {
+        (0..self.bits())
+            .map(|i| matrix[self.interleaver_one(i)])
+            .collect()
+    }
+}
+
+/// Table 10-12: coded bits of the vector U (a P1 frame, or P1 and P2 frames), also the index
+/// offset of Table 10-13.
+pub const U_BITS: usize = 365_440;
 /// Table 10-13: coded bits of a PIDS frame.
 pub const PIDS_CODED_BITS: usize = 200;
 /// Table 10-13: coded bits of the sixteen PIDS frames.
 pub const ALL_PIDS_CODED_BITS: usize = 3_200;
 /// Section 10.2.2: rows of the PM matrix.
-pub const PM_ROWS: usize = PM_B * BLOCK_ROWS;
+pub const PM_ROWS: usize = PM.blocks * BLOCK_ROWS;
 /// Section 10.2.2: columns of the PM matrix.
-pub const PM_COLUMNS: usize = PM_J * PM_C;
+pub const PM_COLUMNS: usize = PM.width();
 
-/// Section 10.2.2: the cell number, row by row, of a place in a partition's block.
-fn pm_cell(partition: usize, block: usize, k: usize) -> usize {
-    let row = (k * 11) % BLOCK_ROWS;
-    let column = (k * 11 + k / (32 * 9)) % PM_C;
-    (block * BLOCK_ROWS + row) * PM_COLUMNS + partition * PM_C + column
-}
-
-/// Section 10.2.3: interleaver I, the PM cell of P1 coded bit i.
+/// Section 10.2.3: interleaver I, the PM cell of bit i of U.
 pub fn interleaver_one(i: usize) -> usize {
-    let partition = PM_V[((i + 2 * (PM_M / 4)) / PM_M) % PM_J];
-    let block = (i / PM_J + partition * 7) % PM_B;
-    pm_cell(partition, block, i / (PM_J * PM_B))
+    PM.interleaver_one(i)
 }
 
 /// Section 10.2.4: interleaver II, the PM cell of bit i of the sixteen coded PIDS frames.
 pub fn interleaver_two(i: usize) -> usize {
-    let partition = PM_V[i % PM_J];
+    let (j, b) = (PM.partitions, PM.blocks);
+    let partition = PM.order[i % j];
     let block = i / PIDS_CODED_BITS;
-    let k = (i / PM_J) % (PIDS_CODED_BITS / PM_J) + P1_CODED_BITS / (PM_J * PM_B);
-    pm_cell(partition, block, k)
+    let k = (i / j) % (PIDS_CODED_BITS / j) + U_BITS / (j * b);
+    PM.cell(partition, block, k)
 }
 
-/// Section 10.4.1.1: the PM cells of all P1 bits and then of all PIDS bits, worked out once.
-fn pm_cells() -> &'static [usize] {
+/// Section 10.4.1: the PM cells of all bits of U and then of all PIDS bits, worked out once.
+pub fn pm_cells() -> &'static [usize] {
     static CELLS: OnceLock<Vec<usize>> = OnceLock::new();
     CELLS.get_or_init(|| {
-        let p1 = (0..P1_CODED_BITS).map(interleaver_one);
-        p1.chain((0..ALL_PIDS_CODED_BITS).map(interleaver_two))
+        let u = (0..U_BITS).map(interleaver_one);
+        u.chain((0..ALL_PIDS_CODED_BITS).map(interleaver_two))
             .collect()
     })
 }
 
-/// Section 10.4.1.1: the PM matrix of the coded P1 frame and the sixteen coded PIDS frames.
-pub fn pm_matrix<T: Copy + Default>(p1: &[T], pids: &[T]) -> Vec<T> {
-    let mut matrix = vec![T::default(); PM_ROWS * PM_COLUMNS];
-    for (&cell, &entry) in pm_cells().iter().zip(p1.iter().chain(pids)) {
+/// Section 10.4.1: the PM matrix of U and the sixteen coded PIDS frames.
+pub fn pm_matrix<T: Copy + Default>(u: &[T], pids: &[T]) -> Vec<T> {
+    let mut matrix = vec![T::default(); PM.bits()];
+    for (&cell, &entry) in pm_cells().iter().zip(u.iter().chain(pids)) {
         matrix[cell] = entry;
     }
     matrix
 }
 
-/// Section 10.4.1.1, way back: the coded P1 frame and the sixteen coded PIDS frames.
+/// Section 10.4.1, way back: U and the sixteen coded PIDS frames.
 pub fn pm_coded_bits<T: Copy>(matrix: &[T]) -> (Vec<T>, Vec<T>) {
-    let mut p1: Vec<T> = pm_cells().iter().map(|&cell| matrix[cell]).collect();
-    let pids = p1.split_off(P1_CODED_BITS);
-    (p1, pids)
+    let mut u: Vec<T> = pm_cells().iter().map(|&cell| matrix[cell]).collect();
+    let pids = u.split_off(U_BITS);
+    (u, pids)
 }
 
 /// Where a coded bit of an L1 frame is shown: how many L1 frames later, and in which cell.
 pub type Shown = (usize, usize);
 
-/// One row of Tables 10-15 and 10-16, with what following interleaver IV tells about it.
+/// One row of Tables 10-15, 10-16 and 10-18, with what following interleaver IV tells about it.
 pub struct PxRow {
     /// J, partitions.
     partitions: usize,
@@ -104,11 +173,11 @@ pub struct PxRow {
 /// Table 10-15, service mode MP2.
 pub static PX_MP2: PxRow = PxRow::new(2, 4, &[0, 1], 4_608, 73_728);
 
-/// Table 10-15, service mode MP3, and Table 10-16, service mode MP11.
+/// Tables 10-15, 10-16 and 10-18: service modes MP3, MP11 and MP5.
 pub static PX_MP3_MP11: PxRow = PxRow::new(4, 2, &[0, 1, 2, 3], 9_216, 147_456);
 
 impl PxRow {
-    /// Tables 10-15 and 10-16: B = 32 and C = 36 are common to all rows.
+    /// Tables 10-15, 10-16 and 10-18: B = 32 and C = 36 are common to all rows.
     const fn new(
         partitions: usize,
         factor: usize,

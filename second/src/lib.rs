@@ -1,5 +1,5 @@
-//! The FM Layer 1 bit chain of SY_IDD_1011s revision G for the service modes
-//! MP1, MP2, MP3 and MP11, with the house matters of document 01.
+//! The FM Layer 1 bit chain of SY_IDD_1011s revision G for the primary service modes MP1, MP2,
+//! MP3, MP5, MP6 and MP11, with the house matters of document 01 and of document 02, S-9.
 
 pub mod cells;
 pub mod coding;
@@ -11,6 +11,7 @@ pub mod modes;
 pub mod nearest;
 pub mod packing;
 pub mod places;
+pub mod reading;
 pub mod restoring;
 pub mod run;
 pub mod scrambling;

@@ -149,6 +149,10 @@ fn ended(done: Result<(), Stop>) -> ExitCode {
             eprintln!("{}", commands::no_list_line());
             ExitCode::from(1)
         }
+        Err(Stop::NoSheet) => {
+            eprintln!("refused: there are sheets for MP1, MP2, MP3 and MP11 only");
+            ExitCode::from(1)
+        }
         Err(Stop::TooLong) => {
             eprintln!("{}", commands::too_long_line());
             ExitCode::from(1)

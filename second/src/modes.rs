@@ -1,11 +1,56 @@
-//! Document 01, what is covered and lent lengths per L1 frame.
+//! Document 01, what is covered and lent lengths per L1 frame, with MP5 and MP6 of document 02, S-9.
 
-use crate::interleaving::{PxRow, PX_MP2, PX_MP3_MP11};
+use crate::interleaving::{Partitions, PxRow, PX2_MP5, PX2_MP6, PX_MP2, PX_MP3_MP11};
 
-/// Bits of a P1 transfer frame.
+/// Bits of a P1 transfer frame in the modes without P2.
 pub const P1_BITS: usize = 146_176;
 /// Bits of a PIDS transfer frame.
 pub const PIDS_BITS: usize = 80;
+/// P1' frames of an L1 frame, of a block pair each.
+pub const BLOCK_PAIRS: usize = 8;
+/// N_dd, the L1 frames of digital diversity delay.
+pub const DIVERSITY_DELAY: u64 = 3;
+/// The L1 frames that a P3 or P4 frame waits for on the way back.
+pub const EXTENDED_WAIT: u64 = 2;
+
+/// The transfer frames of a channel at rate 2/5 in an L1 frame: how many, and the bits of each.
+#[derive(Clone, Copy)]
+pub struct Frames {
+    pub count: usize,
+    pub bits: usize,
+}
+
+impl Frames {
+    /// House packing: the bytes of all frames.
+    pub fn bytes(self) -> usize {
+        self.count * self.bits / 8
+    }
+
+    /// Tables 10-1 to 10-6: the coded bits of one frame.
+    pub fn coded_bits(self) -> usize {
+        self.bits * 5 / 2
+    }
+
+    /// Tables 10-1 to 10-6: the coded bits of all frames.
+    pub fn all_coded_bits(self) -> usize {
+        self.count * self.coded_bits()
+    }
+}
+
+/// P1 of MP1, MP2, MP3 and MP11 (Tables 7-3 to 7-6).
+const WHOLE_P1: Frames = Frames {
+    count: 1,
+    bits: P1_BITS,
+};
+
+/// The PIDS frames of every mode.
+pub const PIDS: Frames = Frames {
+    count: 16,
+    bits: PIDS_BITS,
+};
+
+/// P2 of a mode without it; the size of no frame matters not.
+const NO_P2: Frames = Frames { count: 0, bits: 8 };
 
 /// An extended channel, P3 or P4, of a service mode: lengths in bytes.
 #[derive(Clone, Copy)]
@@ -37,7 +82,7 @@ const SMALL: Extended = Extended {
     reader_memory: 13_824,
 };
 
-/// P3 of MP3, P3 and P4 of MP11.
+/// P3 of MP3 and MP5, P3 and P4 of MP11.
 const LARGE: Extended = Extended {
     row: Some(&PX_MP3_MP11),
     frames: 4_608,
@@ -49,32 +94,62 @@ const LARGE: Extended = Extended {
 /// A covered service mode.
 pub struct Mode {
     pub number: u64,
+    pub p1: Frames,
+    pub p2: Frames,
     pub p3: Extended,
     pub p4: Extended,
+    /// The PX2 matrix of a frame of P1', the delayed path of P1, if the mode has one.
+    pub delayed: Option<&'static Partitions>,
 }
 
-/// The covered service modes MP1, MP2, MP3 and MP11.
-pub static MODES: [Mode; 4] = [
-    Mode {
-        number: 1,
-        p3: UNUSED,
-        p4: UNUSED,
-    },
-    Mode {
-        number: 2,
-        p3: SMALL,
-        p4: UNUSED,
-    },
-    Mode {
-        number: 3,
-        p3: LARGE,
-        p4: UNUSED,
-    },
-    Mode {
-        number: 11,
-        p3: LARGE,
-        p4: LARGE,
-    },
+impl Mode {
+    /// Document 01, what is covered: a mode without P2 and without a second path of P1.
+    const fn older(number: u64, p3: Extended, p4: Extended) -> Mode {
+        Mode {
+            number,
+            p1: WHOLE_P1,
+            p2: NO_P2,
+            p3,
+            p4,
+            delayed: None,
+        }
+    }
+
+    /// Tables 7-7, 7-8, 10-5 and 10-6: a mode with eight P1 frames on two paths, and P2.
+    const fn on_two_paths(
+        number: u64,
+        p1_bits: usize,
+        p2_bits: usize,
+        p3: Extended,
+        delayed: &'static Partitions,
+    ) -> Mode {
+        let p1 = Frames {
+            count: BLOCK_PAIRS,
+            bits: p1_bits,
+        };
+        let p2 = Frames {
+            count: 1,
+            bits: p2_bits,
+        };
+        Mode {
+            number,
+            p1,
+            p2,
+            p3,
+            p4: UNUSED,
+            delayed: Some(delayed),
+        }
+    }
+}
+
+/// The covered service modes.
+pub static MODES: [Mode; 6] = [
+    Mode::older(1, UNUSED, UNUSED),
+    Mode::older(2, SMALL, UNUSED),
+    Mode::older(3, LARGE, UNUSED),
+    Mode::on_two_paths(5, 4_608, 109_312, LARGE, &PX2_MP5),
+    Mode::on_two_paths(6, 9_216, 72_448, UNUSED, &PX2_MP6),
+    Mode::older(11, LARGE, LARGE),
 ];
 
 impl Mode {
@@ -83,23 +158,47 @@ impl Mode {
         MODES.iter().find(|mode| mode.number == number)
     }
 
-    /// Document 01, lent lengths: P1, PIDS, P3, P4.
-    pub fn frame_lengths(&self) -> [usize; 4] {
-        [18_272, 160, self.p3.frames, self.p4.frames]
+    /// Document 02, S-9: the L1 frames by which P1' is behind P1, 0 if there is no P1'.
+    pub fn delay(&self) -> u64 {
+        self.delayed.map_or(0, |_| DIVERSITY_DELAY)
     }
 
-    /// Document 01, lent lengths: PM, PX1, PX2, control.
+    /// Documents 01 and 02, run states: the age that stands for itself and every greater one.
+    pub fn oldest_age(&self) -> u64 {
+        EXTENDED_WAIT.max(self.delay())
+    }
+
+    /// Documents 01 and 02, lent lengths: P1, PIDS, P2, P3, P4.
+    pub fn frame_lengths(&self) -> [usize; 5] {
+        [
+            self.p1.bytes(),
+            PIDS.bytes(),
+            self.p2.bytes(),
+            self.p3.frames,
+            self.p4.frames,
+        ]
+    }
+
+    /// Documents 01 and 02, lent lengths: PM, PX1, PX2 (of P4 or of P1'), control.
     pub fn matrix_lengths(&self) -> [usize; 4] {
-        [46_080, self.p3.matrices, self.p4.matrices, 4_096]
+        let delayed = self.delayed.map_or(0, |px2| BLOCK_PAIRS * px2.bits() / 8);
+        let px2 = self.p4.matrices + delayed;
+        [46_080, self.p3.matrices, px2, 4_096]
     }
 
-    /// Document 01, lent lengths: the sender's memories for P3 and P4.
-    pub fn sender_memory_lengths(&self) -> [usize; 2] {
-        [self.p3.sender_memory, self.p4.sender_memory]
+    /// Documents 01 and 02, lent lengths: the sender's memories for P3 and P4, the delay memory.
+    pub fn sender_memory_lengths(&self) -> [usize; 3] {
+        self.memory_lengths(|channel| channel.sender_memory)
     }
 
-    /// Document 01, lent lengths: the reader's memories for P3 and P4.
-    pub fn reader_memory_lengths(&self) -> [usize; 2] {
-        [self.p3.reader_memory, self.p4.reader_memory]
+    /// Documents 01 and 02, lent lengths: the reader's memories for P3 and P4, the delay memory.
+    pub fn reader_memory_lengths(&self) -> [usize; 3] {
+        self.memory_lengths(|channel| channel.reader_memory)
+    }
+
+    /// Documents 01 and 02, lent lengths: the memories of one side.
+    fn memory_lengths(&self, of_side: impl Fn(&Extended) -> usize) -> [usize; 3] {
+        let delay = self.delay() as usize * self.p1.bytes();
+        [of_side(&self.p3), of_side(&self.p4), delay]
     }
 }

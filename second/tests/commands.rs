@@ -36,6 +36,30 @@ fn reading_returns_the_frames() {
     assert!(returned == expected);
 }
 
+/// Reading in MP5 and MP6: P1 from the fourth L1 frame on, before that L1 frame's PIDS and P2; P3
+/// from the third on, behind them.
+#[test]
+fn reading_returns_the_frames_of_two_paths() {
+    for (mode, p1, p2, p3) in [(5, 4_608, 13_664, 4_608), (6, 9_216, 9_056, 0)] {
+        let (frames, matrices) = sent(1, mode, 6);
+        assert_eq!(frames.len(), 6 * (p1 + 160 + p2 + p3));
+        let mut returned = Vec::new();
+        commands::read(mode, 6, &mut &matrices[..], &mut returned).unwrap();
+        let drawn: Vec<&[u8]> = frames.chunks(p1 + 160 + p2 + p3).collect();
+        let mut expected = Vec::new();
+        for t in 0..6 {
+            if t >= 3 {
+                expected.extend(&drawn[t - 3][..p1]);
+            }
+            expected.extend(&drawn[t][p1..p1 + 160 + p2]);
+            if t >= 2 {
+                expected.extend(&drawn[t - 2][p1 + 160 + p2..]);
+            }
+        }
+        assert!(returned == expected);
+    }
+}
+
 /// Reading on: one line for each refused L1 frame, and the accepted ones returned.
 #[test]
 fn reading_on() {
@@ -55,19 +79,37 @@ fn reading_on() {
 fn short_input() {
     let (frames, matrices) = sent(1, 11, 2);
     let frame_length = 18_272 + 160 + 2 * 4_608;
-    for (length, place) in [(0, 0), (18_272, 1), (18_432, 2), (18_432 + 4_608, 3)] {
+    for (length, place) in [(0, 0), (18_272, 1), (18_432, 3), (18_432 + 4_608, 4)] {
         let mut input = &frames[..frame_length + length];
         let mut output = Vec::new();
         let stop = commands::send(11, 2, &mut input, &mut output);
         assert_eq!(refusal(stop), (3, place, 1));
         assert!(output == matrices[..matrices.len() / 2]);
     }
-    for (length, place) in [(46_079, 4), (46_080, 5), (55_297, 6), (65_000, 7)] {
+    for (length, place) in [(46_079, 5), (46_080, 6), (55_297, 7), (65_000, 8)] {
         let stop = commands::read(11, 2, &mut &matrices[..length], &mut Vec::new());
         assert_eq!(refusal(stop), (3, place, 0));
     }
     let stop = commands::send(4, 0, &mut &frames[..], &mut Vec::new());
     assert_eq!(refusal(stop), (1, 0, 0));
+}
+
+/// Short input in MP5 and MP6: P2 is place 2, PX2 place 7.
+#[test]
+fn short_input_of_two_paths() {
+    let mp5 = [(4_607, 0), (4_608, 1), (4_768, 2), (18_432, 3)];
+    let mp6 = [(9_215, 0), (9_216, 1), (9_376, 2), (18_431, 2)];
+    for (mode, ends) in [(5, mp5), (6, mp6)] {
+        let (frames, matrices) = sent(1, mode, 1);
+        for (length, place) in ends {
+            let stop = commands::send(mode, 1, &mut &frames[..length], &mut Vec::new());
+            assert_eq!(refusal(stop), (3, place, 0));
+        }
+        for (length, place) in [(46_079, 5), (64_511, 7), (64_512, 8)] {
+            let stop = commands::read(mode, 1, &mut &matrices[..length], &mut Vec::new());
+            assert_eq!(refusal(stop), (3, place, 0));
+        }
+    }
 }
 
 /// Damage: reproducible, now and then on one L1 frame only, never of other lengths.
@@ -89,10 +131,40 @@ fn damage() {
     assert!((25..50).contains(&one_only));
 }
 
+/// Damage in MP5 and MP6: every cause is met, and in 24 runs whose seeds follow each other there is
+/// one in which L1 frame t alone is damaged and a reader finds it out only in L1 frame t + 3.
+#[test]
+fn damage_of_two_paths() {
+    for (mode, causes) in [(5, &[4, 5, 6, 7, 8][..]), (6, &[4, 5, 6, 7])] {
+        let (_, matrices) = sent(1, mode, 7);
+        let frame_length = matrices.len() / 7;
+        let mut met = Vec::new();
+        for seeds in [100..124, 124..148, 148..172] {
+            let mut late = 0;
+            for seed in seeds {
+                let mut damaged = Vec::new();
+                commands::damage(seed, mode, 7, &mut &matrices[..], &mut damaged).unwrap();
+                let frames = damaged.chunks(frame_length);
+                let mut pairs = frames.zip(matrices.chunks(frame_length));
+                let first = pairs.position(|(a, b)| a != b);
+                let read = commands::read(mode, 7, &mut &damaged[..], &mut Vec::new());
+                if let (Some(t), Err(Stop::Refused { refusal, frame })) = (first, read) {
+                    met.push(refusal.number);
+                    late += u32::from(refusal.number == 5 && frame == t as u64 + 3);
+                }
+            }
+            assert!(late > 0);
+        }
+        met.sort_unstable();
+        met.dedup();
+        assert_eq!(met, causes);
+    }
+}
+
 /// Damage before each L1 frame: every other one is refused, and the run is as if it had not been there.
 #[test]
 fn damage_before() {
-    for mode in [1, 2, 3, 11] {
+    for mode in [1, 2, 3, 11, 5, 6] {
         let (_, matrices) = sent(1, mode, 4);
         let mut between = Vec::new();
         commands::damage_before(1, mode, 4, &mut &matrices[..], &mut between).unwrap();

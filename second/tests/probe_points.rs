@@ -2,7 +2,7 @@
 
 mod common;
 
-use common::Buffers;
+use common::{Buffers, MODES};
 use second::cells::{find, list, Channel};
 use second::coding::{decode, encode, Rate};
 use second::control::{block, control, differential, lookup, sequence, COLUMNS};
@@ -121,6 +121,11 @@ fn coded_lengths_and_back() {
         (Rate::TwoFifths, 80, 200),
         (Rate::OneHalf, 2_304, 4_608),
         (Rate::OneHalf, 4_608, 9_216),
+        (Rate::TwoFifths, 4_608, 11_520),
+        (Rate::TwoFifths, 109_312, 273_280),
+        (Rate::TwoFifths, 9_216, 23_040),
+        (Rate::TwoFifths, 72_448, 181_120),
+        (Rate::OneHalf, 9_216, 18_432),
     ];
     for (rate, bits, coded_bits) in cases {
         let frame = unpack(&draw.bytes(bits / 8));
@@ -177,10 +182,13 @@ fn scrambling_sequence() {
     assert_eq!(scramble(&scramble(&zeros)), zeros);
 }
 
-/// Probe points: the control sequence of MP1, block 0, column 0.
+/// Probe points: the control sequence of MP1, block 0, column 0. By hand, that of MP5 and MP6: the
+/// mode's two ones and bit 8 make the last parity bit 1.
 #[test]
 fn control_sequence() {
     assert_eq!(sequence(1, 0, 0), 0x6464_0702);
+    assert_eq!(sequence(5, 0, 0), 0x6464_070B);
+    assert_eq!(sequence(6, 0, 0), 0x6464_070D);
     assert_eq!(differential(0x6464_0702), 0x47B8_05FC);
     let column: Vec<bool> = block(1, 0).chunks(8).map(|row| row[0] >= 128).collect();
     assert_eq!(pack(&column), [0x47, 0xB8, 0x05, 0xFC]);
@@ -189,7 +197,7 @@ fn control_sequence() {
 /// Probe points: row 31 of an encoded control block is zero; so are the last three bits of a row.
 #[test]
 fn control_rows() {
-    for mode in [1, 2, 3, 11] {
+    for mode in MODES {
         assert_eq!(control(mode).len(), 4_096);
         for count in 0..16 {
             let block = block(mode, count);
@@ -221,13 +229,13 @@ fn control_fields() {
 /// Document 01, operations: looking up a control block alone.
 #[test]
 fn control_lookup() {
-    for mode in [1, 2, 3, 11] {
+    for mode in MODES {
         for count in 0..16 {
             let found = lookup(&block(mode, count));
             assert_eq!((found.number, found.mode, found.count), (0, mode, count));
         }
     }
-    for mode in [0, 4, 5, 6, 12] {
+    for mode in [0, 4, 7, 12, 37] {
         let refused = lookup(&block(mode, 3));
         assert_eq!((refused.number, refused.mode, refused.count), (4, 0, 0));
     }

@@ -2,29 +2,19 @@
 
 mod common;
 
-use common::{reader_after, sent_run, Buffers};
-use common::{CONTROL, MEMORY_P3, MEMORY_P4, PM, PX1, PX2};
+use common::{reader_after, refused_reading, sent_run, Buffers};
+use common::{CONTROL, DELAY, MEMORY_P3, MEMORY_P4, MODES, NEWER, PM, PX1, PX2};
 use second::draw::Draw;
 use second::interleaving::{interleaver_one, interleaver_two, PX_MP3_MP11};
 use second::packing::flip;
 use second::run::{Side, State};
 
-/// Refusal table: a reading that is refused leaves the state and all buffers as they were.
-fn refused_reading(reader: &mut Buffers, state: State) -> (u32, usize) {
-    let before = reader.clone();
-    let answer = reader.read(state);
-    assert_ne!(answer.number, 0);
-    assert_eq!(answer.state, state);
-    assert_eq!(*reader, before);
-    (answer.number, answer.place)
-}
-
-/// Refusal 3 of a start: the memories are its places 0 and 1.
+/// Refusal 3 of a start: the memories are its places 0, 1 and 2.
 #[test]
 fn start_lengths() {
     for side in [Side::Sender, Side::Reader] {
-        for mode in [1, 2, 3, 11] {
-            for (memory, place) in [(MEMORY_P3, 0), (MEMORY_P4, 1)] {
+        for mode in MODES {
+            for (memory, place) in [(MEMORY_P3, 0), (MEMORY_P4, 1), (DELAY, 2)] {
                 let mut buffers = Buffers::new(side, mode, 0xFF);
                 buffers.0[memory].push(0xFF);
                 let before = buffers.clone();
@@ -42,10 +32,13 @@ fn start_lengths() {
 /// Refusal 2: every state but the valid ones, on both sides.
 #[test]
 fn states_not_valid() {
-    for (age, half) in (0..4).flat_map(|age| (0..3).map(move |half| (age, half))) {
-        for mode in [0, 1, 2, 3, 4, 11, 12] {
-            let covered = [1, 2, 3, 11].contains(&mode);
-            let valid = [(0, 0), (1, 1), (2, 0), (2, 1)].contains(&(age, half));
+    for (age, half) in (0..5).flat_map(|age| (0..3).map(move |half| (age, half))) {
+        for mode in [0, 1, 2, 3, 4, 5, 6, 7, 11, 12] {
+            let covered = MODES.contains(&mode);
+            let valid = match NEWER.contains(&mode) {
+                true => [(0, 0), (1, 1), (2, 0), (3, 0), (3, 1)].contains(&(age, half)),
+                false => [(0, 0), (1, 1), (2, 0), (2, 1)].contains(&(age, half)),
+            };
             if covered && valid {
                 continue;
             }
@@ -68,19 +61,19 @@ fn states_not_valid() {
 /// Refusal 3: each buffer too long or too short, and the lowest of two.
 #[test]
 fn lengths() {
-    for mode in [1, 2, 3, 11] {
+    for mode in MODES {
         let state = State {
             mode,
             half: 0,
             age: 0,
         };
-        for place in 0..10 {
+        for place in 0..12 {
             let mut sender = Buffers::new(Side::Sender, mode, 0x33);
             let mut reader = Buffers::new(Side::Reader, mode, 0x33);
             for buffers in [&mut sender, &mut reader] {
                 buffers.0[place].push(0);
-                if place < 9 {
-                    buffers.0[9].push(0);
+                if place < DELAY {
+                    buffers.0[DELAY].push(0);
                 }
             }
             let before = sender.clone();
@@ -232,5 +225,5 @@ fn lowest_extended_frame() {
     flip(&mut reader.0[CONTROL], 4_000);
     assert_eq!(refused_reading(&mut reader, state), (4, 1));
     reader.0[MEMORY_P4].pop();
-    assert_eq!(refused_reading(&mut reader, state), (3, 9));
+    assert_eq!(refused_reading(&mut reader, state), (3, 10));
 }

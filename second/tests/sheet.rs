@@ -66,7 +66,8 @@ fn px_cells() {
 
 /// The coded bits of P1, PIDS, P3 and P4 of each L1 frame.
 fn coded(mode: &Mode, frames: &[u8]) -> Vec<[Vec<bool>; 4]> {
-    let lengths = mode.frame_lengths();
+    let [p1, pids, _, p3, p4] = mode.frame_lengths();
+    let lengths = [p1, pids, p3, p4];
     let rates = [
         Rate::TwoFifths,
         Rate::TwoFifths,
@@ -169,12 +170,24 @@ fn short_input() {
     let Err(Stop::Refused { refusal, frame }) = ended else {
         panic!("not refused");
     };
-    assert_eq!((refusal.number, refusal.place, frame), (3, 2, 1));
+    assert_eq!((refusal.number, refusal.place, frame), (3, 3, 1));
     assert!(output.starts_with("REFUSED 2\n0 PM 192 360 P1 0 0 "));
     assert_eq!(output.lines().count(), 2);
     let (ended, output) = sheet(4, 2, b"no list", b"");
     assert!(matches!(ended, Err(Stop::Refused { refusal, frame: 0 }) if refusal.number == 1));
     assert_eq!(output, "");
+}
+
+/// Document 02, S-9: the finder, and so the sheet, keeps to the older modes.
+#[test]
+fn no_sheet_with_a_second_path() {
+    for mode in [5, 6] {
+        let (ended, output) = sheet(mode, 2, b"no list", b"");
+        assert!(matches!(ended, Err(Stop::NoSheet)));
+        assert_eq!(output, "");
+        let drawn = commands::draw_cells(1, mode, 2, &mut Vec::new());
+        assert!(matches!(drawn, Err(Stop::NoSheet)));
+    }
 }
 
 /// The sheet: the list ends at its first empty line, which is within the first 4,096 bytes.

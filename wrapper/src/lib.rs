@@ -5,7 +5,7 @@
 
 mod raw;
 
-/// Document 01: a run's state. One that is not valid is refused (2).
+/// Documents 01 and 02: a run's state. One that is not valid is refused (2).
 #[derive(Clone, Copy, Debug, PartialEq, Eq)]
 pub struct State {
     pub mode: u8,
@@ -13,7 +13,7 @@ pub struct State {
     pub age: u8,
 }
 
-/// What a start, a sending or a reading returns: number and place of document 01's table of causes, and the state.
+/// What a start, a sending or a reading returns: number and place of the table of causes, and the state.
 #[derive(Clone, Copy, Debug, PartialEq, Eq)]
 pub struct Outcome {
     pub number: u8,
@@ -32,6 +32,7 @@ pub enum Side {
 pub struct Sending<'a> {
     pub p1: &'a [u8],
     pub pids: &'a [u8],
+    pub p2: &'a [u8],
     pub p3: &'a [u8],
     pub p4: &'a [u8],
     pub pm: &'a mut [u8],
@@ -40,12 +41,14 @@ pub struct Sending<'a> {
     pub control: &'a mut [u8],
     pub memory3: &'a mut [u8],
     pub memory4: &'a mut [u8],
+    pub delay: &'a mut [u8],
 }
 
 /// The buffers lent to a reading, in the order of their places.
 pub struct Reading<'a> {
     pub p1: &'a mut [u8],
     pub pids: &'a mut [u8],
+    pub p2: &'a mut [u8],
     pub p3: &'a mut [u8],
     pub p4: &'a mut [u8],
     pub pm: &'a [u8],
@@ -54,6 +57,7 @@ pub struct Reading<'a> {
     pub control: &'a [u8],
     pub memory3: &'a mut [u8],
     pub memory4: &'a mut [u8],
+    pub delay: &'a mut [u8],
 }
 
 /// Document 02, S-7: the numbers of each part of a vector; element k belongs to subcarrier k - 546.
@@ -171,8 +175,14 @@ pub fn share_places(shares: [u8; 8], waiting: [u8; 8], places: &mut [u8]) -> Ans
     answer(word)
 }
 
-/// Starts a sender or a reader: zeroes its memory.
-pub fn start(side: Side, mode: u8, memory3: &mut [u8], memory4: &mut [u8]) -> Outcome {
+/// Starts a sender or a reader: zeroes its memories.
+pub fn start(
+    side: Side,
+    mode: u8,
+    memory3: &mut [u8],
+    memory4: &mut [u8],
+    delay: &mut [u8],
+) -> Outcome {
     let call = match side {
         Side::Sender => raw::layer1_start_sender,
         Side::Reader => raw::layer1_start_reader,
@@ -185,6 +195,8 @@ pub fn start(side: Side, mode: u8, memory3: &mut [u8], memory4: &mut [u8]) -> Ou
             memory3.len(),
             memory4.as_mut_ptr(),
             memory4.len(),
+            delay.as_mut_ptr(),
+            delay.len(),
         )
     })
 }
@@ -201,6 +213,8 @@ pub fn send(state: State, lent: &mut Sending) -> Outcome {
             lent.p1.len(),
             lent.pids.as_ptr(),
             lent.pids.len(),
+            lent.p2.as_ptr(),
+            lent.p2.len(),
             lent.p3.as_ptr(),
             lent.p3.len(),
             lent.p4.as_ptr(),
@@ -217,6 +231,8 @@ pub fn send(state: State, lent: &mut Sending) -> Outcome {
             lent.memory3.len(),
             lent.memory4.as_mut_ptr(),
             lent.memory4.len(),
+            lent.delay.as_mut_ptr(),
+            lent.delay.len(),
         )
     })
 }
@@ -233,6 +249,8 @@ pub fn read(state: State, lent: &mut Reading) -> Outcome {
             lent.p1.len(),
             lent.pids.as_mut_ptr(),
             lent.pids.len(),
+            lent.p2.as_mut_ptr(),
+            lent.p2.len(),
             lent.p3.as_mut_ptr(),
             lent.p3.len(),
             lent.p4.as_mut_ptr(),
@@ -249,6 +267,8 @@ pub fn read(state: State, lent: &mut Reading) -> Outcome {
             lent.memory3.len(),
             lent.memory4.as_mut_ptr(),
             lent.memory4.len(),
+            lent.delay.as_mut_ptr(),
+            lent.delay.len(),
         )
     })
 }
@@ -263,7 +283,7 @@ pub fn length(side: Side, mode: u8, place: usize) -> usize {
     unsafe { call(mode, place) }
 }
 
-/// Finds whose coded bit stands in a cell of PM.
+/// Finds whose coded bit stands in a cell of PM of the modes without P2.
 pub fn find(row: usize, column: usize) -> Found {
     // SAFETY: only numbers cross.
     let word = unsafe { raw::layer1_find(row, column) };
@@ -280,7 +300,8 @@ pub fn find(row: usize, column: usize) -> Found {
     }
 }
 
-/// Finds whose coded bit stands in a cell of PX1 (channel 3) or PX2 (channel 4) of the L1 frame that a state comes before.
+/// Finds whose coded bit stands in a cell of PX1 (channel 3) or PX2 (channel 4) of the L1 frame that a state comes before. In MP5 and MP6 it
+/// knows no channel.
 pub fn find_px(state: State, channel: u8, pair: usize, row: usize, column: usize) -> FoundPx {
     // SAFETY: only numbers cross.
     let word = unsafe {

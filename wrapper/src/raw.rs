@@ -13,6 +13,8 @@ extern "C" {
         memory3_len: usize,
         memory4: *mut u8,
         memory4_len: usize,
+        delay: *mut u8,
+        delay_len: usize,
     ) -> u64;
     pub fn layer1_start_reader(
         mode: u8,
@@ -20,6 +22,8 @@ extern "C" {
         memory3_len: usize,
         memory4: *mut u8,
         memory4_len: usize,
+        delay: *mut u8,
+        delay_len: usize,
     ) -> u64;
     pub fn layer1_send(
         mode: u8,
@@ -29,6 +33,8 @@ extern "C" {
         p1_len: usize,
         pids: *const u8,
         pids_len: usize,
+        p2: *const u8,
+        p2_len: usize,
         p3: *const u8,
         p3_len: usize,
         p4: *const u8,
@@ -45,6 +51,8 @@ extern "C" {
         memory3_len: usize,
         memory4: *mut u8,
         memory4_len: usize,
+        delay: *mut u8,
+        delay_len: usize,
     ) -> u64;
     pub fn layer1_read(
         mode: u8,
@@ -54,6 +62,8 @@ extern "C" {
         p1_len: usize,
         pids: *mut u8,
         pids_len: usize,
+        p2: *mut u8,
+        p2_len: usize,
         p3: *mut u8,
         p3_len: usize,
         p4: *mut u8,
@@ -70,6 +80,8 @@ extern "C" {
         memory3_len: usize,
         memory4: *mut u8,
         memory4_len: usize,
+        delay: *mut u8,
+        delay_len: usize,
     ) -> u64;
     pub fn layer1_sender_length(mode: u8, place: usize) -> usize;
     pub fn layer1_reader_length(mode: u8, place: usize) -> usize;

@@ -2,7 +2,7 @@
 
 mod common;
 
-use common::{drawn, seed, MODES, VALID};
+use common::{drawn, seed, valid, MODES, PM, PX1, PX2, TWO_PATHS};
 use layer1::{Channel, Content, Found, FoundPx, LookedUp, Side, State};
 use second::draw::Draw;
 use second::interleaving::PxRow;
@@ -50,14 +50,14 @@ fn named(row: &PxRow, half: u8, age: u8) -> Vec<Option<(usize, usize)>> {
         .collect()
 }
 
-/// All cells of PX1 and PX2 in every mode and state.
+/// All cells of PX1 and PX2 in every state of the older modes.
 #[test]
 fn cells_of_px() {
-    for mode in MODES {
+    for mode in MODES.into_iter().filter(|mode| !TWO_PATHS.contains(mode)) {
         let known = Mode::of_number(mode.into()).unwrap();
         for (channel, extended) in [(3, known.p3), (4, known.p4)] {
             let Some(row) = extended.row else { continue };
-            for (half, age) in VALID {
+            for &(half, age) in valid(mode) {
                 let state = State { mode, half, age };
                 for (cell, name) in named(row, half, age).into_iter().enumerate() {
                     let (y, column) = (cell / row.width(), cell % row.width());
@@ -86,15 +86,15 @@ fn cells_of_px() {
     }
 }
 
-/// The refusals of the finder of PX1 and PX2: the state, the channel, the block pair, the row, the column.
+/// The refusals of the finder of PX1 and PX2: the state, the channel (any in MP5 and MP6), the block pair, the row, the column.
 #[test]
 fn no_cells_of_px() {
-    for (mode, half, age) in [0, 1, 2, 3, 4, 11, 12, 255]
+    for (mode, half, age) in [0, 1, 2, 3, 4, 5, 6, 7, 11, 12, 255]
         .into_iter()
-        .flat_map(|mode| (0..4).flat_map(move |half| (0..4).map(move |age| (mode, half, age))))
+        .flat_map(|mode| (0..4).flat_map(move |half| (0..5).map(move |age| (mode, half, age))))
     {
         let state = State { mode, half, age };
-        let valid = MODES.contains(&mode) && VALID.contains(&(half, age));
+        let valid = MODES.contains(&mode) && valid(mode).contains(&(half, age));
         for channel in [0, 1, 2, 3, 4, 5, 255] {
             let columns = match (mode, channel) {
                 (2, 3) => 72,
@@ -182,7 +182,7 @@ fn is_part(row: &[u8], expected: &[u8]) {
 fn rows() {
     let mut draw = Draw::new(seed());
     let buffers = drawn(&mut draw, Side::Reader, 11);
-    let (pm, px1, px2) = (&buffers[4], &buffers[5], &buffers[6]);
+    let (pm, px1, px2) = (&buffers[PM], &buffers[PX1], &buffers[PX2]);
     for row in 0..512 {
         is_part(layer1::pm_row(row, pm), &pm[90 * row..][..90]);
         is_part(layer1::px_row(3, row, px1, px2), &px1[18 * row..][..18]);

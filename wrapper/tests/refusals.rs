@@ -2,9 +2,12 @@
 
 mod common;
 
-use common::{both, both_start, drawn, seed, Call, MODES, VALID};
+use common::{both_start, drawn, refused, seed, valid, Call};
+use common::{DELAY, MEMORIES, MODES, PLACES};
 use layer1::{Side, State};
 use second::draw::Draw;
+use second::modes::Mode;
+use second::run;
 
 /// Changes a length: one byte more, one less, none at all, or much more.
 fn resized(bytes: &mut Vec<u8>, how: usize) -> bool {
@@ -26,45 +29,62 @@ fn lengths() {
     for call in [Call::Send, Call::Read] {
         for mode in MODES {
             let right = drawn(&mut draw, call.side(), mode);
-            for (half, age) in VALID {
-                for (place, how) in (0..10).flat_map(|place| (0..4).map(move |how| (place, how))) {
+            for &(half, age) in valid(mode) {
+                for (place, how) in PLACES.flat_map(|place| (0..4).map(move |how| (place, how))) {
                     let mut buffers = right.clone();
                     if !resized(&mut buffers[place], how) {
                         continue;
                     }
-                    if age == 2 && place < 9 {
-                        buffers[9].push(1);
+                    if age == 2 && place < DELAY {
+                        buffers[DELAY].push(1);
                     }
                     let state = State { mode, half, age };
-                    let outcome = both(call, state, &mut buffers);
-                    assert_eq!((outcome.number, outcome.place), (3, place as u32));
-                    assert_eq!(outcome.state, state);
+                    let expected = (3, place as u32);
+                    assert_eq!(refused(call, state, &mut buffers), expected);
                 }
             }
         }
     }
 }
 
-/// The lengths that the library gives are the second program's, and 0 past the last place.
+/// Documents 01 and 02, lent lengths: P1, PIDS, P2, P3, P4, PM, PX1, PX2, control, the memories for P3 and P4, the delay memory.
+#[rustfmt::skip]
+const SENDER: [(u8, [usize; 12]); 6] = [
+    (1, [18_272, 160, 0, 0, 0, 46_080, 0, 0, 4_096, 0, 0, 0]),
+    (2, [18_272, 160, 0, 2_304, 0, 46_080, 4_608, 0, 4_096, 9_216, 0, 0]),
+    (3, [18_272, 160, 0, 4_608, 0, 46_080, 9_216, 0, 4_096, 18_432, 0, 0]),
+    (5, [4_608, 160, 13_664, 4_608, 0, 46_080, 9_216, 9_216, 4_096, 18_432, 0, 13_824]),
+    (6, [9_216, 160, 9_056, 0, 0, 46_080, 0, 18_432, 4_096, 0, 0, 27_648]),
+    (11, [18_272, 160, 0, 4_608, 4_608, 46_080, 9_216, 9_216, 4_096, 18_432, 18_432, 0]),
+];
+
+/// A reader's memory for P3 or P4 is half as long again as a sender's.
+fn reader(sender: [usize; 12]) -> [usize; 12] {
+    let [frames_and_matrices @ .., memory3, memory4, delay] = sender;
+    let mut all = [0; 12];
+    all[..9].copy_from_slice(&frames_and_matrices);
+    all[MEMORIES].copy_from_slice(&[memory3 / 2 * 3, memory4 / 2 * 3, delay]);
+    all
+}
+
+/// The lengths that the library gives are the documents' and the second program's, and 0 past the last place. A mode that is not covered
+/// has MP3's.
 #[test]
 fn lengths_told() {
-    for mode in MODES {
-        let theirs = second::modes::Mode::of_number(mode.into()).unwrap();
-        for (side, memories) in [
-            (Side::Sender, theirs.sender_memory_lengths()),
-            (Side::Reader, theirs.reader_memory_lengths()),
+    for mode in 0..=255 {
+        let known = SENDER.iter().find(|(known, _)| *known == mode);
+        assert_eq!(known.is_some(), MODES.contains(&mode));
+        let sender = known.unwrap_or(&SENDER[2]).1;
+        for (side, other_side, lengths) in [
+            (Side::Sender, run::Side::Sender, sender),
+            (Side::Reader, run::Side::Reader, reader(sender)),
         ] {
-            let all = [
-                &theirs.frame_lengths()[..],
-                &theirs.matrix_lengths(),
-                &memories,
-            ]
-            .concat();
-            let ours: Vec<usize> = (0..10)
-                .map(|place| layer1::length(side, mode, place))
-                .collect();
-            assert_eq!(ours, all, "{side:?} of mode {mode}");
-            for place in [10, 11, 255, 256, 1 << 32, usize::MAX] {
+            let ours = PLACES.map(|place| layer1::length(side, mode, place));
+            assert!(ours.eq(lengths), "{side:?} of mode {mode}");
+            if let Some(theirs) = Mode::of_number(mode.into()) {
+                assert_eq!(other_side.lengths(theirs), lengths);
+            }
+            for place in [12, 13, 255, 256, 1 << 32, usize::MAX] {
                 assert_eq!(layer1::length(side, mode, place), 0);
             }
         }
@@ -76,27 +96,49 @@ fn lengths_told() {
 fn states() {
     let mut draw = Draw::new(seed());
     for call in [Call::Send, Call::Read] {
-        let right = drawn(&mut draw, call.side(), 11);
-        let mut short = right.clone();
-        short[0].pop();
         for mode in 0..=255 {
+            let right = drawn(&mut draw, call.side(), mode);
+            let mut short = right.clone();
+            short[0].pop();
             for (half, age) in [0, 1, 2, 3, 255]
                 .into_iter()
                 .flat_map(|half| [0, 1, 2, 3, 4, 255].map(|age| (half, age)))
             {
-                if MODES.contains(&mode) && VALID.contains(&(half, age)) {
+                if MODES.contains(&mode) && valid(mode).contains(&(half, age)) {
                     continue;
                 }
                 let state = State { mode, half, age };
                 for mut buffers in [right.clone(), short.clone()] {
-                    let outcome = both(call, state, &mut buffers);
-                    assert_eq!(
-                        (outcome.number, outcome.place, outcome.state),
-                        (2, 0, state)
-                    );
+                    assert_eq!(refused(call, state, &mut buffers), (2, 0));
                 }
             }
         }
+    }
+}
+
+/// A start with memories of the right lengths, or of another where `hows` says so: the first such one is named, a mode that is not covered
+/// comes before it, and either leaves the memories and returns the state of MP1.
+fn start(side: Side, mode: u8, right: &[Vec<u8>], hows: [usize; 3]) {
+    let mut memories: [Vec<u8>; 3] = right.to_vec().try_into().unwrap();
+    let mut wrong = None;
+    for place in (0..3).rev() {
+        if hows[place] < 4 && resized(&mut memories[place], hows[place]) {
+            wrong = Some(place as u32);
+        }
+    }
+    let before = memories.clone();
+    let outcome = both_start(side, mode, &mut memories);
+    let (answer, known) = match (MODES.contains(&mode), wrong) {
+        (false, _) => ((1, 0), 1),
+        (true, Some(place)) => ((3, place), 1),
+        (true, None) => ((0, 0), mode),
+    };
+    assert_eq!((outcome.number, outcome.place), answer);
+    let state = outcome.state;
+    assert_eq!((state.mode, state.half, state.age), (known, 0, 0));
+    match answer {
+        (0, _) => assert!(memories.concat().iter().all(|&byte| byte == 0)),
+        _ => assert!(memories == before),
     }
 }
 
@@ -106,19 +148,12 @@ fn starts() {
     let mut draw = Draw::new(seed());
     for side in [Side::Sender, Side::Reader] {
         for mode in 0..=255 {
-            let [.., memory3, memory4] = drawn(&mut draw, side, mode);
-            for (how3, how4) in (0..5).flat_map(|how3| (0..5).map(move |how4| (how3, how4))) {
-                let (mut memory3, mut memory4) = (memory3.clone(), memory4.clone());
-                let wrong3 = how3 < 4 && resized(&mut memory3, how3);
-                let wrong4 = how4 < 4 && resized(&mut memory4, how4);
-                let outcome = both_start(side, mode, &mut memory3, &mut memory4);
-                let expected = match (MODES.contains(&mode), wrong3, wrong4) {
-                    (false, _, _) => (1, 0),
-                    (true, true, _) => (3, 0),
-                    (true, false, true) => (3, 1),
-                    (true, false, false) => (0, 0),
-                };
-                assert_eq!((outcome.number, outcome.place), expected);
+            let right = &drawn(&mut draw, side, mode)[MEMORIES];
+            let first = if MODES.contains(&mode) { 0 } else { 3 };
+            for hows in (first..5).flat_map(|how3| (first..5).map(move |how4| [how3, how4])) {
+                for how in first..5 {
+                    start(side, mode, right, [hows[0], hows[1], how]);
+                }
             }
         }
     }

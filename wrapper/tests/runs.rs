@@ -1,28 +1,89 @@
-//! Runs of drawn frames, sent and read back, and damaged ones.
+//! Runs of drawn frames, sent and read back, with refused calls between them, and damaged ones.
 
 mod common;
 
-use common::{both, drawn, seed, sent, started, Call, MATRICES, MODES};
-use layer1::Side;
+use common::{both, done, drawn, refused, seed, sent, started, valid, Buffers, Call};
+use common::{DELAY, FRAMES, MATRICES, MODES, PLACES, TWO_PATHS};
+use layer1::{Side, State};
 use second::draw::{Damage, Draw};
+use second::modes::Mode;
 
-/// What was sent is read back, and P3 and P4 come two L1 frames later.
+/// How many L1 frames later the frames of P1, PIDS, P2, P3 and P4 are returned.
+fn later(mode: u8) -> [usize; 5] {
+    let p1 = if TWO_PATHS.contains(&mode) { 3 } else { 0 };
+    [p1, 0, 0, 2, 2]
+}
+
+/// What was sent is read back, each channel after its waiting time; before that its buffer keeps what it held. The delay memories of both
+/// sides are the same.
 #[test]
 fn sent_and_read_back() {
     for mode in MODES {
         let mut draw = Draw::new(seed() + u64::from(mode));
-        let run = sent(&mut draw, mode, 6);
+        let run = sent(&mut draw, mode, 8);
         let mut reader = drawn(&mut draw, Side::Reader, mode);
         let mut state = started(Side::Reader, mode, &mut reader);
         for (t, buffers) in run.iter().enumerate() {
+            let kept = drawn(&mut draw, Side::Reader, mode);
+            reader[FRAMES].clone_from_slice(&kept[FRAMES]);
             reader[MATRICES].clone_from_slice(&buffers[MATRICES]);
-            let kept = reader[2..4].to_vec();
-            let outcome = both(Call::Read, state, &mut reader);
-            assert_eq!((outcome.number, outcome.place), (0, 0));
-            state = outcome.state;
-            assert!(reader[..2] == buffers[..2], "P1 and PIDS of L1 frame {t}");
-            let extended = if t < 2 { &kept[..] } else { &run[t - 2][2..4] };
-            assert!(reader[2..4] == *extended, "P3 and P4 at L1 frame {t}");
+            state = done(Call::Read, state, &mut reader);
+            assert!(reader[DELAY] == buffers[DELAY], "L1 frame {t} of MP{mode}");
+            for (place, later) in later(mode).into_iter().enumerate() {
+                let expected = match t.checked_sub(later) {
+                    Some(earlier) => &run[earlier][place],
+                    None => &kept[place],
+                };
+                assert!(
+                    reader[place] == *expected,
+                    "place {place} of L1 frame {t} in MP{mode}"
+                );
+            }
+        }
+    }
+}
+
+/// Calls in place of the next one of a run that are refused: states that are not valid, and each length wrong.
+fn refused_calls(call: Call, state: State, buffers: &mut Buffers) {
+    for state in [
+        State { mode: 4, ..state },
+        State { half: 2, ..state },
+        State { age: 4, ..state },
+    ] {
+        assert_eq!(refused(call, state, buffers), (2, 0));
+    }
+    for place in PLACES {
+        buffers[place].push(0);
+        assert_eq!(refused(call, state, buffers), (3, place as u32));
+        buffers[place].pop();
+    }
+}
+
+/// Refused calls before each good one: what is sent and what is returned stays the same, the memories too.
+#[test]
+fn between_refused_calls() {
+    for mode in MODES {
+        let mut draw = Draw::new(seed() + 300 + u64::from(mode));
+        let run = sent(&mut draw, mode, 6);
+        let mut sender = drawn(&mut draw, Side::Sender, mode);
+        let mut reader = drawn(&mut draw, Side::Reader, mode);
+        let mut undisturbed = reader.clone();
+        let mut sending = started(Side::Sender, mode, &mut sender);
+        let mut reading = started(Side::Reader, mode, &mut reader);
+        started(Side::Reader, mode, &mut undisturbed);
+        for buffers in &run {
+            sender[FRAMES].clone_from_slice(&buffers[FRAMES]);
+            refused_calls(Call::Send, sending, &mut sender);
+            sending = done(Call::Send, sending, &mut sender);
+            assert!(sender == *buffers, "sent in MP{mode}");
+
+            for reader in [&mut reader, &mut undisturbed] {
+                reader[MATRICES].clone_from_slice(&buffers[MATRICES]);
+            }
+            refused_calls(Call::Read, reading, &mut reader);
+            done(Call::Read, reading, &mut undisturbed);
+            reading = done(Call::Read, reading, &mut reader);
+            assert!(reader == undisturbed, "read in MP{mode}");
         }
     }
 }
@@ -30,12 +91,14 @@ fn sent_and_read_back() {
 /// Damaged matrices: the same refusals, and the readings that go on after them the same. Every cause from 4 on is met.
 #[test]
 fn damaged() {
+    const COUNT: u64 = 7;
     let mut met = [0; 9];
     for mode in MODES {
         let mut draw = Draw::new(seed() + 100 + u64::from(mode));
-        let run = sent(&mut draw, mode, 4);
+        let run = sent(&mut draw, mode, COUNT as usize);
         for n in 0..24 {
-            let mut damage = Damage::new(seed() + n, 4);
+            let known = Mode::of_number(mode.into()).unwrap();
+            let mut damage = Damage::new(seed() + n, known, COUNT);
             let mut reader = drawn(&mut draw, Side::Reader, mode);
             let mut state = started(Side::Reader, mode, &mut reader);
             for (t, buffers) in run.iter().enumerate() {
@@ -57,18 +120,21 @@ fn damaged() {
     }
 }
 
-/// A run that begins in any valid state, on drawn memory: the library asks nothing more of its buffers.
+/// A run that begins in any valid state, on drawn memory: the library asks nothing more of its buffers. A reader is lent a delay memory of
+/// its own, and then the sender's.
 #[test]
 fn from_any_state() {
     for mode in MODES {
         let mut draw = Draw::new(seed() + 200 + u64::from(mode));
-        for (half, age) in common::VALID {
-            let state = layer1::State { mode, half, age };
+        for &(half, age) in valid(mode) {
+            let state = State { mode, half, age };
             let mut sender = drawn(&mut draw, Side::Sender, mode);
-            let outcome = both(Call::Send, state, &mut sender);
-            assert_eq!(outcome.number, 0);
+            let delay = sender[DELAY].clone();
+            done(Call::Send, state, &mut sender);
             let mut reader = drawn(&mut draw, Side::Reader, mode);
             reader[MATRICES].clone_from_slice(&sender[MATRICES]);
+            both(Call::Read, state, &mut reader);
+            reader[DELAY].clone_from_slice(&delay);
             both(Call::Read, state, &mut reader);
         }
     }

@@ -1,13 +1,15 @@
-/* How much stack each call takes, on a stack of its own that was painted before: the greatest over the L1 frames of a run in every mode.
- * Prints the two numbers, and fails where one is above what layer1.h says. */
+/* How much stack each call takes, on a stack of its own that was painted before: the greatest over the L1 frames of a run, in every mode.
+ * Prints mode, sending and reading on a line each, and fails where one is above what layer1.h says. */
 #define _GNU_SOURCE
 #include "layer1.h"
 
 #include <stdio.h>
+#include <stdlib.h>
 #include <string.h>
 #include <ucontext.h>
 
-enum { PLACES = LAYER1_MEMORY4 + 1, MOST = 46080, STACK = 1 << 20, PAINT = 0xA5 };
+/* Five L1 frames meet every valid state. */
+enum { PLACES = LAYER1_DELAY + 1, MOST = 46080, COUNT = 5, STACK = 1 << 20, PAINT = 0xA5 };
 
 static uint8_t buffer[PLACES][MOST];
 static size_t len[PLACES];
@@ -17,22 +19,14 @@ static ucontext_t here, there;
 static const uint8_t zeros[200];
 
 #define LENT(place) buffer[place], len[place]
+#define STATE layer1_mode(word), layer1_half(word), layer1_age(word)
+#define MEMORIES LENT(LAYER1_MEMORY3), LENT(LAYER1_MEMORY4), LENT(LAYER1_DELAY)
+#define ALL LENT(LAYER1_P1), LENT(LAYER1_PIDS), LENT(LAYER1_P2), LENT(LAYER1_P3), LENT(LAYER1_P4), \
+            LENT(LAYER1_PM), LENT(LAYER1_PX1), LENT(LAYER1_PX2), LENT(LAYER1_CONTROL), MEMORIES
 
-static void send(void)
-{
-    word = layer1_send(layer1_mode(word), layer1_half(word), layer1_age(word),
-                       LENT(LAYER1_P1), LENT(LAYER1_PIDS), LENT(LAYER1_P3), LENT(LAYER1_P4),
-                       LENT(LAYER1_PM), LENT(LAYER1_PX1), LENT(LAYER1_PX2), LENT(LAYER1_CONTROL),
-                       LENT(LAYER1_MEMORY3), LENT(LAYER1_MEMORY4));
-}
+static void send(void) { word = layer1_send(STATE, ALL); }
 
-static void read(void)
-{
-    word = layer1_read(layer1_mode(word), layer1_half(word), layer1_age(word),
-                       LENT(LAYER1_P1), LENT(LAYER1_PIDS), LENT(LAYER1_P3), LENT(LAYER1_P4),
-                       LENT(LAYER1_PM), LENT(LAYER1_PX1), LENT(LAYER1_PX2), LENT(LAYER1_CONTROL),
-                       LENT(LAYER1_MEMORY3), LENT(LAYER1_MEMORY4));
-}
+static void read(void) { word = layer1_read(STATE, ALL); }
 
 static void find(void)
 {
@@ -77,32 +71,41 @@ static size_t taken(void (*call)(void))
 
 static size_t most(size_t a, size_t b) { return a < b ? b : a; }
 
+/* The greatest over a run's calls, of which none is refused; each leaves its matrices and control, or finds them there. */
+static size_t run(void (*call)(void), uint8_t matrices[COUNT][4][MOST])
+{
+    size_t greatest = 0;
+    for (size_t t = 0; t < COUNT; t++) {
+        if (call == read)
+            memcpy(buffer[LAYER1_PM], matrices[t], sizeof matrices[t]);
+        greatest = most(greatest, taken(call));
+        if (call == send)
+            memcpy(matrices[t], buffer[LAYER1_PM], sizeof matrices[t]);
+        if (layer1_number(word) != 0) {
+            printf("refused: number %u\n", layer1_number(word));
+            exit(1);
+        }
+    }
+    return greatest;
+}
+
 int main(void)
 {
-    static const uint8_t modes[] = {1, 2, 3, 11};
-    static uint8_t matrices[4][4][MOST];
-    size_t sending = 0, reading = 0;
+    static const uint8_t modes[] = {1, 2, 3, 5, 6, 11};
+    static uint8_t matrices[COUNT][4][MOST];
+    int above = taken(find) > LAYER1_SEND_STACK;
     for (size_t m = 0; m < sizeof modes; m++) {
         for (size_t place = 0; place < PLACES; place++)
             len[place] = layer1_sender_length(modes[m], place);
-        word = layer1_start_sender(modes[m], LENT(LAYER1_MEMORY3), LENT(LAYER1_MEMORY4));
-        for (size_t t = 0; t < 4; t++) {
-            sending = most(sending, taken(send));
-            memcpy(matrices[t], buffer[LAYER1_PM], sizeof matrices[t]);
-        }
+        word = layer1_start_sender(modes[m], MEMORIES);
+        size_t sending = run(send, matrices);
         for (size_t place = 0; place < PLACES; place++)
             len[place] = layer1_reader_length(modes[m], place);
-        word = layer1_start_reader(modes[m], LENT(LAYER1_MEMORY3), LENT(LAYER1_MEMORY4));
-        for (size_t t = 0; t < 4; t++) {
-            memcpy(buffer[LAYER1_PM], matrices[t], sizeof matrices[t]);
-            reading = most(reading, taken(read));
-            if (layer1_number(word) != 0) {
-                printf("refused: number %u\n", layer1_number(word));
-                return 1;
-            }
-        }
+        word = layer1_start_reader(modes[m], MEMORIES);
+        size_t reading = run(read, matrices);
+        printf("%u %zu %zu\n", modes[m], sending, reading);
+        above |= sending > LAYER1_SEND_STACK || reading > LAYER1_READ_STACK;
     }
-    printf("%zu %zu\n", sending, reading);
-    return sending > LAYER1_SEND_STACK || reading > LAYER1_READ_STACK || taken(find) > LAYER1_SEND_STACK
-        || taken(nearest) > LAYER1_SEND_STACK || taken(restore) > LAYER1_SEND_STACK || taken(fill) > LAYER1_SEND_STACK;
+    return above || taken(find) > LAYER1_SEND_STACK || taken(nearest) > LAYER1_SEND_STACK || taken(restore) > LAYER1_SEND_STACK
+        || taken(fill) > LAYER1_SEND_STACK;
 }

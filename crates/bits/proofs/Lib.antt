@@ -3,6 +3,7 @@ pub mod Numbers
 pub mod Written
 pub mod Around
 pub mod Once
+pub mod Beside
 pub mod Packed
 pub mod Parts
 pub mod Words

@@ -4,10 +4,10 @@ use mathlib.Core.List.{List, _∷_, _++_}
 use Prim.Native.Nat.{ℕ, zero, suc, _+_, _-_, _*_, _/_, _%_, _^_, _<_}
 use native.Mathlib.Nat.{zero-div, zero-add, suc-add}
 use native.Mathlib.Omega.{arith}
-use lib.ListN.{List·getD-append, getD, length, replicate, take, drop}
-use lib.Seq.{getD-append-add, getD-take, getD-drop, take-all, take-add}
+use lib.ListN.{List·getD-append, getD, length, replicate, take, drop, take-append-drop}
+use lib.Seq.{getD-append-add, getD-take, getD-drop}
 use Rattle.bits.specs.Bits.{bitAt, number, packed}
-use Rattle.bits.proofs.Packed.{length-packed, packed-cong}
+use Rattle.bits.proofs.Packed.{packed-cong}
 
 pub bitAt-zeros : (n i : ℕ) → bitAt (replicate n 0) i ≡ 0
 unfolding bitAt
@@ -46,12 +46,9 @@ drop-packed zero n f = rw (zero-add n) (packed-cong n _ _ (λ i l. ap f (omega a
 drop-packed (suc j) n f =
     rw (suc-add j n) (drop-packed j n (λ i. f (8 + i)) ∙ packed-cong n _ _ (λ i l. ap f (omega arith)))
 
-pub packed-append : (a b : ℕ) (f : ℕ → ℕ) → packed (a + b) f ≡ packed a f ++ packed b (λ i. f (8 * a + i))
-packed-append a b f =
-    sym (take-all (a + b) (packed (a + b) f) (omega (arith, length-packed (a + b) f)))
-    ∙ take-add a b (packed (a + b) f)
-    ∙ ap₂ {C = List ℕ} (λ (x y : List ℕ). x ++ y) (take-packed a b f)
-    (ap (take b) (drop-packed a b f) ∙ take-all b (packed b (λ i. f (8 * a + i))) (omega (arith, length-packed b (λ i. f (8 * a + i)))))
+pub packed-append : (j n : ℕ) (f : ℕ → ℕ) → packed j f ++ packed n (λ i. f (8 * j + i)) ≡ packed (j + n) f
+packed-append j n f =
+    ap₂ (λ (x y : List ℕ). x ++ y) (sym (take-packed j n f)) (sym (drop-packed j n f)) ∙ take-append-drop j (packed (j + n) f)
 
 -- a part of a list
 pub bitAt-part : (l : List ℕ) (a k i : ℕ) → i < 8 * k → bitAt (take k (drop a l)) i ≡ bitAt l (8 * a + i)

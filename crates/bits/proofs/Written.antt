@@ -45,6 +45,16 @@ written-lt place bits (suc n) m hb hm c = go (eqb c (place n)) (written-lt place
     go true ih = hb n
     go false ih = ih
 
+-- zeros over zeros
+pub written-zero : (place bits : ℕ → ℕ) (n : ℕ) → ((i : ℕ) → bits i ≡ 0) → (c : ℕ) → written place bits n (λ c. 0) c ≡ 0
+unfolding written put
+written-zero place bits zero h c = refl
+written-zero place bits (suc n) h c = go (eqb c (place n)) (written-zero place bits n h c)
+  where
+    go : (t : Bool) → written place bits n (λ c. 0) c ≡ 0 → cond t (bits n) (written place bits n (λ c. 0) c) ≡ 0
+    go true ih = h n
+    go false ih = ih
+
 -- the last of the bits, and the others
 pub written-last : (place bits : ℕ → ℕ) (n : ℕ) (m : ℕ → ℕ) (c : ℕ) → c ≡ place n → written place bits (suc n) m c ≡ bits n
 unfolding written

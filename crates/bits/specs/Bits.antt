@@ -3,7 +3,7 @@ use Prim.Native.Nat.{ℕ, zero, suc, _+_, _-_, _*_, _/_, _%_, _^_, _<_}
 use mathlib.Core.List.{List, [], _∷_}
 use mathlib.Core.Bool.{cond}
 use lib.ListN.{getD}
-use lib.Dec.{eqb}
+use lib.Dec.{eqb, ltb}
 
 -- Every element is a byte: what a lent slice of u8 always is.
 abbrev pub Bytes : List ℕ → Type 0
@@ -35,3 +35,7 @@ put n b f i = cond (eqb i n) b (f i)
 unfoldable pub written : (ℕ → ℕ) → (ℕ → ℕ) → ℕ → (ℕ → ℕ) → ℕ → ℕ
 written place bits zero m = m
 written place bits (suc n) m = put (place n) (bits n) (written place bits n m)
+
+-- Two rows, of streams or of tests: n of the first, and then the second, counted on.
+unfoldable pub beside : {A : Type 0} → ℕ → (ℕ → A) → (ℕ → A) → ℕ → A
+beside n f g k = cond (ltb k n) (f k) (g (k - n))

@@ -1,9 +1,9 @@
 -- The first causes of a sending and a reading, case by case, and what an answer of number 0 says. Assumes nothing.
 use mathlib.Core.Path.{_≡_, refl, sym, _∙_}
-use mathlib.Core.Bool.{Bool, true, false, cond, not, true≢false}
+use mathlib.Core.Bool.{Bool, true, false, cond, not, _&&_}
 use mathlib.Core.Option.{Option, none, some}
 use mathlib.Core.List.{List, [], _∷_, _++_}
-use Prim.Native.Nat.{ℕ, _<_, _≤_}
+use Prim.Native.Nat.{ℕ, _%_, _<_, _≤_}
 use native.Mathlib.Omega.{arith}
 use borrow.Author.Tests.{eqb-true, ltb-true}
 use lib.Dec.{eqb, ltb}
@@ -17,7 +17,8 @@ use Rattle.runs.specs.declared.Kind.{Kind}
 use Rattle.runs.specs.declared.State.{State}
 use Rattle.runs.specs.Answers.{numberOf}
 use Rattle.runs.specs.Causes.{at, judge, when, wrong}
-use Rattle.runs.specs.Lengths.{kindOf, p1Len, pidsLen, pmLen, controlLen}
+use Rattle.runs.specs.MainChannels.{mainOf, lastAge}
+use Rattle.runs.specs.Lengths.{kindOf, pidsLen, pmLen, controlLen}
 use Rattle.runs.specs.Lent.{Lent, Memory}
 use Rattle.runs.specs.Starting.{aged, memorySizes, valid}
 use Rattle.runs.specs.Sending.{lentSizes}
@@ -51,15 +52,13 @@ module _ (s : State) (o : Option ℕ) where
       go true (some k) e = absurd (omega arith)
       go false o e = absurd (omega arith)
 
-pub half-of : (half age : ℕ) → aged half age ≡ true → half < 2
+pub half-of : (last half age : ℕ) → aged last half age ≡ true → half < 2
 unfolding aged
-half-of half age = go (eqb age 0) (eqb age 1) (eqb age 2)
+half-of last half age = go (ltb age last)
   where
-    go : (a b d : Bool) → cond a (eqb half 0) (cond b (eqb half 1) (cond d (ltb half 2) false)) ≡ true → half < 2
-    go true b d e = let z : half ≡ 0 = eqb-true half 0 e in omega arith
-    go false true d e = let z : half ≡ 1 = eqb-true half 1 e in omega arith
-    go false false true e = ltb-true half 2 e
-    go false false false e = absurd (true≢false (sym e))
+    go : (a : Bool) → cond a (eqb half (age % 2)) (eqb age last && ltb half 2) ≡ true → half < 2
+    go true e = let z : half ≡ age % 2 = eqb-true half (age % 2) e in omega arith
+    go false e = ltb-true half 2 (and-true (eqb age last) (ltb half 2) e .1)
 
 module _ (len : Kind → ℕ) (s : State) (m : Memory) (l : Lent) where
   -- the lengths that the code compares are the table's
@@ -69,9 +68,9 @@ module _ (len : Kind → ℕ) (s : State) (m : Memory) (l : Lent) where
   compared have want h w = rw (h, w)
 
   pub fits : valid s ≡ true → wrong 0 (lentSizes (s .mode) l ++ memorySizes len (s .mode) m) ≡ none → Fits len s m l
-  unfolding valid lentSizes memorySizes p1Len pidsLen pmLen controlLen
+  unfolding valid lentSizes memorySizes pidsLen pmLen controlLen
   fits v e =
-      let (cov, old) = and-true (covered (s .mode)) (aged (s .half) (s .age)) v in
+      let (cov, old) = and-true (covered (s .mode)) (aged (lastAge (mainOf (s .mode))) (s .half) (s .age)) v in
       let (e₀, r₁) = wrong-head _ _ _ _ e in
       let (e₁, r₂) = wrong-head _ _ _ _ r₁ in
       let (e₂, r₃) = wrong-head _ _ _ _ r₂ in
@@ -81,18 +80,22 @@ module _ (len : Kind → ℕ) (s : State) (m : Memory) (l : Lent) where
       let (e₆, r₇) = wrong-head _ _ _ _ r₆ in
       let (e₇, r₈) = wrong-head _ _ _ _ r₇ in
       let (e₈, r₉) = wrong-head _ _ _ _ r₈ in
-      let (e₉, r) = wrong-head _ _ _ _ r₉ in
+      let (e₉, r₁₀) = wrong-head _ _ _ _ r₉ in
+      let (e₁₀, r₁₁) = wrong-head _ _ _ _ r₁₀ in
+      let (e₁₁, r) = wrong-head _ _ _ _ r₁₁ in
       record {
         mode-lt = covered-lt (s .mode) cov;
-        half-lt = half-of (s .half) (s .age) old;
+        half-lt = half-of (lastAge (mainOf (s .mode))) (s .half) (s .age) old;
         p1 = e₀;
         pids = e₁;
-        p3 = e₂;
-        p4 = e₃;
-        pm = e₄;
-        px1 = e₅;
-        px2 = e₆;
-        control = e₇;
-        memory3 = e₈;
-        memory4 = e₉;
+        p2 = e₂;
+        p3 = e₃;
+        p4 = e₄;
+        pm = e₅;
+        px1 = e₆;
+        px2 = e₇;
+        control = e₈;
+        memory3 = e₉;
+        memory4 = e₁₀;
+        delay = e₁₁;
       }

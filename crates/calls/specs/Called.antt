@@ -1,15 +1,15 @@
 -- What the contracts of the calls of a run compare: the definitions' records from the arguments of a call.
 use mathlib.Core.List.{List}
 use Prim.Native.Nat.{ℕ}
-use Rattle.runs.specs.Lent.{Lent, Matrices, Memory, Result, Signal}
+use Rattle.runs.specs.Lent.{Frames, Lent, Matrices, Memory, Result, Signal}
 use Rattle.runs.specs.Starting.{Started}
 use Rattle.calls.specs.declared.states.Outcome.{Outcome}
 
 abbrev pub Buffer : Type 0
 Buffer = List ℕ
 
-abbrev pub memory : (for3 for4 : Buffer) → Memory
-memory for3 for4 = record { for3 = for3; for4 = for4 }
+abbrev pub memory : (for3 for4 delayed : Buffer) → Memory
+memory for3 for4 delayed = record { for3 = for3; for4 = for4; delayed = delayed }
 
 abbrev pub matrices : (pm px1 px2 : Buffer) → Matrices
 matrices pm px1 px2 = record { pm = pm; px1 = px1; px2 = px2 }
@@ -17,9 +17,12 @@ matrices pm px1 px2 = record { pm = pm; px1 = px1; px2 = px2 }
 abbrev pub signal : (pm px1 px2 control : Buffer) → Signal
 signal pm px1 px2 control = record { matrices = matrices pm px1 px2; control = control }
 
-abbrev pub lent : (p1 pids p3 p4 pm px1 px2 control : Buffer) → Lent
-lent p1 pids p3 p4 pm px1 px2 control =
-    record { frames = record { p1 = p1; pids = pids; p3 = p3; p4 = p4 }; signal = signal pm px1 px2 control }
+abbrev pub frames : (p1 pids p2 p3 p4 : Buffer) → Frames
+frames p1 pids p2 p3 p4 = record { p1 = p1; pids = pids; p2 = p2; p3 = p3; p4 = p4 }
+
+abbrev pub lent : (p1 pids p2 p3 p4 pm px1 px2 control : Buffer) → Lent
+lent p1 pids p2 p3 p4 pm px1 px2 control =
+    record { frames = frames p1 pids p2 p3 p4; signal = signal pm px1 px2 control }
 
 -- what a start, and what a sending or a reading gave
 abbrev pub startGave : Outcome → Memory → Started

@@ -1,4 +1,4 @@
-// Document 01, the table of causes: the number and the place of an answer.
+// Documents 01 and 02, the table of causes: the number and the place of an answer.
 use runs::Answer;
 ghost use mathlib.Core.Path.{_≡_};
 ghost use Rattle.runs.specs.Answers.{numberOf, placeOf};
@@ -12,7 +12,7 @@ pub fn number(answer: Answer) -> u8
         Answer::StateNotValid => 2,
         Answer::WrongLength(_) => 3,
         Answer::WrongControl(_) => 4,
-        Answer::P1NotCoded => 5,
+        Answer::MainNotCoded(_) => 5,
         Answer::PidsNotCoded(_) => 6,
         Answer::FillNotZero(_) => 7,
         Answer::ExtendedNotCoded(_) => 8,
@@ -34,7 +34,7 @@ pub fn place(answer: Answer) -> usize
         Answer::StateNotValid => 0,
         Answer::WrongLength(place) => place,
         Answer::WrongControl(block) => block,
-        Answer::P1NotCoded => 0,
+        Answer::MainNotCoded(frame) => frame,
         Answer::PidsNotCoded(frame) => frame,
         Answer::FillNotZero(cell) => cell,
         Answer::ExtendedNotCoded(frame) => frame,

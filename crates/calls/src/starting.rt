@@ -1,6 +1,8 @@
 // Document 01: starting a sender and starting a reader.
+use crate::lengths::delay_len;
 use crate::lengths::first_wrong;
 use crate::lengths::kind_of;
+use crate::lengths::main_of;
 use crate::lengths::reader_len;
 use crate::lengths::sender_len;
 use crate::states::Outcome;
@@ -22,9 +24,10 @@ fn start_side(
     want4: usize,
     memory3: &mut [u8],
     memory4: &mut [u8],
+    delay: &mut [u8],
 ) -> Outcome
     ensures { λ r. ⌜ ((len : Kind → ℕ) → want3 ≡ len (kindOf mode P3) → want4 ≡ len (kindOf mode P4)
-        → startGave r (memory (now (memory3 .exit)) (now (memory4 .exit))) ≡ start len mode (memory (now (memory3 .entry)) (now (memory4 .entry)))) ⌝ }
+        → startGave r (memory (now (memory3 .exit)) (now (memory4 .exit)) (now (delay .exit))) ≡ start len mode (memory (now (memory3 .entry)) (now (memory4 .entry)) (now (delay .entry)))) ⌝ }
 {
     if !control::is_covered(mode) {
         return Outcome {
@@ -32,10 +35,10 @@ fn start_side(
             state: fresh_state(1),
         };
     }
-    let have = [memory3.len(), memory4.len()];
-    let want = [want3, want4];
+    let have = [memory3.len(), memory4.len(), delay.len()];
+    let want = [want3, want4, delay_len(main_of(mode))];
     let place = first_wrong(&have, &want);
-    if place < 2 {
+    if place < 3 {
         return Outcome {
             answer: Answer::WrongLength(place),
             state: fresh_state(1),
@@ -43,6 +46,7 @@ fn start_side(
     }
     bits::fill(memory3, 0);
     bits::fill(memory4, 0);
+    bits::fill(delay, 0);
     Outcome {
         answer: Answer::Success,
         state: fresh_state(mode),
@@ -50,21 +54,21 @@ fn start_side(
 }
 
 // Starts a sender: zeroes its memory and returns the state before the first L1 frame.
-pub fn start_sender(mode: u8, memory3: &mut [u8], memory4: &mut [u8]) -> Outcome
-    ensures { λ r. ⌜ startGave r (memory (now (memory3 .exit)) (now (memory4 .exit)))
-        ≡ start senderLen mode (memory (now (memory3 .entry)) (now (memory4 .entry))) ⌝ }
+pub fn start_sender(mode: u8, memory3: &mut [u8], memory4: &mut [u8], delay: &mut [u8]) -> Outcome
+    ensures { λ r. ⌜ startGave r (memory (now (memory3 .exit)) (now (memory4 .exit)) (now (delay .exit)))
+        ≡ start senderLen mode (memory (now (memory3 .entry)) (now (memory4 .entry)) (now (delay .entry))) ⌝ }
 {
     let want3 = sender_len(kind_of(mode, Extended::P3));
     let want4 = sender_len(kind_of(mode, Extended::P4));
-    start_side(mode, want3, want4, memory3, memory4)
+    start_side(mode, want3, want4, memory3, memory4, delay)
 }
 
 // Starts a reader.
-pub fn start_reader(mode: u8, memory3: &mut [u8], memory4: &mut [u8]) -> Outcome
-    ensures { λ r. ⌜ startGave r (memory (now (memory3 .exit)) (now (memory4 .exit)))
-        ≡ start readerLen mode (memory (now (memory3 .entry)) (now (memory4 .entry))) ⌝ }
+pub fn start_reader(mode: u8, memory3: &mut [u8], memory4: &mut [u8], delay: &mut [u8]) -> Outcome
+    ensures { λ r. ⌜ startGave r (memory (now (memory3 .exit)) (now (memory4 .exit)) (now (delay .exit)))
+        ≡ start readerLen mode (memory (now (memory3 .entry)) (now (memory4 .entry)) (now (delay .entry))) ⌝ }
 {
     let want3 = reader_len(kind_of(mode, Extended::P3));
     let want4 = reader_len(kind_of(mode, Extended::P4));
-    start_side(mode, want3, want4, memory3, memory4)
+    start_side(mode, want3, want4, memory3, memory4, delay)
 }

@@ -1,4 +1,6 @@
 // Document 01, "Operations of a run": states, and what a call gives beside the buffers.
+use crate::lengths::last_age;
+use crate::lengths::main_of;
 use runs::Answer;
 use runs::State;
 ghost use mathlib.Core.Path.{_≡_};
@@ -23,16 +25,13 @@ pub fn fresh_state(mode: u8) -> State
 }
 
 // Whether a state of this age can have this half.
-fn is_aged(half: u8, age: u8) -> bool
-    ensures { λ r. ⌜ r ≡ aged half age ⌝ }
+fn is_aged(last: u8, half: u8, age: u8) -> bool
+    ensures { λ r. ⌜ r ≡ aged last half age ⌝ }
 {
-    if age == 0 {
-        return half == 0;
+    if age < last {
+        return half == age % 2;
     }
-    if age == 1 {
-        return half == 1;
-    }
-    if age == 2 {
+    if age == last {
         return half < 2;
     }
     false
@@ -43,18 +42,19 @@ pub fn is_valid(state: State) -> bool
     ensures { λ r. ⌜ r ≡ valid state ⌝ }
 {
     if control::is_covered(state.mode) {
-        return is_aged(state.half, state.age);
+        let last = last_age(main_of(state.mode));
+        return is_aged(last, state.half, state.age);
     }
     false
 }
 
-fn next_age(age: u8) -> u8
-    ensures { λ r. ⌜ r ≡ min 2 (age + 1) ⌝ }
+fn next_age(last: u8, age: u8) -> u8
+    ensures { λ r. ⌜ r ≡ min last (age + 1) ⌝ }
 {
-    if age == 0 {
-        return 1;
+    if age < last {
+        return age + 1;
     }
-    2
+    last
 }
 
 // The state after one more L1 frame.
@@ -62,9 +62,10 @@ pub fn next_of(state: State) -> State
     ensures { λ r. ⌜ r ≡ next state ⌝ }
 {
     let half = (state.half % 2 + 1) % 2;
+    let last = last_age(main_of(state.mode));
     State {
         mode: state.mode,
         half,
-        age: next_age(state.age),
+        age: next_age(last, state.age),
     }
 }

@@ -1,1 +1,3 @@
 mod Extends
+mod Mains
+mod Parts

@@ -1,9 +1,13 @@
--- For the code alone: the buffers of an extended channel.
+-- For the code alone: the buffers of the work on a channel.
 use mathlib.Core.Path.{_≡_}
+use mathlib.Core.Logic.{_⊎_}
 use mathlib.Core.List.{List}
-use Prim.Native.Nat.{ℕ, _<_}
+use Prim.Native.Nat.{ℕ, _+_, _*_, _/_, _%_, _≤_, _<_}
 use lib.ListN.{length}
 use Rattle.runs.specs.declared.Kind.{Kind}
+use Rattle.runs.specs.declared.Kind.the-variants.{Unused}
+use Rattle.runs.specs.declared.Main.{Main}
+use Rattle.runs.specs.declared.Main.the-variants.{Plain}
 use Rattle.runs.specs.Lengths.{frameLen, matrixLen, tableRow}
 
 -- the eight frames of a channel that a mode uses, room for them scrambled, and for their coded bits
@@ -12,3 +16,15 @@ pub record Room (kind : Kind) (frames scrambled coded : List ℕ) : Type 0 where
   pub plain : length frames ≡ frameLen kind
   pub between : length scrambled ≡ frameLen kind
   pub long : length coded ≡ matrixLen kind
+
+-- eight P1 frames of n bytes, P2, room for both scrambled, and for their coded bits
+pub record Split (n : ℕ) (p1 p2 mixed u : List ℕ) : Type 0 where
+  pub few : (12 ≤ n) × (n ≤ 2284) × (n % 2 ≡ 0)
+  pub long2 : (12 ≤ length p2) × (length p2 ≤ 18272) × (length p2 % 2 ≡ 0)
+  pub plain : length p1 ≡ 8 * n
+  pub between : length mixed ≡ 8 * n + length p2
+  pub all : length u ≡ 20 * n + length p2 / 2 * 5
+
+-- no mode has both P1' and P4
+abbrev pub Alone : Main → Kind → Type 0
+Alone main kind = (main ≡ Plain) ⊎ (kind ≡ Unused)

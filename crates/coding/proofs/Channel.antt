@@ -26,7 +26,7 @@ pub channel-bit : (rate : Rate) (n : ℕ) (f : ℕ → ℕ) (m : ℕ) → channe
 unfolding channel
 channel-bit rate n f m = coded-bit _ _ _ _
 
-length-pos : (rate : Rate) (n : ℕ) → 12 ≤ n → 0 < codedLength rate n
+pub length-pos : (rate : Rate) (n : ℕ) → 12 ≤ n → 0 < codedLength rate n
 length-pos TwoFifths n h = omega arith
 length-pos Half n h = omega arith
 

@@ -42,7 +42,7 @@ pub covered-place : (m : ℕ) → covered m ≡ true → Place modes m
 unfolding covered
 covered-place m e = place modes m e
 
-pub covered-at : (k : ℕ) → k < 4 → covered (getD modes k 0) ≡ true
+pub covered-at : (k : ℕ) → k < 6 → covered (getD modes k 0) ≡ true
 unfolding covered modes
 covered-at k h = one-of-at modes k h
 
@@ -52,7 +52,9 @@ mode-lt zero = omega arith
 mode-lt (suc zero) = omega arith
 mode-lt (suc (suc zero)) = omega arith
 mode-lt (suc (suc (suc zero))) = omega arith
-mode-lt (suc (suc (suc (suc k)))) = omega arith
+mode-lt (suc (suc (suc (suc zero)))) = omega arith
+mode-lt (suc (suc (suc (suc (suc zero))))) = omega arith
+mode-lt (suc (suc (suc (suc (suc (suc k)))))) = omega arith
 
 pub covered-lt : (m : ℕ) → covered m ≡ true → m < 64
 covered-lt m e = let p = covered-place m e in rw (← p .is) (mode-lt (p .at))

@@ -26,13 +26,13 @@ lowest-le n p k e = go (decLt k (lowest n p))
     go (yes l) = let f : p k ≡ false = lowest-below n p k l in let z : _≡_ {A = ℕ} 0 1 = cc in omega arith
     go (no l) = omega arith
 
--- ---- the 64 pairs
+-- ---- the 96 pairs
 
 count-lt : (n : ℕ) → countOf n < 16
 unfolding countOf
 count-lt n = omega arith
 
-pair-covered : (n : ℕ) → n < 64 → covered (modeOf n) ≡ true
+pair-covered : (n : ℕ) → n < 96 → covered (modeOf n) ≡ true
 unfolding modeOf
 pair-covered n h = covered-at (n / 16) (omega arith)
 
@@ -44,9 +44,9 @@ pair-count : (k c : ℕ) → c < 16 → countOf (k * 16 + c) ≡ c
 unfolding countOf
 pair-count k c h = omega arith
 
-modes-four : length modes ≡ 4
+modes-six : length modes ≡ 6
 unfolding modes
-modes-four = refl
+modes-six = refl
 
 pair-lt : (n : ℕ) → modeOf n < 64
 unfolding modeOf
@@ -62,18 +62,18 @@ looked-up-found block m c cov hc e =
     let r : ℕ = k .at * 16 + c in
     let mode-is : modeOf r ≡ m = pair-mode (k .at) c hc ∙ k .is in
     let hit : p r ≡ true = same-eq block _ (e ∙ sym (ap₂ (λ (a b : ℕ). blockOf a b 0) mode-is (pair-count (k .at) c hc))) in
-    let n : ℕ = lowest 64 p in
-    let l : n < 64 = omega (arith, lowest-le 64 p r hit, modes-four) in
-    let same-block : blockOf (modeOf n) (countOf n) 0 ≡ blockOf m c 0 = sym (same-true block _ (lowest-passes 64 p l)) ∙ e in
+    let n : ℕ = lowest 96 p in
+    let l : n < 96 = omega (arith, lowest-le 96 p r hit, modes-six) in
+    let same-block : blockOf (modeOf n) (countOf n) 0 ≡ blockOf m c 0 = sym (same-true block _ (lowest-passes 96 p l)) ∙ e in
     let d =
     block-determines (modeOf n) (countOf n) 0 m c 0 (pair-lt n) (count-lt n) (omega arith) (covered-lt m cov) hc (omega arith) same-block
     in
-    rw (lt-ltb n 64 l) (ap₂ Found (d .0) (d .1))
+    rw (lt-ltb n 96 l) (ap₂ Found (d .0) (d .1))
 
-looked-up-none : (block : List ℕ) → ((n : ℕ) → n < 64 → block ≡ blockOf (modeOf n) (countOf n) 0 → ⊥) → lookedUp block ≡ NotABlock
+looked-up-none : (block : List ℕ) → ((n : ℕ) → n < 96 → block ≡ blockOf (modeOf n) (countOf n) 0 → ⊥) → lookedUp block ≡ NotABlock
 unfolding lookedUp
 looked-up-none block h =
-    rw (lowest-none 64 (λ n. same block (blockOf (modeOf n) (countOf n) 0)) (λ n l. same-ne block (blockOf (modeOf n) (countOf n) 0) (h n l)))
+    rw (lowest-none 96 (λ n. same block (blockOf (modeOf n) (countOf n) 0)) (λ n l. same-ne block (blockOf (modeOf n) (countOf n) 0) (h n l)))
 
 -- the code's way: a block is that of the mode and the count which its column 0 says, or of none
 module _ (block : List ℕ) (m c : ℕ) (hm : m ≡ number 6 (λ i. decoded block (25 + i))) (hc : c ≡ number 4 (λ i. decoded block (16 + i))) where

@@ -43,7 +43,7 @@ control-more mode reserved c out block e h front back =
     ∙ ap (take (c * 256 + 256)) (sym (append-assoc (take (c * 256) out) block (drop (c * 256 + 256 - c * 256) (drop (c * 256) out))))
     ∙ take-at (take (c * 256) out ++ block) (drop (c * 256 + 256 - c * 256) (drop (c * 256) out)) (c * 256 + 256) l
     ∙ ap₂ {C = List ℕ} (λ (x y : List ℕ). x ++ y) front (back ∙ sym (block-bits mode reserved c))
-    ∙ sym (packed-append (c * 256) 256 f)
+    ∙ packed-append (c * 256) 256 f
     ∙ ap (λ (i : ℕ). packed i f) (sym n)
 
 -- the end: all blocks are written

@@ -1,4 +1,4 @@
--- The lookup of document 01: what a control block alone says, by comparing it with the blocks of all 64 pairs of a covered mode and a count.
+-- The lookup of document 01: what a control block alone says, by comparing it with the blocks of all 96 pairs of a covered mode and a count.
 use Prim.Native.Nat.{ℕ, _/_, _%_}
 use mathlib.Core.List.{List}
 use mathlib.Core.Bool.{cond}
@@ -20,5 +20,5 @@ countOf n = n % 16
 -- The first pair whose block this is. The reserved bits are 0.
 unfoldable pub lookedUp : List ℕ → Looked
 lookedUp block =
-    let n : ℕ = lowest 64 (λ n. same block (blockOf (modeOf n) (countOf n) 0)) in
-    cond (ltb n 64) (Found (modeOf n) (countOf n)) NotABlock
+    let n : ℕ = lowest 96 (λ n. same block (blockOf (modeOf n) (countOf n) 0)) in
+    cond (ltb n 96) (Found (modeOf n) (countOf n)) NotABlock

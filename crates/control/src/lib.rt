@@ -209,7 +209,7 @@ fn field_at(block: &[u8], row: usize, k: usize) -> u8
     x
 }
 
-// Whether the mode is MP1, MP2, MP3 or MP11.
+// Whether the mode is MP1, MP2, MP3, MP11, MP5 or MP6.
 pub fn is_covered(mode: u8) -> bool
     ensures { λ r. ⌜ r ≡ covered mode ⌝ }
 {
@@ -222,7 +222,13 @@ pub fn is_covered(mode: u8) -> bool
     if mode == 3 {
         return true;
     }
-    mode == 11
+    if mode == 11 {
+        return true;
+    }
+    if mode == 5 {
+        return true;
+    }
+    mode == 6
 }
 
 // The mode and count of a block, by the fields of its column 0 and one comparison.

@@ -3,7 +3,7 @@ use Prim.Native.Nat.{ℕ, _^_, _/_, _%_, _<_}
 use mathlib.Core.Path.{_≡_}
 use native.Mathlib.Omega.{arith}
 use Rattle.runs.specs.declared.Answer.{Answer}
-use Rattle.runs.specs.declared.Answer.the-variants.{Success, ModeNotCovered, StateNotValid, WrongLength, WrongControl, P1NotCoded, PidsNotCoded, FillNotZero, ExtendedNotCoded, SharesTooMany, SymbolTooHigh, ScaleNotUsable, NoFrameFits, SeveralFit, WrongBudget}
+use Rattle.runs.specs.declared.Answer.the-variants.{Success, ModeNotCovered, StateNotValid, WrongLength, WrongControl, MainNotCoded, PidsNotCoded, FillNotZero, ExtendedNotCoded, SharesTooMany, SymbolTooHigh, ScaleNotUsable, NoFrameFits, SeveralFit, WrongBudget}
 use Rattle.runs.specs.declared.State.{State}
 use Rattle.runs.specs.Answers.{numberOf, placeOf}
 use Rattle.queries.specs.Finder.{Channel, none, p1, pids}
@@ -20,7 +20,7 @@ number-lt ModeNotCovered = omega arith
 number-lt StateNotValid = omega arith
 number-lt (WrongLength k) = omega arith
 number-lt (WrongControl k) = omega arith
-number-lt P1NotCoded = omega arith
+number-lt (MainNotCoded k) = omega arith
 number-lt (PidsNotCoded k) = omega arith
 number-lt (FillNotZero k) = omega arith
 number-lt (ExtendedNotCoded k) = omega arith

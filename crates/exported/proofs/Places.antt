@@ -13,17 +13,21 @@ use Rattle.bits.specs.Tests.{lowest}
 use Rattle.control.specs.Departs.{departs}
 use Rattle.control.specs.Modes.{covered}
 use Rattle.runs.specs.declared.Answer.{Answer}
-use Rattle.runs.specs.declared.Answer.the-variants.{Success, ModeNotCovered, StateNotValid, WrongLength, WrongControl, P1NotCoded, PidsNotCoded, FillNotZero, ExtendedNotCoded, SharesTooMany, SymbolTooHigh, ScaleNotUsable, NoFrameFits, SeveralFit, WrongBudget}
+use Rattle.runs.specs.declared.Answer.the-variants.{Success, ModeNotCovered, StateNotValid, WrongLength, WrongControl, MainNotCoded, PidsNotCoded, FillNotZero, ExtendedNotCoded, SharesTooMany, SymbolTooHigh, ScaleNotUsable, NoFrameFits, SeveralFit, WrongBudget}
 use Rattle.runs.specs.declared.Extended.the-variants.{P3, P4}
 use Rattle.runs.specs.declared.Kind.{Kind}
 use Rattle.runs.specs.declared.Kind.the-variants.{Unused, Narrow, Wide}
 use Rattle.runs.specs.declared.State.{State}
 use Rattle.runs.specs.Answers.{placeOf, onSuccess}
 use Rattle.runs.specs.Causes.{Size, size, at, first, judge, when, wrong}
-use Rattle.runs.specs.Chain.{p1Bad, pidsBad}
-use Rattle.runs.specs.Lengths.{kindOf, matrixLen, readerLen, senderLen}
+use Rattle.runs.specs.declared.Main.{Main}
+use Rattle.runs.specs.declared.Main.the-variants.{Plain, Mp5, Mp6}
+use Rattle.runs.specs.MainChannels.{mainOf, p1Frames, p1′Len}
+use Rattle.runs.specs.Chain.{pidsBad}
+use Rattle.runs.specs.Lengths.{kindOf, matrixLen, pmLen, readerLen, senderLen}
 use Rattle.runs.specs.Lent.{Lent, Matrices, Memory, Signal}
-use Rattle.runs.specs.Reading.{fillPlace, framePlace, pushed, readAnswer, readStep, received}
+use Rattle.runs.specs.Judged.{countedFirst, fillPlace, framePlace, mainPlace}
+use Rattle.runs.specs.Reading.{pushed, readAnswer, readStep, received}
 use Rattle.runs.specs.Sending.{lentSizes, sendAnswer, sendStep, sent}
 use Rattle.runs.specs.Starting.{memorySizes, start, startAnswer, started, valid}
 use Rattle.mapping.specs.Points.{usable}
@@ -81,9 +85,40 @@ matrix-le Unused = omega arith
 matrix-le Narrow = omega arith
 matrix-le Wide = omega arith
 
-below-fill : (s : State) (x : Matrices) → Below (fillPlace s x)
+second-le : (k : Main) → p1′Len k ≤ 18432
+second-le Plain = omega arith
+second-le Mp5 = omega arith
+second-le Mp6 = omega arith
+
+counted-le : (k : Main) → countedFirst k ≤ 368640
+unfolding pmLen
+counted-le Plain = omega arith
+counted-le Mp5 = omega arith
+counted-le Mp6 = omega arith
+
+-- counted on from the cells of PM
+small-counted : (b n : ℕ) (bad : ℕ → Bool) → b ≤ 368640 → n ≤ 300000 → Small (at (λ c. FillNotZero (b + c)) (first n bad))
+unfolding first
+small-counted b n bad h l = go (ltb (lowest n bad) n) refl
+  where
+    go : (t : Bool) → ltb (lowest n bad) n ≡ t → Small (at (λ c. FillNotZero (b + c)) (cond t (some (lowest n bad)) none))
+    go true e = met (FillNotZero (b + lowest n bad)) (omega (arith, ltb-true (lowest n bad) n e))
+    go false e = not-met
+
+small-fill : (s : State) (x : Matrices) → Small (at (λ c. FillNotZero (countedFirst (mainOf (s .mode)) + c)) (fillPlace s x))
 unfolding fillPlace
-below-fill s x = below-first _ _ (omega (arith, matrix-le (kindOf (s .mode) P3), matrix-le (kindOf (s .mode) P4)))
+small-fill s x =
+    small-counted _ _ _ (counted-le (mainOf (s .mode)))
+    (omega (arith, matrix-le (kindOf (s .mode) P3), matrix-le (kindOf (s .mode) P4), second-le (mainOf (s .mode))))
+
+frames-le : (k : Main) → p1Frames k ≤ 8
+frames-le Plain = omega arith
+frames-le Mp5 = omega arith
+frames-le Mp6 = omega arith
+
+below-main : (s : State) (m : Memory) (x : Matrices) → Below (mainPlace s m x)
+unfolding mainPlace
+below-main s m x = below-first _ _ (omega (arith, frames-le (mainOf (s .mode))))
 
 below-frame : (s : State) (after : Memory) → Below (framePlace s after)
 unfolding framePlace
@@ -98,7 +133,7 @@ either place ModeNotCovered done other h l = l
 either place StateNotValid done other h l = l
 either place (WrongLength k) done other h l = l
 either place (WrongControl k) done other h l = l
-either place P1NotCoded done other h l = l
+either place (MainNotCoded k) done other h l = l
 either place (PidsNotCoded k) done other h l = l
 either place (FillNotZero k) done other h l = l
 either place (ExtendedNotCoded k) done other h l = l
@@ -134,10 +169,10 @@ read-place s m l =
     (judged (and (small-when (not (valid s)) StateNotValid refl)
     (and (small-lengths (lentSizes (s .mode) l ++ memorySizes readerLen (s .mode) m) (omega arith))
     (and (small-at WrongControl (λ k. refl) (below-first 16 (departs (s .mode) 0 (l .signal .control)) (omega arith)))
-    (and (small-when (p1Bad (x .pm)) P1NotCoded refl)
+    (and (small-at MainNotCoded (λ k. refl) (below-main s m x))
     (and (small-at PidsNotCoded (λ k. refl) (below-first 16 (pidsBad (x .pm)) (omega arith)))
-    (and (small-at FillNotZero (λ k. refl) (below-cond (ltb (s .age) 2) (below-fill s x) nowhere))
-    (and (small-at ExtendedNotCoded (λ k. refl) (below-cond (ltb (s .age) 2) nowhere (below-frame s (pushed m x)))) end))))))))
+    (and (small-fill s x)
+    (and (small-at ExtendedNotCoded (λ k. refl) (below-cond (ltb (s .age) 2) nowhere (below-frame s (pushed (s .mode) m x)))) end))))))))
 
 -- the place of a scale is 0 or 1
 small-scale : (t : Bool) (k : ℕ) → k < 2 → Small (when t (ScaleNotUsable k))

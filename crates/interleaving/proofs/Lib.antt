@@ -25,4 +25,6 @@ pub mod Steps
 pub mod FoundPX
 pub mod Conv
 pub mod Frames
-pub mod Others
+pub mod InTurn
+pub mod OncePX2
+pub mod PointsPX2

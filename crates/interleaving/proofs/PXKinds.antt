@@ -35,7 +35,7 @@ plain2 zero h = refl
 plain2 (suc zero) h = refl
 plain2 (suc (suc s)) h = omega arith
 
-plain4 : (s : ℕ) → s < 4 → getD v4 s 0 ≡ s
+pub plain4 : (s : ℕ) → s < 4 → getD v4 s 0 ≡ s
 unfolding v4
 plain4 zero h = refl
 plain4 (suc zero) h = refl

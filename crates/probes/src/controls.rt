@@ -21,39 +21,35 @@ fn is_row_31_zero(control: &[u8]) -> bool {
 
 // Sends the first L1 frame of a mode, of zeros, and leaves its control blocks.
 fn send(mode: u8, control: &mut [u8; 4096]) {
-    let n = layer1::sender_lengths(mode);
-    let p1 = [0u8; 18272];
-    let pids = [0u8; 160];
-    let p3 = [0u8; 4608];
-    let p4 = [0u8; 4608];
+    let want = layer1::sender_lengths(mode);
+    let input = [0u8; 27648];
     let mut pm = [0u8; 46080];
     let mut px1 = [0u8; 9216];
-    let mut px2 = [0u8; 9216];
+    let mut px2 = [0u8; 18432];
     let mut s3 = [0u8; 18432];
     let mut s4 = [0u8; 18432];
-    let a = programs::within(n[2], &p3);
-    let b = programs::within(n[3], &p4);
-    let c = programs::within(n[5], &px1);
-    let d = programs::within(n[6], &px2);
-    let e = programs::within(n[8], &s3);
-    let f = programs::within(n[9], &s4);
+    let mut delay = [0u8; 27648];
+    let a = programs::within(programs::frames_length(mode), &input);
+    let c = programs::within(want[6], &px1);
+    let d = programs::within(want[7], &px2);
+    let e = programs::within(want[9], &s3);
+    let f = programs::within(want[10], &s4);
+    let g = programs::within(want[11], &delay);
     let state = State {
         mode,
         half: 0,
         age: 0,
     };
-    given(layer1::send(
+    given(programs::send_input(
         state,
-        &p1,
-        &pids,
-        &p3[..a],
-        &p4[..b],
+        &input[..a],
         &mut pm,
         &mut px1[..c],
         &mut px2[..d],
         control,
         &mut s3[..e],
         &mut s4[..f],
+        &mut delay[..g],
     ));
 }
 
@@ -74,6 +70,8 @@ pub fn controls() {
     row_31(1, &mut control);
     row_31(2, &mut control);
     row_31(3, &mut control);
+    row_31(5, &mut control);
+    row_31(6, &mut control);
     row_31(11, &mut control);
     lookups(&mut control);
 }

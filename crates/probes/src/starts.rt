@@ -13,11 +13,11 @@ enum Side {
     Reader,
 }
 
-// Starts a side.
+// Starts a side with no delay memory.
 fn start(side: Side, mode: u8, m3: &mut [u8], m4: &mut [u8]) -> Outcome {
     match side {
-        Side::Sender => layer1::start_sender(mode, m3, m4),
-        Side::Reader => layer1::start_reader(mode, m3, m4),
+        Side::Sender => layer1::start_sender(mode, m3, m4, &mut [0u8; 0]),
+        Side::Reader => layer1::start_reader(mode, m3, m4, &mut [0u8; 0]),
     }
 }
 

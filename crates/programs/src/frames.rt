@@ -1,7 +1,8 @@
 // A sender's run, L1 frame by L1 frame from standard input.
 use crate::Step;
-use crate::buffers::read_four;
+use crate::inputs::send_input;
 use crate::refuse;
+use libc::STDIN_FILENO;
 use runs::Answer;
 use runs::State;
 
@@ -19,78 +20,39 @@ fn step_after(answer: Answer, state: State, frame: u64) -> Step {
 }
 
 // Starts a sender.
-pub fn start_sending(mode: u8, memory3: &mut [u8], memory4: &mut [u8]) -> Step {
-    let started = layer1::start_sender(mode, memory3, memory4);
+pub fn start_sending(mode: u8, memory3: &mut [u8], memory4: &mut [u8], delay: &mut [u8]) -> Step {
+    let started = layer1::start_sender(mode, memory3, memory4, delay);
     let answer = started.answer;
     let state = started.state;
     step_after(answer, state, 0)
 }
 
-// Sends L1 frame `frame`.
-fn send_one(
+// Reads L1 frame `frame` into `input`, a buffer of an L1 frame's length, and sends it. An input that ends early lends a buffer that is too short, which `send` refuses.
+pub fn send_next(
     state: State,
     frame: u64,
-    p1: &[u8],
-    pids: &[u8],
-    p3: &[u8],
-    p4: &[u8],
+    input: &mut [u8],
     pm: &mut [u8],
     px1: &mut [u8],
     px2: &mut [u8],
     control: &mut [u8],
     memory3: &mut [u8],
     memory4: &mut [u8],
+    delay: &mut [u8],
 ) -> Step {
-    let sent = layer1::send(
+    let n = io::read_full(STDIN_FILENO, input);
+    let sent = send_input(
         state,
-        p1,
-        pids,
-        p3,
-        p4,
+        &input[..n],
         pm,
         px1,
         px2,
         control,
         memory3,
         memory4,
+        delay,
     );
     let answer = sent.answer;
     let next = sent.state;
     step_after(answer, next, frame)
-}
-
-// Reads and sends L1 frame `frame`. An input that ends early lends a buffer that is too short, which `send` refuses.
-pub fn send_next(
-    state: State,
-    frame: u64,
-    p1: &mut [u8],
-    pids: &mut [u8],
-    p3: &mut [u8],
-    p4: &mut [u8],
-    pm: &mut [u8],
-    px1: &mut [u8],
-    px2: &mut [u8],
-    control: &mut [u8],
-    memory3: &mut [u8],
-    memory4: &mut [u8],
-) -> Step {
-    let came = read_four(p1, pids, p3, p4);
-    let a = came.first;
-    let b = came.second;
-    let c = came.third;
-    let d = came.fourth;
-    send_one(
-        state,
-        frame,
-        &p1[..a],
-        &pids[..b],
-        &p3[..c],
-        &p4[..d],
-        pm,
-        px1,
-        px2,
-        control,
-        memory3,
-        memory4,
-    )
 }

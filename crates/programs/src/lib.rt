@@ -2,10 +2,9 @@
 mod buffers;
 mod command_line;
 mod frames;
+mod inputs;
 mod lines;
 
-pub use buffers::Four;
-pub use buffers::read_four;
 pub use buffers::within;
 pub use buffers::write_four;
 pub use buffers::write_two;
@@ -16,6 +15,10 @@ pub use command_line::read_number;
 pub use command_line::usage;
 pub use frames::send_next;
 pub use frames::start_sending;
+pub use inputs::frames_length;
+pub use inputs::read_input;
+pub use inputs::send_input;
+pub use inputs::signal_length;
 use libc::STDERR_FILENO;
 pub use lines::Line;
 pub use lines::read_line;

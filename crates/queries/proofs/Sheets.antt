@@ -1,22 +1,28 @@
--- What the two finders say of a cell holds of every L1 frame of every sender's run. Assumes nothing.
-use mathlib.Core.Path.{_≡_, refl, sym, _∙_}
+-- What the two finders say of a cell holds of every L1 frame of every sender's run in the modes to which they keep. Assumes nothing.
+use mathlib.Core.Path.{_≡_, refl, sym, ap, subst, _∙_}
 use mathlib.Core.Logic.{inl, inr}
-use mathlib.Core.Bool.{true}
+use mathlib.Core.Bool.{Bool, true, false, cond}
 use Prim.Native.Nat.{ℕ, _+_, _-_, _*_, _%_, _≤_, _<_, min}
 use native.Mathlib.Decide.{decLt, ℕ-discrete}
 use native.Mathlib.Omega.{arith}
+use lib.Dec.{eqb}
 use borrow.Author.Tests.{lt-ltb, le-ltb}
 use Rattle.bits.specs.Bits.{bitAt}
 use Rattle.coding.specs.declared.Rate.the-variants.{TwoFifths}
 use Rattle.coding.specs.Channel.{channel}
+use Rattle.interleaving.specs.PM.{p1Place}
 use Rattle.interleaving.specs.PX.{codedBits}
+use Rattle.interleaving.specs.FinderPX.{earlier}
 use Rattle.runs.specs.declared.Answer.{Answer}
 use Rattle.runs.specs.declared.Answer.the-variants.{WrongLength}
 use Rattle.runs.specs.declared.Extended.{Extended}
 use Rattle.runs.specs.declared.Extended.the-variants.{P3, P4}
 use Rattle.runs.specs.declared.Kind.{Kind}
+use Rattle.runs.specs.declared.Main.{Main}
+use Rattle.runs.specs.declared.Main.the-variants.{Plain, Mp5, Mp6}
 use Rattle.runs.specs.declared.State.{State}
-use Rattle.runs.specs.Chain.{codedOf}
+use Rattle.runs.specs.MainChannels.{mainOf, lastAge, p1Bits}
+use Rattle.runs.specs.Chain.{codedOf, p1Coded}
 use Rattle.runs.specs.Lengths.{kindOf, tableRow}
 use Rattle.runs.specs.Lent.{frameOf, matrixOf}
 use Rattle.runs.specs.Runs.{SenderRun, count, frameAt, matricesAt}
@@ -46,7 +52,11 @@ pm-inside row column accepted = go (decLt row 512) (decLt column 720)
     go (yes h) (no l) = absurd (accepted (WrongLength 1) (rw (lt-ltb row 512 h, le-ltb column 720 (omega arith))))
     go (no h) l = absurd (accepted (WrongLength 0) (rw (le-ltb row 512 (omega arith))))
 
-module _ (mode : ℕ) (a : SenderRun mode) (t : ℕ) (h : t < count mode a) (row column : ℕ) where
+module _ (mode : ℕ) (is : mainOf mode ≡ Plain) (a : SenderRun mode) (t : ℕ) (h : t < count mode a) (row column : ℕ) where
+  p1-older : (i : ℕ) → i < 365440 → bitAt (matricesAt mode a t .pm) (p1Place i) ≡ channel TwoFifths 146176 (bitAt (frameAt mode a t .p1)) i
+  p1-older i l =
+      p1-shown mode a t h i (subst (λ (k : Main). i < p1Coded k) (sym is) l) ∙ ap (λ (k : Main). channel TwoFifths (p1Bits k) (bitAt (frameAt mode a t .p1)) i) is
+
   p1-in : (bit : ℕ) → found row column ≡ P1 bit
       → bitAt (matricesAt mode a t .pm) (row * 720 + column) ≡ channel TwoFifths 146176 (bitAt (frameAt mode a t .p1)) bit
   p1-in bit e =
@@ -55,7 +65,7 @@ module _ (mode : ℕ) (a : SenderRun mode) (t : ℕ) (h : t < count mode a) (row
         | inl (i, x) ↦
             let named = x .named in
             let same : i ≡ bit = cc in
-            rw (← x .stands, ← same) (p1-shown mode a t h i (x .inside))
+            rw (← x .stands, ← same) (p1-older i (x .inside))
         | inr (frame, i, x) ↦
             let named = x .named in
             let z : _≡_ {A = ℕ} 0 1 = cc in
@@ -80,10 +90,18 @@ module _ (mode : ℕ) (a : SenderRun mode) (t : ℕ) (h : t < count mode a) (row
 
 -- ---- PX1 and PX2
 
-number-is : (mode : ℕ) (e : Extended) → kindOf mode e ≡ kindOfNumber mode (numberOf e)
+not-five : (mode : ℕ) → mainOf mode ≡ Plain → eqb mode 5 ≡ false
+unfolding mainOf
+not-five mode = go (eqb mode 5) (eqb mode 6)
+  where
+    go : (b c : Bool) → cond b Mp5 (cond c Mp6 Plain) ≡ Plain → b ≡ false
+    go true c e = cc
+    go false c e = refl
+
+number-is : (mode : ℕ) → mainOf mode ≡ Plain → (e : Extended) → kindOf mode e ≡ kindOfNumber mode (numberOf e)
 unfolding kindOfNumber
-number-is mode P3 = refl
-number-is mode P4 = refl
+number-is mode is P3 = rw (not-five mode is)
+number-is mode is P4 = rw (not-five mode is)
 
 -- a cell that the finder does not refuse
 record Inside (s : State) (k : Kind) (channel pair row column : ℕ) : Type 0 where
@@ -108,35 +126,36 @@ module _ (s : State) (v : valid s ≡ true) (channel : ℕ) (k : Kind) (k-is : k
             says = px.inside s channel pair row column v k k-is _ refl n lp lr lc;
           }
 
-module _ (mode : ℕ) (a : SenderRun mode) (t : ℕ) (h : t < count mode a) (e : Extended) (pair row column : ℕ) where
+module _ (mode : ℕ) (is : mainOf mode ≡ Plain) (a : SenderRun mode) (t : ℕ) (h : t < count mode a) (e : Extended) (pair row column : ℕ) where
   abbrev named : FoundPx
   named = foundPX (stateAt mode t) (numberOf e) pair row column
 
   at : ((r : Answer) → named ≡ Refused r → ⊥) → Inside (stateAt mode t) (kindOf mode e) (numberOf e) pair row column
-  at = inside (stateAt mode t) (valid-at mode (covered-of mode a) t) (numberOf e) (kindOf mode e) (number-is mode e) pair row column
+  at = inside (stateAt mode t) (valid-at mode (covered-of mode a) t) (numberOf e) (kindOf mode e) (number-is mode is e) pair row column
 
   coded-in : (n frame bit : ℕ) → named ≡ Coded n frame bit
       → (n ≤ t)
-      × (bitAt (matrixOf (matricesAt mode a t) e) (cellOf (kindOf mode e) pair row column)
+      × (bitAt (matrixOf mode (matricesAt mode a t) e) (cellOf (kindOf mode e) pair row column)
       ≡ codedOf (kindOf mode e) (frameOf (frameAt mode a (t - n)) e) (frame * frameCoded (kindOf mode e) + bit))
   coded-in n frame bit f =
       let x = at (λ r q. let z : _≡_ {A = ℕ} 0 1 = cc in omega arith) in
-      let (en, le, ej) = px.coded-means (kindOf mode e) (t % 2) (min 2 t) (cellOf (kindOf mode e) pair row column) n frame bit (x .says ∙ f) in
+      let (en, le, ej) = px.coded-means (kindOf mode e) (t % 2) (min (lastAge (mainOf mode)) t) (cellOf (kindOf mode e) pair row column) n frame bit (x .says ∙ f) in
       (omega arith, rw (en, ej) (coded-shown mode a t h e (x .sends) (cellOf (kindOf mode e) pair row column) (x .cell) (omega arith)))
 
-  fill-in : named ≡ Fill → bitAt (matrixOf (matricesAt mode a t) e) (cellOf (kindOf mode e) pair row column) ≡ 0
+  fill-in : named ≡ Fill → bitAt (matrixOf mode (matricesAt mode a t) e) (cellOf (kindOf mode e) pair row column) ≡ 0
   fill-in f =
       let x = at (λ r q. let z : _≡_ {A = ℕ} 0 1 = cc in omega arith) in
       fill-shown mode a t h e (x .sends) (cellOf (kindOf mode e) pair row column) (x .cell)
-      (px.fill-means (kindOf mode e) (t % 2) (min 2 t) (cellOf (kindOf mode e) pair row column) (x .says ∙ f))
+      (subst (λ (k : Main). min (lastAge k) t < earlier (tableRow (kindOf mode e)) (t % 2) (cellOf (kindOf mode e) pair row column)) is
+      (px.fill-means (kindOf mode e) (t % 2) (min (lastAge (mainOf mode)) t) (cellOf (kindOf mode e) pair row column) (x .says ∙ f)))
 
 -- ---- the theorem
 
-pub sheets : (mode : ℕ) (a : SenderRun mode) (t : ℕ) → t < count mode a → Sheet mode a t
-sheets mode a t h =
+pub sheets : (mode : ℕ) → mainOf mode ≡ Plain → (a : SenderRun mode) (t : ℕ) → t < count mode a → Sheet mode a t
+sheets mode is a t h =
     record {
-      p1-cell = p1-in mode a t h;
-      pids-cell = pids-in mode a t h;
-      coded-cell = coded-in mode a t h;
-      fill-cell = fill-in mode a t h;
+      p1-cell = p1-in mode is a t h;
+      pids-cell = pids-in mode is a t h;
+      coded-cell = coded-in mode is a t h;
+      fill-cell = fill-in mode is a t h;
     }

@@ -15,9 +15,10 @@ use Rattle.runs.specs.Starting.{valid}
 use Rattle.queries.specs.declared.finder_px.FoundPx.{FoundPx}
 use Rattle.queries.specs.declared.finder_px.FoundPx.the-variants.{Coded, Fill, Refused}
 
--- how a mode sends the channel of a number, 3 for P3 and 4 for P4: any other number is of no channel
+-- how a mode sends the channel of a number, 3 for P3 and 4 for P4: any other number is of no channel. The finder keeps to the older modes (document 02), so
+-- that in MP5 it knows none; MP6 has neither
 unfoldable pub kindOfNumber : (mode channel : ℕ) → Kind
-kindOfNumber mode channel = cond (eqb channel 3) (kindOf mode P3) (cond (eqb channel 4) (kindOf mode P4) Unused)
+kindOfNumber mode channel = cond (eqb mode 5) Unused (cond (eqb channel 3) (kindOf mode P3) (cond (eqb channel 4) (kindOf mode P4) Unused))
 
 -- the cells of a row
 abbrev pub columnsOf : Kind → ℕ

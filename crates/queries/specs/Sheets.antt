@@ -20,7 +20,7 @@ abbrev pub numberOf : Extended → ℕ
 numberOf P3 = 3
 numberOf P4 = 4
 
--- L1 frame t of the run a, whose sending was handed the state `stateAt mode t`
+-- L1 frame t of the run a in MP1, MP2, MP3 or MP11, whose sending was handed the state `stateAt mode t`
 pub record Sheet (mode : ℕ) (a : SenderRun mode) (t : ℕ) : Type 0 where
   pub p1-cell : (row column bit : ℕ) → found row column ≡ P1 bit
       → bitAt (matricesAt mode a t .pm) (row * 720 + column) ≡ channel TwoFifths 146176 (bitAt (frameAt mode a t .p1)) bit
@@ -29,8 +29,8 @@ pub record Sheet (mode : ℕ) (a : SenderRun mode) (t : ℕ) : Type 0 where
   pub coded-cell : (e : Extended) (pair row column earlier frame bit : ℕ)
       → foundPX (stateAt mode t) (numberOf e) pair row column ≡ Coded earlier frame bit
       → (earlier ≤ t)
-      × (bitAt (matrixOf (matricesAt mode a t) e) (cellOf (kindOf mode e) pair row column)
+      × (bitAt (matrixOf mode (matricesAt mode a t) e) (cellOf (kindOf mode e) pair row column)
       ≡ codedOf (kindOf mode e) (frameOf (frameAt mode a (t - earlier)) e) (frame * frameCoded (kindOf mode e) + bit))
   pub fill-cell : (e : Extended) (pair row column : ℕ)
       → foundPX (stateAt mode t) (numberOf e) pair row column ≡ Fill
-      → bitAt (matrixOf (matricesAt mode a t) e) (cellOf (kindOf mode e) pair row column) ≡ 0
+      → bitAt (matrixOf mode (matricesAt mode a t) e) (cellOf (kindOf mode e) pair row column) ≡ 0

@@ -23,10 +23,13 @@ pub enum FoundPx {
     },
 }
 
-// How a mode sends the channel of a number, 3 for P3 and 4 for P4.
+// How a mode sends the channel of a number, 3 for P3 and 4 for P4. The finder keeps to the older modes: MP5's P3 it does not know, and MP6 has neither.
 pub fn kind_of_number(mode: u8, channel: u8) -> Kind
     ensures { λ r. ⌜ r ≡ kindOfNumber mode channel ⌝ }
 {
+    if mode == 5 {
+        return Kind::Unused;
+    }
     if channel == 3 {
         return calls::kind_of(mode, Extended::P3);
     }

@@ -1,15 +1,35 @@
-// reader MODE COUNT [on]: reads COUNT L1 frames, each PM, PX1, PX2, control, and writes for each its P1 and PIDS and, from the third on, the P3 and P4 of the
-// one two earlier. With `on` it goes on after an L1 frame that is refused.
+// reader MODE COUNT [on]: reads COUNT L1 frames, each PM, PX1, PX2, control, and writes for each what its reading returns: P1, in MP5 and MP6 from the fourth on that
+// of the one three earlier; PIDS; P2; and from the third on P3 and P4 of the one two earlier. With `on` it goes on after an L1 frame that is refused.
+use libc::STDIN_FILENO;
 use programs::Arguments;
 use programs::Step;
 use runs::State;
 
-// Writes what a reading at this age returns.
-fn write_returned(age: u8, p1: &[u8], pids: &[u8], p3: &[u8], p4: &[u8]) -> bool {
-    if age < 2 {
-        return programs::write_two(p1, pids);
+// Writes P1, unless it waits, and PIDS.
+fn write_first(waits: bool, p1: &[u8], pids: &[u8]) -> bool {
+    if waits {
+        return programs::write_two(b"", pids);
     }
-    programs::write_four(p1, pids, p3, p4)
+    programs::write_two(p1, pids)
+}
+
+// Writes what a reading in this state returns. P1 waits where there is a delay memory.
+fn write_returned(
+    age: u8,
+    p1: &[u8],
+    pids: &[u8],
+    p2: &[u8],
+    p3: &[u8],
+    p4: &[u8],
+    delay: &[u8],
+) -> bool {
+    if !write_first(age < 3 && delay.len() > 0, p1, pids) {
+        return false;
+    }
+    if age < 2 {
+        return programs::write_two(p2, b"");
+    }
+    programs::write_four(p2, p3, p4, b"")
 }
 
 // Whether to go on after a refusal: never after a length, since the input has ended.
@@ -20,35 +40,34 @@ fn goes_on(on: bool, number: u8) -> bool {
     on
 }
 
-// Reads L1 frame `frame`.
-fn read_one(
+// Takes L1 frame `frame` from the input and reads it. An input that ends early lends a buffer that is too short, which `read` refuses.
+fn turn(
     on: bool,
     state: State,
     frame: u64,
+    input: &mut [u8],
     p1: &mut [u8],
     pids: &mut [u8],
+    p2: &mut [u8],
     p3: &mut [u8],
     p4: &mut [u8],
-    pm: &[u8],
-    px1: &[u8],
-    px2: &[u8],
-    control: &[u8],
     memory3: &mut [u8],
     memory4: &mut [u8],
+    delay: &mut [u8],
 ) -> Step {
     let age = state.age;
-    let read = layer1::read(
+    let n = io::read_full(STDIN_FILENO, input);
+    let read = programs::read_input(
         state,
+        &input[..n],
         p1,
         pids,
+        p2,
         p3,
         p4,
-        pm,
-        px1,
-        px2,
-        control,
         memory3,
         memory4,
+        delay,
     );
     let answer = read.answer;
     let next = read.state;
@@ -60,46 +79,8 @@ fn read_one(
             go_on: goes_on(on, number),
         };
     }
-    let go_on = write_returned(age, p1, pids, p3, p4);
+    let go_on = write_returned(age, p1, pids, p2, p3, p4, delay);
     Step { state: next, go_on }
-}
-
-// Takes L1 frame `frame` from the input and reads it. An input that ends early lends a buffer that is too short, which `read` refuses.
-fn turn(
-    on: bool,
-    state: State,
-    frame: u64,
-    p1: &mut [u8],
-    pids: &mut [u8],
-    p3: &mut [u8],
-    p4: &mut [u8],
-    pm: &mut [u8],
-    px1: &mut [u8],
-    px2: &mut [u8],
-    control: &mut [u8],
-    memory3: &mut [u8],
-    memory4: &mut [u8],
-) -> Step {
-    let came = programs::read_four(pm, px1, px2, control);
-    let a = came.first;
-    let b = came.second;
-    let c = came.third;
-    let d = came.fourth;
-    read_one(
-        on,
-        state,
-        frame,
-        p1,
-        pids,
-        p3,
-        p4,
-        &pm[..a],
-        &px1[..b],
-        &px2[..c],
-        &control[..d],
-        memory3,
-        memory4,
-    )
 }
 
 // Starts a reader, and reads L1 frames till the run ends or `count` are read.
@@ -107,18 +88,17 @@ fn read_all(
     mode: u8,
     count: u64,
     on: bool,
+    input: &mut [u8],
     p1: &mut [u8],
     pids: &mut [u8],
+    p2: &mut [u8],
     p3: &mut [u8],
     p4: &mut [u8],
-    pm: &mut [u8],
-    px1: &mut [u8],
-    px2: &mut [u8],
-    control: &mut [u8],
     memory3: &mut [u8],
     memory4: &mut [u8],
+    delay: &mut [u8],
 ) {
-    let started = layer1::start_reader(mode, memory3, memory4);
+    let started = layer1::start_reader(mode, memory3, memory4, delay);
     let answer = started.answer;
     let number = layer1::number(answer);
     if number != 0 {
@@ -132,56 +112,107 @@ fn read_all(
             on,
             state,
             count - left,
+            input,
             p1,
             pids,
+            p2,
             p3,
             p4,
-            pm,
-            px1,
-            px2,
-            control,
             memory3,
             memory4,
+            delay,
         );
         state = step.state;
         left = programs::left_after(left, step.go_on);
     }
 }
 
-// The buffers of a run, each of its length in this mode.
-fn run(mode: u8, count: u64, on: bool) {
-    let lengths = layer1::reader_lengths(mode);
+// The buffers of a run in MP1, MP2, MP3 and MP11, each of its length in this mode: no P2, and no delay memory.
+fn run_plain(mode: u8, count: u64, on: bool) {
+    let want = layer1::reader_lengths(mode);
+    let mut input = [0u8; 68608];
     let mut p1 = [0u8; 18272];
     let mut pids = [0u8; 160];
     let mut p3 = [0u8; 4608];
     let mut p4 = [0u8; 4608];
-    let mut pm = [0u8; 46080];
-    let mut px1 = [0u8; 9216];
-    let mut px2 = [0u8; 9216];
-    let mut control = [0u8; 4096];
     let mut memory3 = [0u8; 27648];
     let mut memory4 = [0u8; 27648];
-    let a = programs::within(lengths[2], &p3);
-    let b = programs::within(lengths[3], &p4);
-    let c = programs::within(lengths[5], &px1);
-    let d = programs::within(lengths[6], &px2);
-    let e = programs::within(lengths[8], &memory3);
-    let f = programs::within(lengths[9], &memory4);
+    let n = programs::within(programs::signal_length(mode), &input);
+    let a = programs::within(want[3], &p3);
+    let b = programs::within(want[4], &p4);
+    let c = programs::within(want[9], &memory3);
+    let d = programs::within(want[10], &memory4);
     read_all(
         mode,
         count,
         on,
+        &mut input[..n],
         &mut p1,
         &mut pids,
+        &mut [0u8; 0],
         &mut p3[..a],
         &mut p4[..b],
-        &mut pm,
-        &mut px1[..c],
-        &mut px2[..d],
-        &mut control,
-        &mut memory3[..e],
-        &mut memory4[..f],
+        &mut memory3[..c],
+        &mut memory4[..d],
+        &mut [0u8; 0],
     );
+}
+
+// The buffers of a run in MP5: no P4.
+fn run_mp5(count: u64, on: bool) {
+    let mut input = [0u8; 68608];
+    let mut p1 = [0u8; 4608];
+    let mut pids = [0u8; 160];
+    let mut p2 = [0u8; 13664];
+    let mut p3 = [0u8; 4608];
+    let mut memory3 = [0u8; 27648];
+    let mut delay = [0u8; 13824];
+    read_all(
+        5,
+        count,
+        on,
+        &mut input,
+        &mut p1,
+        &mut pids,
+        &mut p2,
+        &mut p3,
+        &mut [0u8; 0],
+        &mut memory3,
+        &mut [0u8; 0],
+        &mut delay,
+    );
+}
+
+// The buffers of a run in MP6: neither P3 nor P4.
+fn run_mp6(count: u64, on: bool) {
+    let mut input = [0u8; 68608];
+    let mut p1 = [0u8; 9216];
+    let mut pids = [0u8; 160];
+    let mut p2 = [0u8; 9056];
+    let mut delay = [0u8; 27648];
+    read_all(
+        6,
+        count,
+        on,
+        &mut input,
+        &mut p1,
+        &mut pids,
+        &mut p2,
+        &mut [0u8; 0],
+        &mut [0u8; 0],
+        &mut [0u8; 0],
+        &mut [0u8; 0],
+        &mut delay,
+    );
+}
+
+// A run. The buffers of one mode and of another share the stack, since they stand in functions of their own.
+fn run(mode: u8, count: u64, on: bool) {
+    match mode {
+        5 => run_mp5(count, on),
+        6 => run_mp6(count, on),
+        _ => run_plain(mode, count, on),
+    }
 }
 
 fn main() {

@@ -1,13 +1,15 @@
 -- An extended channel on the way back: what gathering and decoding leave is the definition's. Assumes nothing.
 use mathlib.Core.Path.{_≡_, refl, sym, ap, ap₂, _∙_}
-use Prim.Native.Nat.{ℕ, _*_, _/_, _<_}
+use mathlib.Core.Bool.{Bool, _&&_}
+use Prim.Native.Nat.{ℕ, _*_, _/_, _<_, _≤_}
 use native.Mathlib.Omega.{arith}
+use borrow.Author.Tests.{le-ltb, lt-ltb}
 use lib.ListN.{length, length-replicate, replicate}
 use lib.Seq.{take-all}
 use Rattle.bits.specs.Bits.{bitAt, packed}
 use Rattle.bits.specs.Tests.{lowest}
 use Rattle.bits.proofs.Packed.{bitAt-lt}
-use Rattle.bits.proofs.Tests.{lowest-none}
+use Rattle.bits.proofs.Tests.{lowest-cong, lowest-none}
 use Rattle.coding.specs.declared.Rate.the-variants.{Half}
 use Rattle.coding.specs.Channel.{noFrame, unchannel}
 use Rattle.coding.proofs.Channel.{empty-passes}
@@ -70,6 +72,11 @@ unused k half x frames e p =
 
 -- ---- the zero fill
 
+pub matrix-le : (k : Kind) → matrixLen k ≤ 9216
+matrix-le Unused = omega arith
+matrix-le Narrow = omega arith
+matrix-le Wide = omega arith
+
 pub used : (k : Kind) (row : ℕ) → row ≡ tableRow k → (row ≡ 2 → ⊥) → row < 2
 used Unused row e h = absurd (h e)
 used Narrow row e h = omega arith
@@ -81,10 +88,15 @@ no-fill Unused age row x e h = refl
 no-fill Narrow age row x e h = absurd (omega arith)
 no-fill Wide age row x e h = absurd (omega arith)
 
-pub fill-from : (k : Kind) (age row r : ℕ) (x : Buffer) → row ≡ tableRow k → r ≡ firstFill row age (bitAt x)
+pub late-fill : (k : Kind) (age row : ℕ) (x : Buffer) → 2 ≤ age → 8 * matrixLen k ≡ lowest (8 * matrixLen k) (fillBad k age x)
+unfolding fillBad
+late-fill k age row x h = sym (lowest-none _ _ (λ i l. ap (λ (b : Bool). b && isFill (tableRow k) age (bitAt x) i) (le-ltb age 2 h)))
+
+pub fill-from : (k : Kind) (age row r : ℕ) (x : Buffer) → age < 2 → row ≡ tableRow k → r ≡ firstFill row age (bitAt x)
     → r ≡ lowest (8 * matrixLen k) (fillBad k age x)
 unfolding firstFill fillBad
-fill-from k age row r x er e =
+fill-from k age row r x young er e =
     e
     ∙ ap (λ (t : ℕ). lowest (codedBits t) (isFill t age (bitAt x))) er
+    ∙ lowest-cong _ _ _ (λ i l. ap (λ (b : Bool). b && isFill (tableRow k) age (bitAt x) i) (sym (lt-ltb age 2 young)))
     ∙ ap (λ (n : ℕ). lowest (8 * n) (fillBad k age x)) (matrix-bytes k)

@@ -1,3 +1,3 @@
 mod Channels
-mod Moves
-mod Extended
+pub mod Extended
+pub mod Mains

@@ -3,7 +3,7 @@ use mathlib.Core.Path.{_≡_, refl, ap, _∙_}
 use mathlib.Core.Logic.{_⊎_, inl, inr, _≢_}
 use native.Mathlib.Omega.{arith}
 use Rattle.runs.specs.declared.Answer.{Answer}
-use Rattle.runs.specs.declared.Answer.the-variants.{Success, ModeNotCovered, StateNotValid, WrongLength, WrongControl, P1NotCoded, PidsNotCoded, FillNotZero, ExtendedNotCoded, SharesTooMany, SymbolTooHigh, ScaleNotUsable, NoFrameFits, SeveralFit, WrongBudget}
+use Rattle.runs.specs.declared.Answer.the-variants.{Success, ModeNotCovered, StateNotValid, WrongLength, WrongControl, MainNotCoded, PidsNotCoded, FillNotZero, ExtendedNotCoded, SharesTooMany, SymbolTooHigh, ScaleNotUsable, NoFrameFits, SeveralFit, WrongBudget}
 use Rattle.runs.specs.Answers.{numberOf, onSuccess}
 use Rattle.runs.specs.Lent.{Result}
 
@@ -14,7 +14,7 @@ either ModeNotCovered = inr (λ x y. refl)
 either StateNotValid = inr (λ x y. refl)
 either (WrongLength k) = inr (λ x y. refl)
 either (WrongControl k) = inr (λ x y. refl)
-either P1NotCoded = inr (λ x y. refl)
+either (MainNotCoded k) = inr (λ x y. refl)
 either (PidsNotCoded k) = inr (λ x y. refl)
 either (FillNotZero k) = inr (λ x y. refl)
 either (ExtendedNotCoded k) = inr (λ x y. refl)
@@ -53,7 +53,7 @@ success-is ModeNotCovered e = absurd (omega arith)
 success-is StateNotValid e = absurd (omega arith)
 success-is (WrongLength k) e = absurd (omega arith)
 success-is (WrongControl k) e = absurd (omega arith)
-success-is P1NotCoded e = absurd (omega arith)
+success-is (MainNotCoded k) e = absurd (omega arith)
 success-is (PidsNotCoded k) e = absurd (omega arith)
 success-is (FillNotZero k) e = absurd (omega arith)
 success-is (ExtendedNotCoded k) e = absurd (omega arith)

@@ -1,8 +1,12 @@
 pub mod Rows
 pub mod PX
 pub mod PM
+pub mod PX2
+pub mod Delay
 pub mod Bridge
 pub mod Refusals
+pub mod Compared
+pub mod Older
 pub mod Lists
 pub mod Answered
 pub mod Passing
@@ -13,9 +17,11 @@ pub mod Sender
 pub mod Fixed
 pub mod Shown
 pub mod Memory
+pub mod TwoPaths
 pub mod Reader
 pub mod ReaderRun
 pub mod Readable
 pub mod Sendable
 pub mod Whole
 pub mod Probes
+pub mod ProbesTwoPaths

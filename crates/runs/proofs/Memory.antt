@@ -21,7 +21,7 @@ use Rattle.runs.proofs.Answered.{refused-is}
 -- the reader's memory before L1 frame t of the signals S
 unfoldable pub readMemory : ℕ → (ℕ → Signal) → ℕ → Memory
 readMemory mode S zero = zeros readerLen mode
-readMemory mode S (suc t) = pushed (readMemory mode S t) (S t .matrices)
+readMemory mode S (suc t) = pushed mode (readMemory mode S t) (S t .matrices)
 
 -- a reading that is not answered by 0 changes nothing
 pub read-refused : (s : State) (m : Memory) (l : Lent) → numberOf (readStep s m l .answer) ≢ 0
@@ -29,10 +29,10 @@ pub read-refused : (s : State) (m : Memory) (l : Lent) → numberOf (readStep s 
 unfolding readStep received
 read-refused s m l = refused-is (readAnswer s m l) (received s m l) (refused s m l (readAnswer s m l)) refl
 
-pub pushed-of : (m : Memory) (x : Matrices) (e : Extended) → memoryOf (pushed m x) e ≡ push (memoryOf m e) (matrixOf x e)
+pub pushed-of : (mode : ℕ) (m : Memory) (x : Matrices) (e : Extended) → memoryOf (pushed mode m x) e ≡ push (memoryOf m e) (matrixOf mode x e)
 unfolding pushed
-pushed-of m x P3 = refl
-pushed-of m x P4 = refl
+pushed-of mode m x P3 = refl
+pushed-of mode m x P4 = refl
 
 pub push-length : (k : ℕ) (m x : Buffer) → length m ≡ 3 * k → length x ≡ k → length (push m x) ≡ 3 * k
 unfolding push

@@ -1,72 +1,156 @@
--- PM there and back: each coded bit of P1 and of PIDS stands at its cell, and the frames come back. Assumes nothing.
-use Prim.Native.Nat.{ℕ, _<_}
-use mathlib.Core.Path.{_≡_, refl, sym, _∙_}
-use mathlib.Core.Bool.{false}
+-- PM there and back: each coded bit of P1, P2 and PIDS stands at its cell, and the frames come back, P1 still scrambled. Assumes nothing.
+use Prim.Native.Nat.{ℕ, _+_, _-_, _*_, _<_}
+use mathlib.Core.Path.{_≡_, refl, sym, ap, _∙_}
+use mathlib.Core.Bool.{Bool, true, false, cond}
+use native.Mathlib.Nat.{not-suc-le-zero}
 use native.Mathlib.Omega.{arith}
+use lib.Dec.{ltb}
 use lib.ListN.{length}
-use Rattle.bits.specs.Bits.{Bytes, bitAt}
-use Rattle.bits.proofs.Packed.{bitAt-lt, bitAt-packed, length-packed, packed-of}
+use Rattle.bits.specs.Bits.{Bytes, bitAt, beside, packed}
+use Rattle.bits.proofs.Beside.{in-first, in-second}
+use Rattle.bits.proofs.Packed.{bitAt-lt, bitAt-packed, length-packed, packed-cong, packed-of}
+use Rattle.scrambling.specs.Scrambler.{scrambledEach}
+use Rattle.scrambling.proofs.Frames.{scrambledEach-bit, scrambledEach-same}
 use Rattle.coding.specs.declared.Rate.the-variants.{TwoFifths}
 use Rattle.coding.specs.Buffers.{Long}
-use Rattle.coding.specs.Channel.{channel}
-use Rattle.coding.proofs.Channel.{channel-bit, unchannel-is, frame-there, frame-passes}
+use Rattle.coding.specs.Rates.{codedLength}
+use Rattle.coding.specs.Channel.{channel, unchannel, noFrame}
+use Rattle.coding.proofs.Channel.{channel-bit, unchannel-is, frame-there, frame-passes, empty-passes}
+use Rattle.coding.proofs.Paths.{each-twice, uncoded-frames}
 use Rattle.interleaving.specs.PM.{p1Place, pidsPlace, matrix}
 use Rattle.interleaving.specs.Source.{first, second}
 use Rattle.interleaving.proofs.OncePM as pm
 use Rattle.interleaving.proofs.Passes.{matrix-lt}
-use Rattle.runs.specs.Lengths.{p1Len, pidsLen, pmLen}
-use Rattle.runs.specs.Chain.{Buffer, pmOf, p1Of, pidsOf, p1Bad, pidsBad}
+use Rattle.runs.specs.declared.Main.{Main}
+use Rattle.runs.specs.declared.Main.the-variants.{Plain, Mp5, Mp6}
+use Rattle.runs.specs.MainChannels.{p1Frames, p1Bits, p2Bits, p1Len, p2Len}
+use Rattle.runs.specs.Lengths.{pidsLen, pmLen}
+use Rattle.runs.specs.Chain.{Buffer, p1Coded, multiplexed, pmOf, p2Cells, p1Of, p2Of, pidsOf, p1Bad, p2Bad, pidsBad}
+use Rattle.runs.specs.Paths.{scrambledOf}
 
-pub p1-long : Long 146176
-p1-long = record { enough = omega arith; even = refl }
+-- ---- the rows of the main channels
+
+pub p1-long : (k : Main) → Long (p1Bits k)
+p1-long Plain = record { enough = omega arith; even = refl }
+p1-long Mp5 = record { enough = omega arith; even = refl }
+p1-long Mp6 = record { enough = omega arith; even = refl }
 
 pub pids-long : Long 80
 pids-long = record { enough = omega arith; even = refl }
 
-pub pm-length : (a b : Buffer) → length (pmOf a b) ≡ pmLen
-unfolding pmOf
-pm-length a b = length-packed _ _
+pub p1-size : (k : Main) → 8 * p1Len k ≡ p1Frames k * p1Bits k
+p1-size Plain = refl
+p1-size Mp5 = refl
+p1-size Mp6 = refl
 
-module _ (a b : Buffer) where
-  abbrev p1-coded : ℕ → ℕ
-  p1-coded = channel TwoFifths 146176 (bitAt a)
+-- the coded bits of P2
+abbrev pub p2Coded : Main → ℕ
+p2Coded k = codedLength TwoFifths (p2Bits k)
+
+-- P1 and P2 fill what Interleaver I writes
+pub filled : (k : Main) → p1Coded k + p2Coded k ≡ 365440
+filled Plain = refl
+filled Mp5 = refl
+filled Mp6 = refl
+
+p2-decoded : (k : Main) (f y : ℕ → ℕ) → ((i : ℕ) → f i < 2) → ((j : ℕ) → j < p2Coded k → y j ≡ channel TwoFifths (p2Bits k) f j)
+    → (i : ℕ) → i < 8 * p2Len k → unchannel TwoFifths (p2Bits k) y i ≡ f i
+p2-decoded Plain f y b same i h = absurd (not-suc-le-zero h)
+p2-decoded Mp5 f y b same i h = unchannel-is TwoFifths 109312 (record { enough = omega arith; even = refl }) f y 1 b same i h
+p2-decoded Mp6 f y b same i h = unchannel-is TwoFifths 72448 (record { enough = omega arith; even = refl }) f y 1 b same i h
+
+p2-passes : (k : Main) (f y : ℕ → ℕ) → ((i : ℕ) → f i < 2) → ((j : ℕ) → j < p2Coded k → y j ≡ channel TwoFifths (p2Bits k) f j)
+    → (n : ℕ) → n < 1 → noFrame TwoFifths (p2Bits k) y n ≡ false
+p2-passes Plain f y b same n h = empty-passes TwoFifths y n
+p2-passes Mp5 f y b same n h =
+    let l : Long 109312 = record { enough = omega arith; even = refl } in
+    frame-passes TwoFifths 109312 l y n (frame-there TwoFifths 109312 l f y 1 b same n h)
+p2-passes Mp6 f y b same n h =
+    let l : Long 72448 = record { enough = omega arith; even = refl } in
+    frame-passes TwoFifths 72448 l y n (frame-there TwoFifths 72448 l f y 1 b same n h)
+
+-- ---- scrambled P1 frames
+
+pub scrambled-length : (k : Main) (a : Buffer) → length (scrambledOf k a) ≡ p1Len k
+unfolding scrambledOf
+scrambled-length k a = length-packed _ _
+
+pub scrambled-again : (k : Main) (a : Buffer) → length a ≡ p1Len k → Bytes a → scrambledOf k (scrambledOf k a) ≡ a
+unfolding scrambledOf
+scrambled-again k a len bytes =
+    sym (packed-of (p1Len k) a _ len bytes
+    (λ i h. sym (scrambledEach-same (p1Bits k) _ _ i (bitAt-packed (p1Len k) _ (λ j _. scrambledEach-bit (p1Bits k) (bitAt a) j) i h)
+    ∙ each-twice (p1Bits k) (bitAt a) i (bitAt-lt a i))))
+
+-- ---- the matrix
+
+pub pm-length : (k : Main) (a b c : Buffer) → length (pmOf k a b c) ≡ pmLen
+unfolding pmOf
+pm-length k a b c = length-packed _ _
+
+module _ (k : Main) (a b c : Buffer) where
+  pub multiplexed-bit : (i : ℕ) → multiplexed k a b i < 2
+  unfolding multiplexed beside
+  multiplexed-bit i = go (ltb i (p1Coded k))
+    where
+      go : (t : Bool) → cond t (channel TwoFifths (p1Bits k) (bitAt a) i) (channel TwoFifths (p2Bits k) (bitAt b) (i - p1Coded k)) < 2
+      go true = channel-bit TwoFifths (p1Bits k) (bitAt a) i
+      go false = channel-bit TwoFifths (p2Bits k) (bitAt b) (i - p1Coded k)
 
   abbrev pids-coded : ℕ → ℕ
-  pids-coded = channel TwoFifths 80 (bitAt b)
+  pids-coded = channel TwoFifths 80 (bitAt c)
 
-  cell-is : (c : ℕ) → c < 368640 → bitAt (pmOf a b) c ≡ matrix p1-coded pids-coded c
+  cell-is : (x : ℕ) → x < 368640 → bitAt (pmOf k a b c) x ≡ matrix (multiplexed k a b) pids-coded x
   unfolding pmOf pmLen
-  cell-is c h =
-      bitAt-packed 46080 _ (λ i _. matrix-lt p1-coded pids-coded (channel-bit TwoFifths 146176 (bitAt a)) (channel-bit TwoFifths 80 (bitAt b)) i) c h
+  cell-is x h = bitAt-packed 46080 _ (λ i _. matrix-lt (multiplexed k a b) pids-coded multiplexed-bit (channel-bit TwoFifths 80 (bitAt c)) i) x h
 
-  pub p1-at : (i : ℕ) → i < 365440 → bitAt (pmOf a b) (p1Place i) ≡ p1-coded i
+  pub main-at : (i : ℕ) → i < 365440 → bitAt (pmOf k a b c) (p1Place i) ≡ multiplexed k a b i
   unfolding matrix
-  p1-at i h = cell-is (p1Place i) (pm.pm-each-once .there (first i) h) ∙ pm.stands p1-coded pids-coded (λ c. 0) (first i) h
+  main-at i h = cell-is (p1Place i) (pm.pm-each-once .there (first i) h) ∙ pm.stands (multiplexed k a b) pids-coded (λ c. 0) (first i) h
 
-  pub pids-at : (i : ℕ) → i < 3200 → bitAt (pmOf a b) (pidsPlace i) ≡ pids-coded i
+  pub p1-at : (i : ℕ) → i < p1Coded k → bitAt (pmOf k a b c) (p1Place i) ≡ channel TwoFifths (p1Bits k) (bitAt a) i
+  unfolding multiplexed
+  p1-at i h = main-at i (omega (arith, filled k)) ∙ in-first (p1Coded k) _ _ i h
+
+  pub p2-at : (i : ℕ) → i < p2Coded k → p2Cells k (pmOf k a b c) i ≡ channel TwoFifths (p2Bits k) (bitAt b) i
+  unfolding multiplexed
+  p2-at i h = main-at (p1Coded k + i) (omega (arith, filled k)) ∙ in-second (p1Coded k) _ _ i
+
+  pub pids-at : (i : ℕ) → i < 3200 → bitAt (pmOf k a b c) (pidsPlace i) ≡ pids-coded i
   unfolding matrix
-  pids-at i h = cell-is (pidsPlace i) (pm.pm-each-once .there (second i) h) ∙ pm.stands p1-coded pids-coded (λ c. 0) (second i) h
+  pids-at i h = cell-is (pidsPlace i) (pm.pm-each-once .there (second i) h) ∙ pm.stands (multiplexed k a b) pids-coded (λ c. 0) (second i) h
 
-  pub p1-back : length a ≡ p1Len → Bytes a → p1Of (pmOf a b) ≡ a
-  unfolding p1Of p1Len
-  p1-back len bytes =
-      sym (packed-of 18272 a _ len bytes
-      (λ i h. sym (unchannel-is TwoFifths 146176 p1-long (bitAt a) (λ i. bitAt (pmOf a b) (p1Place i)) 1 (bitAt-lt a) p1-at i h)))
+  -- ---- the frames
 
-  pub p1-good : p1Bad (pmOf a b) ≡ false
+  pub p1-back : p1Of k (pmOf k a b c) ≡ scrambledOf k a
+  unfolding p1Of scrambledOf
+  p1-back =
+      packed-cong (p1Len k) _ _
+      (λ i h. uncoded-frames TwoFifths (p1Bits k) (p1-long k) (bitAt a) _ (p1Frames k) (bitAt-lt a) p1-at i (omega (arith, p1-size k)))
+
+  pub p1-good : (f : ℕ) → f < p1Frames k → p1Bad k (pmOf k a b c) f ≡ false
   unfolding p1Bad
-  p1-good =
-      frame-passes TwoFifths 146176 p1-long _ 0
-      (frame-there TwoFifths 146176 p1-long (bitAt a) (λ i. bitAt (pmOf a b) (p1Place i)) 1 (bitAt-lt a) p1-at 0 (omega arith))
+  p1-good f h =
+      frame-passes TwoFifths (p1Bits k) (p1-long k) _ f
+      (frame-there TwoFifths (p1Bits k) (p1-long k) (bitAt a) _ (p1Frames k) (bitAt-lt a) p1-at f h)
 
-  pub pids-back : length b ≡ pidsLen → Bytes b → pidsOf (pmOf a b) ≡ b
+  pub p2-back : length b ≡ p2Len k → Bytes b → p2Of k (pmOf k a b c) ≡ b
+  unfolding p2Of
+  p2-back len bytes =
+      sym (packed-of (p2Len k) b _ len bytes (λ i h. sym (p2-decoded k (bitAt b) (p2Cells k (pmOf k a b c)) (bitAt-lt b) p2-at i h)))
+
+  pub p2-good : (f : ℕ) → f < 1 → p2Bad k (pmOf k a b c) f ≡ false
+  unfolding p2Bad
+  p2-good f h = p2-passes k (bitAt b) (p2Cells k (pmOf k a b c)) (bitAt-lt b) p2-at f h
+
+  pub pids-back : length c ≡ pidsLen → Bytes c → pidsOf (pmOf k a b c) ≡ c
   unfolding pidsOf pidsLen
   pids-back len bytes =
-      sym (packed-of 160 b _ len bytes
-      (λ i h. sym (unchannel-is TwoFifths 80 pids-long (bitAt b) (λ i. bitAt (pmOf a b) (pidsPlace i)) 16 (bitAt-lt b) pids-at i h)))
+      sym (packed-of 160 c _ len bytes
+      (λ i h. sym (unchannel-is TwoFifths 80 pids-long (bitAt c) (λ i. bitAt (pmOf k a b c) (pidsPlace i)) 16 (bitAt-lt c) pids-at i h)))
 
-  pub pids-good : (f : ℕ) → f < 16 → pidsBad (pmOf a b) f ≡ false
+  pub pids-good : (f : ℕ) → f < 16 → pidsBad (pmOf k a b c) f ≡ false
   unfolding pidsBad
   pids-good f h =
       frame-passes TwoFifths 80 pids-long _ f
-      (frame-there TwoFifths 80 pids-long (bitAt b) (λ i. bitAt (pmOf a b) (pidsPlace i)) 16 (bitAt-lt b) pids-at f h)
+      (frame-there TwoFifths 80 pids-long (bitAt c) (λ i. bitAt (pmOf k a b c) (pidsPlace i)) 16 (bitAt-lt c) pids-at f h)

@@ -7,8 +7,9 @@ use mathlib.Core.List.{List, [], _∷_, _++_}
 use native.Mathlib.Omega.{arith}
 use lib.Dec.{eqb, ltb}
 use borrow.Author.Tests.{eq-eqb, eqb-true, le-ltb, ltb-true, ltb-false}
+use Rattle.bits.specs.Bits.{beside}
 use Rattle.bits.proofs.Tests.{lowest-none}
-use Rattle.runs.specs.Causes.{Size, size, wrong, first, beside}
+use Rattle.runs.specs.Causes.{Size, size, wrong, first}
 
 pub wrong-head : (k a b : ℕ) (rest : List Size) → wrong k (size a b ∷ rest) ≡ none → (a ≡ b) × (wrong (suc k) rest ≡ none)
 unfolding wrong

@@ -1,33 +1,43 @@
 -- The reading of one L1 frame that a sender sent: it meets no cause, and returns the frames. Assumes nothing.
-use Prim.Native.Nat.{ℕ, zero, suc, _+_, _%_, _≤_, _<_, min}
-use mathlib.Core.Path.{_≡_, refl, sym, ap, _∙_, subst}
-use mathlib.Core.Bool.{true, cond}
+use Prim.Native.Nat.{ℕ, zero, suc, _+_, _*_, _%_, _≤_, _<_, min}
+use mathlib.Core.Path.{_≡_, refl, sym, ap, ap₂, _∙_, subst}
+use mathlib.Core.Bool.{Bool, true, false, cond, not, _&&_, _||_, and-false}
 use mathlib.Core.Option.{none}
 use mathlib.Core.List.{_++_}
 use native.Mathlib.Omega.{arith}
-use lib.ListN.{length, length-replicate}
+use native.Mathlib.Decide.{decLt}
+use lib.ListN.{length, replicate, length-replicate}
 use lib.Dec.{ltb}
-use borrow.Author.Tests.{eq-eqb}
+use Rattle.bits.specs.Bits.{bitAt}
+use Rattle.bits.proofs.Parts.{bitAt-zeros}
 use Rattle.control.specs.Modes.{covered}
 use Rattle.control.proofs.Sent as control
 use Rattle.runs.specs.declared.Extended.{Extended}
 use Rattle.runs.specs.declared.Extended.the-variants.{P3, P4}
-use Rattle.runs.specs.Lengths.{kindOf, matrixLen, readerLen}
-use Rattle.runs.specs.Lent.{Frames, Signal, Lent, Memory, frameOf, memoryOf, signalOf, memoryNext}
+use Rattle.runs.specs.declared.Main.{Main}
+use Rattle.runs.specs.MainChannels.{mainOf, p1Frames, delayFrames, lastAge, p1Len, p1′Len, delayLen}
+use Rattle.runs.specs.Lengths.{kindOf, matrixLen, senderLen, readerLen}
+use Rattle.runs.specs.Chain.{Buffer, p1Of, pxOf, memOf, fillBad}
+use Rattle.runs.specs.Paths.{scrambledOf, oldest, waiting, p1′Of, p1′Bad, delayBad}
+use Rattle.runs.specs.Lent.{Frames, Signal, Lent, Memory, frameOf, matrixOf, p1′In, memoryOf, signalOf, memoryNext}
 use Rattle.runs.specs.Causes.{wrong}
 use Rattle.runs.specs.Starting.{stateAt, memorySizes}
 use Rattle.runs.specs.Sending.{lentSizes}
-use Rattle.runs.specs.Reading.{pushed, readStep, received, fillPlace, framePlace}
+use Rattle.runs.specs.Judged.{due, mainBad, mainPlace, fillPlace, framePlace}
+use Rattle.runs.specs.Reading.{pushed, readStep, received}
 use Rattle.runs.specs.Runs.{Fitting}
 use Rattle.runs.specs.Defined.{memoryBefore, defined}
 use Rattle.runs.specs.Handed.{Given}
 use Rattle.runs.specs.WholeRuns.{Returned}
 use Rattle.runs.proofs.PX.{fill-first, fill-second}
-use Rattle.runs.proofs.PM.{p1-back, p1-good, pids-back, pids-good}
-use Rattle.runs.proofs.Passing.{beside-good, first-none, wrong-append}
-use Rattle.runs.proofs.States.{old, valid-at}
-use Rattle.runs.proofs.Succeeds.{Clear, read-succeeds}
-use Rattle.runs.proofs.Fixed.{extended-back, extended-good, in-length, matrixIn}
+use Rattle.runs.proofs.PM.{p1-good, p2-back, p2-good, pids-back, pids-good, scrambled-again}
+use Rattle.runs.proofs.PX2.{p1′-good, p1′-zero}
+use Rattle.runs.proofs.Delay.{goes-frame, goes-zero, held-fits}
+use Rattle.runs.proofs.TwoPaths.{s, s-fits, delayed-path, reader-holds, due-is, second-is}
+use Rattle.runs.proofs.Passing.{beside-good, first-none, wrong-append, wrong-cons, wrong-nil}
+use Rattle.runs.proofs.States.{late, old, two-le, valid-at}
+use Rattle.runs.proofs.Succeeds.{Clear, early-kept, late-kept, read-succeeds}
+use Rattle.runs.proofs.Fixed.{extended-back, extended-good, in-length, matrix-of, matrixIn}
 use Rattle.runs.proofs.Memory.{push-length, push-three, pushed-of, readMemory}
 
 module _ (mode : ℕ) (cov : covered mode ≡ true) (F : ℕ → Frames) (n : ℕ)
@@ -35,15 +45,25 @@ module _ (mode : ℕ) (cov : covered mode ≡ true) (F : ℕ → Frames) (n : �
   abbrev S : ℕ → Signal
   S t = defined mode F t
 
+  -- how the mode fills PM
+  abbrev k : Main
+  k = mainOf mode
+
+  -- L1 frame t, lent with the frame buffers f
+  abbrev handed : ℕ → Frames → Lent
+  handed t f = record { frames = f; signal = S t }
+
+  -- ---- the memory for P3 and P4
+
   read-right : (t : ℕ) → t ≤ n → (e : Extended) → length (memoryOf (readMemory mode S t) e) ≡ readerLen (kindOf mode e)
   unfolding readMemory matrixIn
   read-right zero h P3 = length-replicate _ 0
   read-right zero h P4 = length-replicate _ 0
   read-right (suc t) h e =
-      rw (pushed-of (readMemory mode S t) (S t .matrices) e)
+      rw (pushed-of mode (readMemory mode S t) (S t .matrices) e)
       (push-length (matrixLen (kindOf mode e)) _ _ (read-right t (omega arith) e) (in-length mode cov F n right e t h))
 
-  -- after three L1 frames the memory holds their matrices
+  -- after three L1 frames it holds their matrices
   read-three : (t : ℕ) → suc (suc t) < n → (e : Extended)
       → memoryOf (readMemory mode S (suc (suc (suc t)))) e
       ≡ matrixIn mode F e t ++ matrixIn mode F e (suc t) ++ matrixIn mode F e (suc (suc t))
@@ -55,35 +75,81 @@ module _ (mode : ℕ) (cov : covered mode ≡ true) (F : ℕ → Frames) (n : �
       push-three (matrixLen (kindOf mode P4)) _ _ _ _ (read-right t (omega arith) P4) (in-length mode cov F n right P4 t (omega arith))
       (in-length mode cov F n right P4 (suc t) (omega arith)) (in-length mode cov F n right P4 (suc (suc t)) h)
 
-  -- L1 frame t, lent with the frame buffers f
-  abbrev handed : ℕ → Frames → Lent
-  handed t f = record { frames = f; signal = S t }
+  -- ---- the causes
 
   sizes-right : (t : ℕ) → t ≤ n → (j : ℕ) → wrong j (memorySizes readerLen mode (readMemory mode S t)) ≡ none
-  unfolding wrong memorySizes
-  sizes-right t h j = rw (eq-eqb _ _ (read-right t h P3), eq-eqb _ _ (read-right t h P4))
+  unfolding memorySizes
+  sizes-right t h j =
+      wrong-cons _ _ _ _ (read-right t h P3) (wrong-cons _ _ _ _ (read-right t h P4) (wrong-cons _ _ _ _ held-length (wrong-nil _)))
+    where
+      held-length : length (readMemory mode S t .delayed) ≡ delayLen k
+      held-length = ap length (reader-holds mode F t) ∙ held-fits k (s mode F) (s-fits mode F) t
 
-  fill-clear : (t : ℕ) → t < n → cond (ltb (min 2 t) 2) (fillPlace (stateAt mode t) (S t .matrices)) none ≡ none
-  unfolding fillPlace defined signalOf memoryBefore memoryNext
-  fill-clear zero h =
-      first-none _ _ (beside-good _ _ _ _
-      (fill-first (kindOf mode P3) (F 0 .p3))
-      (fill-first (kindOf mode P4) (F 0 .p4)))
-  fill-clear (suc zero) h =
-      first-none _ _ (beside-good _ _ _ _
-      (fill-second (kindOf mode P3) (F 0 .p3) (F 1 .p3))
-      (fill-second (kindOf mode P4) (F 0 .p4) (F 1 .p4)))
-  fill-clear (suc (suc t)) h = rw (old t)
+  both-good : (a b c : Bool) → a ≡ false → c ≡ false → (a || (b && c)) ≡ false
+  both-good a true c p q = rw (p, q)
+  both-good a false c p q = rw p
+
+  main-clear : (t : ℕ) → mainPlace (stateAt mode t) (readMemory mode S t) (S t .matrices) ≡ none
+  unfolding mainPlace mainBad defined signalOf
+  main-clear t =
+      first-none _ _ (beside-good (p1Frames k) 1 _ _
+      (λ f h. both-good _ (not (ltb (min (lastAge k) t) (delayFrames k))) _ (p1-good k _ _ _ f h)
+      (ap₂ (λ (x y : Buffer). p1′Bad k x y f) (second-is mode F t) (due-is mode F t) ∙ p1′-good k (delayed-path mode F t) f h))
+      (p2-good k _ _ _))
+
+  not-yet : (k : ℕ) → min k 0 ≡ 0
+  not-yet k = omega arith
+
+  one-yet : min (lastAge k) 1 ≡ 1
+  one-yet = omega (arith, two-le k)
+
+  -- the matrices of the first two L1 frames
+  shown-first : (e : Extended) → matrixOf mode (S 0 .matrices) e ≡ pxOf (kindOf mode e) 0 (replicate (senderLen (kindOf mode e)) 0) (frameOf (F 0) e)
+  unfolding defined memoryBefore
+  shown-first P3 = matrix-of mode 0 (memoryBefore mode F 0) (F 0) P3
+  shown-first P4 = matrix-of mode 0 (memoryBefore mode F 0) (F 0) P4
+
+  shown-second : (e : Extended) → matrixOf mode (S 1 .matrices) e
+      ≡ pxOf (kindOf mode e) 1 (memOf (kindOf mode e) 0 (replicate (senderLen (kindOf mode e)) 0) (frameOf (F 0) e)) (frameOf (F 1) e)
+  unfolding defined memoryBefore memoryNext
+  shown-second P3 = matrix-of mode 1 (memoryBefore mode F 1) (F 1) P3
+  shown-second P4 = matrix-of mode 1 (memoryBefore mode F 1) (F 1) P4
+
+  fill-good : (e : Extended) (t c : ℕ) → c < 8 * matrixLen (kindOf mode e)
+      → fillBad (kindOf mode e) (min (lastAge k) t) (matrixOf mode (S t .matrices) e) c ≡ false
+  unfolding fillBad
+  fill-good e zero c h =
+      ap₂ (λ (a : ℕ) (x : Buffer). fillBad (kindOf mode e) a x c) (not-yet (lastAge k)) (shown-first e) ∙ fill-first (kindOf mode e) _ c h
+  fill-good e (suc zero) c h =
+      ap₂ (λ (a : ℕ) (x : Buffer). fillBad (kindOf mode e) a x c) one-yet (shown-second e) ∙ fill-second (kindOf mode e) _ _ c h
+  fill-good e (suc (suc t)) c h = rw (old k t)
+
+  delay-good : (t c : ℕ) → c < 8 * p1′Len k → delayBad k (min (lastAge k) t) (p1′In mode (S t .matrices)) c ≡ false
+  unfolding delayBad
+  delay-good t c h =
+      elim (decLt t (delayFrames k)) [
+        | yes l ↦ rw (zero-at l) (and-false (ltb (min (lastAge k) t) (delayFrames k)))
+        | no l ↦ rw (late k t (omega arith))
+      ]
+    where
+      zero-at : t < delayFrames k → bitAt (p1′In mode (S t .matrices)) c ≡ 0
+      zero-at l =
+          ap (λ (x : Buffer). bitAt x c) (second-is mode F t)
+          ∙ p1′-zero k (delayed-path mode F t) (λ i. ap (λ (x : Buffer). bitAt x i) (goes-zero k (s mode F) (s-fits mode F) t l) ∙ bitAt-zeros (p1Len k) i) c h
+
+  fill-clear : (t : ℕ) → fillPlace (stateAt mode t) (S t .matrices) ≡ none
+  unfolding fillPlace
+  fill-clear t = first-none _ _ (beside-good _ _ _ _ (fill-good P3 t) (beside-good _ _ _ _ (fill-good P4 t) (delay-good t)))
 
   two-on : (t : ℕ) → suc (suc t) % 2 ≡ t % 2
   two-on t = omega arith
 
-  frames-clear : (t : ℕ) → t < n → cond (ltb (min 2 t) 2) none (framePlace (stateAt mode t) (readMemory mode S (suc t))) ≡ none
+  frames-clear : (t : ℕ) → t < n → cond (ltb (min (lastAge k) t) 2) none (framePlace (stateAt mode t) (readMemory mode S (suc t))) ≡ none
   unfolding framePlace
-  frames-clear zero h = refl
-  frames-clear (suc zero) h = refl
+  frames-clear zero h = rw (not-yet (lastAge k))
+  frames-clear (suc zero) h = rw one-yet
   frames-clear (suc (suc t)) h =
-      rw (old t, two-on t, read-three t h P3, read-three t h P4)
+      rw (old k t, two-on t, read-three t h P3, read-three t h P4)
       (first-none 16 _ (beside-good 8 8 _ _ (extended-good mode cov F n right P3 t h) (extended-good mode cov F n right P4 t h)))
 
   read-clear : (t : ℕ) → t < n → (f : Frames) → wrong 0 (lentSizes mode (handed t f)) ≡ none
@@ -94,30 +160,45 @@ module _ (mode : ℕ) (cov : covered mode ≡ true) (F : ℕ → Frames) (n : �
         state = valid-at mode cov t;
         lengths = wrong-append 0 _ _ lens (sizes-right t (omega arith));
         control = first-none 16 _ (control.control-good mode 0);
-        p1 = p1-good _ _;
-        pids = first-none 16 _ (pids-good _ _);
-        fill = fill-clear t h;
+        main = main-clear t;
+        pids = first-none 16 _ (pids-good k _ _ _);
+        fill = fill-clear t;
         extended = frames-clear t h;
       }
+
+  -- ---- the frames
 
   -- at L1 frame s + 2 the frames of L1 frame s
   read-extended : (s : ℕ) → suc (suc s) < n → (f : Frames) (e : Extended)
       → frameOf (received (stateAt mode (suc (suc s))) (readMemory mode S (suc (suc s))) (handed (suc (suc s)) f) .lent .frames) e
       ≡ frameOf (F s) e
   unfolding received readMemory
-  read-extended s h f P3 = rw (old s, two-on s, read-three s h P3) (extended-back mode cov F n right P3 s h)
-  read-extended s h f P4 = rw (old s, two-on s, read-three s h P4) (extended-back mode cov F n right P4 s h)
+  read-extended s h f P3 = rw (old k s, two-on s, read-three s h P3) (extended-back mode cov F n right P3 s h)
+  read-extended s h f P4 = rw (old k s, two-on s, read-three s h P4) (extended-back mode cov F n right P4 s h)
+
+  -- when P1' has come, the P1 frames of the L1 frame so much earlier
+  read-p1 : (t u : ℕ) → t < n → t ≡ u + delayFrames k → (f : Frames)
+      → received (stateAt mode t) (readMemory mode S t) (handed t f) .lent .frames .p1 ≡ F u .p1
+  unfolding received s
+  read-p1 t u h e f =
+      let r = right u (omega arith) in
+      rw (late k t (omega arith))
+      (ap (scrambledOf k) (due-is mode F t ∙ ap (delayed-path mode F) e ∙ goes-frame k (s mode F) (s-fits mode F) u)
+      ∙ scrambled-again k (F u .p1) (r .p1-right) (r .bytes .p1-bytes))
 
   -- the reading of L1 frame t gives the frames
-  pub read-gives : (t : ℕ) → t < n → (f : Frames) → Returned F t (received (stateAt mode t) (readMemory mode S t) (handed t f))
+  pub read-gives : (t : ℕ) → t < n → (f : Frames) → Returned mode F t f (received (stateAt mode t) (readMemory mode S t) (handed t f))
   unfolding received defined signalOf
   read-gives t h f =
       let r = right t h in
       record {
         number-zero = refl;
         place-zero = refl;
-        p1-is = p1-back _ _ (r .p1-right) (r .bytes .p1-bytes);
-        pids-is = pids-back _ _ (r .pids-right) (r .bytes .pids-bytes);
+        p1-early = λ l. late-kept (stateAt mode t) (readMemory mode S t) (handed t f) (omega arith);
+        p1-is = λ u e. read-p1 t u h e f;
+        pids-is = pids-back k _ _ _ (r .pids-right) (r .bytes .pids-bytes);
+        p2-is = p2-back k _ _ _ (r .p2-right) (r .bytes .p2-bytes);
+        extended-early = λ e l. early-kept (stateAt mode t) (readMemory mode S t) (handed t f) (omega arith) e;
         extended-is = λ e s q.
             subst
             (λ (k : ℕ). k < n → frameOf (received (stateAt mode k) (readMemory mode S k) (handed k f) .lent .frames) e ≡ frameOf (F s) e)

@@ -16,7 +16,7 @@ use Rattle.runs.specs.Reading.{readStep, received}
 use Rattle.runs.specs.Runs.{Call, calls, Fitting}
 use Rattle.runs.specs.Defined.{defined, table}
 use Rattle.runs.specs.Handed.{Given, Handed, done, other, given}
-use Rattle.runs.specs.WholeRuns.{Returned, noResult}
+use Rattle.runs.specs.WholeRuns.{Returned, noCall}
 use Rattle.runs.proofs.Lists.{cons-both}
 use Rattle.runs.proofs.States.{next-at}
 use Rattle.runs.proofs.Memory.{read-refused, readMemory}
@@ -27,11 +27,11 @@ module _ (mode : ℕ) (cov : covered mode ≡ true) (F : ℕ → Frames) (n : �
   abbrev S : ℕ → Signal
   S t = defined mode F t
 
-  pub record Got (T k : ℕ) (gs : List Result) : Type 0 where
+  pub record Got (T k : ℕ) (gs : List Call) : Type 0 where
     pub as-many : length gs ≡ k
-    pub each : (i : ℕ) → i < k → Returned F (T + i) (getD gs i noResult)
+    pub each : (i : ℕ) → i < k → Returned mode F (T + i) (getD gs i noCall .lent .frames) (getD gs i noCall .result)
 
-  got-cons : (T k : ℕ) (g : Result) (gs : List Result) → Returned F T g → Got (suc T) k gs → Got T (suc k) (g ∷ gs)
+  got-cons : (T k : ℕ) (g : Call) (gs : List Call) → Returned mode F T (g .lent .frames) (g .result) → Got (suc T) k gs → Got T (suc k) (g ∷ gs)
   got-cons T k g gs r ih =
       record {
         as-many = ap suc (ih .as-many);
@@ -52,10 +52,10 @@ module _ (mode : ℕ) (cov : covered mode ≡ true) (F : ℕ → Frames) (n : �
 
   given-step : (T : ℕ) → T < n → (x : Signal) → x ≡ S T → (l : Lent) (ls : List Lent) (c : Call) (cs : List Call)
       → c ∷ cs ≡ calls readStep (stateAt mode T) (readMemory mode S T) (l ∷ ls) → Given mode x (c .lent)
-      → Returned F T (c .result) × (cs ≡ calls readStep (stateAt mode (suc T)) (readMemory mode S (suc T)) ls)
+      → Returned mode F T (c .lent .frames) (c .result) × (cs ≡ calls readStep (stateAt mode (suc T)) (readMemory mode S (suc T)) ls)
   unfolding calls received readMemory
   given-step T h x q l ls c cs e g = (
-    rw (ap (λ (y : Call). y .result) e₁ ∙ done-is) (read-gives mode cov F n right T h (l .frames)),
+    rw (ap (λ (y : Call). y .result) e₁ ∙ done-is, ap (λ (y : Call). y .lent .frames) e₁) (read-gives mode cov F n right T h (l .frames)),
     cons-both c _ cs _ e .1 ∙ ap (λ (r : Result). calls readStep (r .state) (r .memory) ls) done-is
         ∙ ap (λ (r : State). calls readStep r (readMemory mode S (suc T)) ls) (next-at mode T),
   )
@@ -70,7 +70,7 @@ module _ (mode : ℕ) (cov : covered mode ≡ true) (F : ℕ → Frames) (n : �
           ≡ received (stateAt mode T) (readMemory mode S T) (record { frames = l .frames; signal = S T })
       done-is = read-given mode cov F n right T h l mine
 
-  pub read-run : {xs : List Signal} {cs : List Call} {gs : List Result} → Handed mode xs cs gs
+  pub read-run : {xs : List Signal} {cs gs : List Call} → Handed mode xs cs gs
       → (k T : ℕ) → T + k ≡ n → xs ≡ table T k S
       → (ls : List Lent) → cs ≡ calls readStep (stateAt mode T) (readMemory mode S T) ls → Got T k gs
   unfolding table calls
@@ -83,4 +83,4 @@ module _ (mode : ℕ) (cov : covered mode ≡ true) (F : ℕ → Frames) (n : �
   read-run (given {x = x} {xs = xs} {c = c₁} {cs = cs} g h) (suc k) T e q (l ∷ ls) c =
       let (q₁, q₂) = cons-both x _ xs _ q in
       let (r, c₂) = given-step T (omega arith) x q₁ l ls c₁ cs c g in
-      got-cons T k (c₁ .result) _ r (read-run h k (suc T) (omega arith) q₂ ls c₂)
+      got-cons T k c₁ _ r (read-run h k (suc T) (omega arith) q₂ ls c₂)

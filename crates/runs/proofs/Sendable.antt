@@ -1,6 +1,6 @@
 -- There is a sender's run that sends given frames. Assumes nothing.
 use Prim.Native.Nat.{ℕ, suc, _%_}
-use mathlib.Core.Path.{_≡_, refl, ap, _∙_}
+use mathlib.Core.Path.{_≡_, refl, sym, ap, _∙_}
 use mathlib.Core.Bool.{true}
 use mathlib.Core.Option.{none}
 use mathlib.Core.List.{List, [], _∷_, map}
@@ -8,16 +8,16 @@ use lib.ListN.{replicate, length-replicate}
 use Rattle.control.specs.Modes.{covered}
 use Rattle.runs.specs.declared.State.{State}
 use Rattle.runs.specs.declared.Extended.the-variants.{P3, P4}
-use Rattle.runs.specs.Lengths.{kindOf, matrixLen, senderLen, pmLen, controlLen}
+use Rattle.runs.specs.Lengths.{kindOf, matrixLen, senderLen, pmLen, px2Len, controlLen}
 use Rattle.runs.specs.Lent.{Frames, Lent, Memory, Result, ByteFrames, memoryNext}
 use Rattle.runs.specs.Causes.{wrong}
 use Rattle.runs.specs.Starting.{Started, stateAt, memorySizes, zeros}
 use Rattle.runs.specs.Sending.{lentSizes, sendStep, sent}
 use Rattle.runs.specs.Runs.{calls, succeeded, Every, Fitting, SenderRun, sendings, framesSent}
 use Rattle.runs.proofs.Passing.{wrong-append, wrong-cons, wrong-nil}
-use Rattle.runs.proofs.States.{next-at, start-ok, valid-at}
+use Rattle.runs.proofs.States.{fresh-at, next-at, start-ok, valid-at}
 use Rattle.runs.proofs.Succeeds.{send-succeeds}
-use Rattle.runs.proofs.Sender.{MemoryRight, framesIn, memory-right}
+use Rattle.runs.proofs.Sender.{MemoryRight, framesIn, memory-right, zeros-right}
 use Rattle.runs.proofs.Readable.{start-clear}
 
 lending : ℕ → Frames → Lent
@@ -28,7 +28,7 @@ lending mode f =
         matrices = record {
           pm = replicate pmLen 0;
           px1 = replicate (matrixLen (kindOf mode P3)) 0;
-          px2 = replicate (matrixLen (kindOf mode P4)) 0;
+          px2 = replicate (px2Len mode) 0;
         };
         control = replicate controlLen 0;
       };
@@ -39,19 +39,20 @@ unfolding lentSizes lending
 lending-fits mode f r =
     wrong-cons _ _ _ _ (r .p1-right)
     (wrong-cons _ _ _ _ (r .pids-right)
+    (wrong-cons _ _ _ _ (r .p2-right)
     (wrong-cons _ _ _ _ (r .extended-right P3)
     (wrong-cons _ _ _ _ (r .extended-right P4)
     (wrong-cons _ _ _ _ (length-replicate {A = ℕ} pmLen 0)
     (wrong-cons _ _ _ _ (length-replicate {A = ℕ} (matrixLen (kindOf mode P3)) 0)
-    (wrong-cons _ _ _ _ (length-replicate {A = ℕ} (matrixLen (kindOf mode P4)) 0)
-    (wrong-cons _ _ _ _ (length-replicate {A = ℕ} controlLen 0) (wrong-nil _))))))))
+    (wrong-cons _ _ _ _ (length-replicate {A = ℕ} (px2Len mode) 0)
+    (wrong-cons _ _ _ _ (length-replicate {A = ℕ} controlLen 0) (wrong-nil _)))))))))
 
 send-sends : (mode : ℕ) → covered mode ≡ true → (T : ℕ) (m : Memory) (f : Frames) → MemoryRight senderLen mode m → Fitting mode f
     → sendStep (stateAt mode T) m (lending mode f) ≡ sent (stateAt mode T) m (lending mode f)
 unfolding memorySizes
 send-sends mode cov T m f mr fr =
     send-succeeds (stateAt mode T) m (lending mode f) (valid-at mode cov T)
-    (wrong-append 0 _ _ (lending-fits mode f fr) (λ j. wrong-cons _ _ _ _ (mr P3) (wrong-cons _ _ _ _ (mr P4) (wrong-nil _))))
+    (wrong-append 0 _ _ (lending-fits mode f fr) (λ j. wrong-cons _ _ _ _ (mr .extended P3) (wrong-cons _ _ _ _ (mr .extended P4) (wrong-cons _ _ _ _ (mr .delay) (wrong-nil _)))))
 
 -- the frames of the calls that succeeded, where the first gave r
 sentAfter : ℕ → Frames → List Frames → Result → List Frames
@@ -79,5 +80,6 @@ can-send mode cov fs each =
     let go = start-clear senderLen mode cov in (
       record { upon = zeros senderLen mode; started = go; lents = map (lending mode) fs; bytes = all-bytes mode fs each },
       ap (λ (s : Started). framesIn (succeeded (calls sendStep (s .state) (s .memory) (map (lending mode) fs)))) (start-ok senderLen mode (zeros senderLen mode) go .1)
-          ∙ send-each mode cov fs each 0 (zeros senderLen mode) (λ x. elim x [ P3 ↦ length-replicate _ 0 | P4 ↦ length-replicate _ 0 ]),
+          ∙ ap (λ (s : State). framesIn (succeeded (calls sendStep s (zeros senderLen mode) (map (lending mode) fs)))) (sym (fresh-at mode))
+          ∙ send-each mode cov fs each 0 (zeros senderLen mode) (zeros-right senderLen mode),
     )

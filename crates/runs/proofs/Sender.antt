@@ -1,6 +1,6 @@
 -- A run of a sender, call by call: what it has sent is the definition of what is sent. Assumes nothing.
 use Prim.Native.Nat.{ℕ, zero, suc, _+_, _%_, _<_}
-use mathlib.Core.Path.{_≡_, refl, sym, ap, ap₂, _∙_, fun-ext}
+use mathlib.Core.Path.{_≡_, refl, sym, ap, ap₂, _∙_, subst, fun-ext}
 use mathlib.Core.Bool.{true, cond}
 use mathlib.Core.Option.{Option, none, some}
 use mathlib.Core.List.{List, [], _∷_, _++_, map}
@@ -14,6 +14,7 @@ use Rattle.runs.specs.declared.State.{State}
 use Rattle.runs.specs.declared.Extended.{Extended}
 use Rattle.runs.specs.declared.Extended.the-variants.{P3, P4}
 use Rattle.runs.specs.declared.Kind.{Kind}
+use Rattle.runs.specs.MainChannels.{mainOf, delayLen}
 use Rattle.runs.specs.Lengths.{kindOf, senderLen}
 use Rattle.runs.specs.Lent.{Frames, Signal, Lent, Memory, Result, memoryOf, ByteFrames, signalOf, memoryNext}
 use Rattle.runs.specs.Answers.{numberOf, onSuccess}
@@ -23,21 +24,29 @@ use Rattle.runs.specs.Sending.{lentSizes, refused, sendAnswer, sendStep,
 use Rattle.runs.specs.Runs.{Call, calls, succeeded, Every, Fitting, SenderRun, sendings, framesSent, signalsSent, noFrames, noSignal, count, frameAt, matricesAt}
 use Rattle.runs.specs.Defined.{defined, table}
 use Rattle.runs.proofs.PX.{memory-length}
+use Rattle.runs.proofs.PM.{scrambled-length}
+use Rattle.runs.proofs.Delay.{waiting-length}
 use Rattle.runs.proofs.Lists.{length-map, table-at, table-shift}
 use Rattle.runs.proofs.Passing.{wrong-head}
-use Rattle.runs.proofs.States.{defined-shift, defined-start, definedFrom, memoryFrom, next-at, start-ok, valid-at}
+use Rattle.runs.proofs.States.{defined-shift, defined-start, definedFrom, fresh-at, memoryFrom, next-at, start-ok, valid-at}
 
 lent-right : (mode : ℕ) (l : Lent) (rest : List Size) → ByteFrames (l .frames) → wrong 0 (lentSizes mode l ++ rest) ≡ none → Fitting mode (l .frames)
 unfolding lentSizes
-lent-right mode l rest bytes e =
-    let (a, e₁) = wrong-head _ _ _ _ e in
+lent-right mode l rest bytes h =
+    let (a, e₁) = wrong-head _ _ _ _ h in
     let (b, e₂) = wrong-head _ _ _ _ e₁ in
     let (c, e₃) = wrong-head _ _ _ _ e₂ in
     let (d, e₄) = wrong-head _ _ _ _ e₃ in
-    record { p1-right = a; pids-right = b; extended-right = λ x. elim x [ P3 ↦ c | P4 ↦ d ]; bytes = bytes }
+    let (e, e₅) = wrong-head _ _ _ _ e₄ in
+    record { p1-right = a; pids-right = b; p2-right = c; extended-right = λ x. elim x [ P3 ↦ d | P4 ↦ e ]; bytes = bytes }
 
-abbrev pub MemoryRight : (Kind → ℕ) → ℕ → Memory → Type 0
-MemoryRight len mode m = (e : Extended) → length (memoryOf m e) ≡ len (kindOf mode e)
+pub record MemoryRight (len : Kind → ℕ) (mode : ℕ) (m : Memory) : Type 0 where
+  pub extended : (e : Extended) → length (memoryOf m e) ≡ len (kindOf mode e)
+  pub delay : length (m .delayed) ≡ delayLen (mainOf mode)
+
+pub zeros-right : (len : Kind → ℕ) (mode : ℕ) → MemoryRight len mode (zeros len mode)
+zeros-right len mode =
+    record { extended = λ x. elim x [ P3 ↦ length-replicate _ 0 | P4 ↦ length-replicate _ 0 ]; delay = length-replicate _ 0 }
 
 abbrev pub framesIn : List Call → List Frames
 framesIn ss = map (λ (c : Call). c .lent .frames) ss
@@ -81,8 +90,14 @@ ran-cons mode T m l ss right ih =
 pub memory-right : (mode : ℕ) → covered mode ≡ true → (t : ℕ) (m : Memory) (f : Frames)
     → MemoryRight senderLen mode m → Fitting mode f → MemoryRight senderLen mode (memoryNext mode (t % 2) m f)
 unfolding memoryNext
-memory-right mode cov t m f mr fr P3 = memory-length (kindOf mode P3) (t % 2) (m .for3) (f .p3)
-memory-right mode cov t m f mr fr P4 = memory-length (kindOf mode P4) (t % 2) (m .for4) (f .p4)
+memory-right mode cov t m f mr fr =
+    record {
+      extended = λ x. elim x [
+        | P3 ↦ memory-length (kindOf mode P3) (t % 2) (m .for3) (f .p3)
+        | P4 ↦ memory-length (kindOf mode P4) (t % 2) (m .for4) (f .p4)
+      ];
+      delay = waiting-length (mainOf mode) (m .delayed) _ (mr .delay) (scrambled-length (mainOf mode) (f .p1));
+    }
 
 -- a sending in L1 frame T's state is refused for a length, and then changes nothing, or it succeeds with right lengths
 send-cases : (mode : ℕ) → covered mode ≡ true → (T : ℕ) (m : Memory) (l : Lent) → ByteFrames (l .frames) → (A : Result → Type 0)
@@ -121,7 +136,9 @@ sent-facts : (mode : ℕ) (a : SenderRun mode) → Ran mode 0 (zeros senderLen m
 unfolding sendings
 sent-facts mode a =
     let (cov, e) = start-ok senderLen mode (a .upon) (a .started) in
-    rw e (send-run mode cov (a .lents) (a .bytes) 0 (zeros senderLen mode) (λ x. elim x [ P3 ↦ length-replicate _ 0 | P4 ↦ length-replicate _ 0 ]))
+    rw e
+    (subst (λ (s : State). Ran mode 0 (zeros senderLen mode) (succeeded (calls sendStep s (zeros senderLen mode) (a .lents)))) (fresh-at mode)
+    (send-run mode cov (a .lents) (a .bytes) 0 (zeros senderLen mode) (zeros-right senderLen mode)))
 
 count-is : (mode : ℕ) (a : SenderRun mode) → count mode a ≡ length (succeeded (sendings mode a))
 unfolding count framesSent

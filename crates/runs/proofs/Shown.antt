@@ -18,13 +18,14 @@ use Rattle.interleaving.proofs.Mod.{div-of, mod-of}
 use Rattle.runs.specs.declared.Extended.{Extended}
 use Rattle.runs.specs.declared.Extended.the-variants.{P3, P4}
 use Rattle.runs.specs.declared.Kind.{Kind}
+use Rattle.runs.specs.MainChannels.{mainOf, p1Bits, p2Bits}
 use Rattle.runs.specs.Lengths.{kindOf, tableRow, senderLen}
-use Rattle.runs.specs.Chain.{Buffer, codedOf}
+use Rattle.runs.specs.Chain.{Buffer, p1Coded, p2Cells, codedOf}
 use Rattle.runs.specs.Lent.{Frames, frameOf, matrixOf, memoryOf}
 use Rattle.runs.specs.Runs.{SenderRun, count, frameAt, matricesAt}
 use Rattle.runs.specs.Defined.{memoryBefore, defined}
 use Rattle.runs.proofs.Rows.{bitsOf}
-use Rattle.runs.proofs.PM.{p1-at, pids-at}
+use Rattle.runs.proofs.PM.{p2Coded, p1-at, p2-at, pids-at}
 use Rattle.runs.proofs.PX.{memories, matrices, codes, matrices-are, fill-zero}
 use Rattle.runs.proofs.Fixed.{matrixIn, matrix-of, memory-of, pm-at, px-at}
 
@@ -91,21 +92,26 @@ module _ (mode : ℕ) (F : ℕ → Frames) (e : Extended) where
   matrix-in t = matrix-of mode (t % 2) (memoryBefore mode F t) (F t) e ∙ rw (zero-add t, memory-in t)
 
 module _ (mode : ℕ) (a : SenderRun mode) (t : ℕ) (h : t < count mode a) where
-  pub p1-shown : (i : ℕ) → i < 365440 → bitAt (matricesAt mode a t .pm) (p1Place i) ≡ channel TwoFifths 146176 (bitAt (frameAt mode a t .p1)) i
-  p1-shown i l = ap (λ (x : Buffer). bitAt x (p1Place i)) (pm-at mode a t h) ∙ p1-at _ _ i l
+  pub p1-shown : (i : ℕ) → i < p1Coded (mainOf mode)
+      → bitAt (matricesAt mode a t .pm) (p1Place i) ≡ channel TwoFifths (p1Bits (mainOf mode)) (bitAt (frameAt mode a t .p1)) i
+  p1-shown i l = ap (λ (x : Buffer). bitAt x (p1Place i)) (pm-at mode a t h) ∙ p1-at (mainOf mode) _ _ _ i l
+
+  pub p2-shown : (i : ℕ) → i < p2Coded (mainOf mode)
+      → p2Cells (mainOf mode) (matricesAt mode a t .pm) i ≡ channel TwoFifths (p2Bits (mainOf mode)) (bitAt (frameAt mode a t .p2)) i
+  p2-shown i l = ap (λ (x : Buffer). p2Cells (mainOf mode) x i) (pm-at mode a t h) ∙ p2-at (mainOf mode) _ _ _ i l
 
   pub pids-shown : (i : ℕ) → i < 3200 → bitAt (matricesAt mode a t .pm) (pidsPlace i) ≡ channel TwoFifths 80 (bitAt (frameAt mode a t .pids)) i
-  pids-shown i l = ap (λ (x : Buffer). bitAt x (pidsPlace i)) (pm-at mode a t h) ∙ pids-at _ _ i l
+  pids-shown i l = ap (λ (x : Buffer). bitAt x (pidsPlace i)) (pm-at mode a t h) ∙ pids-at (mainOf mode) _ _ _ i l
 
   module _ (e : Extended) (u : tableRow (kindOf mode e) < 2) (c : ℕ) (l : c < bitsOf (kindOf mode e)) where
-    cell-is : bitAt (matrixOf (matricesAt mode a t) e) c ≡ bitAt (shown (kindOf mode e) (λ i. frameOf (frameAt mode a i) e) t) c
+    cell-is : bitAt (matrixOf mode (matricesAt mode a t) e) c ≡ bitAt (shown (kindOf mode e) (λ i. frameOf (frameAt mode a i) e) t) c
     cell-is = ap (λ (x : Buffer). bitAt x c) (px-at mode a e t h ∙ matrix-in mode (frameAt mode a) e t)
 
     -- the coded bit that the finder names, where it is of the run, and a 0 where it is from before the start
     pub coded-shown : earlier (tableRow (kindOf mode e)) (t % 2) c ≤ t
-        → bitAt (matrixOf (matricesAt mode a t) e) c
+        → bitAt (matrixOf mode (matricesAt mode a t) e) c
         ≡ codedOf (kindOf mode e) (frameOf (frameAt mode a (t - earlier (tableRow (kindOf mode e)) (t % 2) c)) e) (codedBit (tableRow (kindOf mode e)) (t % 2) c)
     coded-shown n = cell-is ∙ coded-in (kindOf mode e) (λ i. frameOf (frameAt mode a i) e) u t c l n
 
-    pub fill-shown : min 2 t < earlier (tableRow (kindOf mode e)) (t % 2) c → bitAt (matrixOf (matricesAt mode a t) e) c ≡ 0
+    pub fill-shown : min 2 t < earlier (tableRow (kindOf mode e)) (t % 2) c → bitAt (matrixOf mode (matricesAt mode a t) e) c ≡ 0
     fill-shown n = cell-is ∙ fill-in (kindOf mode e) (λ i. frameOf (frameAt mode a i) e) u t c l n

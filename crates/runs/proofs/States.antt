@@ -1,16 +1,21 @@
 -- A start that succeeded, the states of a run, and the definition of what is sent from any L1 frame on. Assumes nothing.
-use Prim.Native.Nat.{ℕ, zero, suc, _+_, _%_, min}
+use Prim.Native.Nat.{ℕ, zero, suc, _+_, _%_, _≤_, min}
 use mathlib.Core.Path.{_≡_, refl, sym, ap, ap₂, _∙_}
 use mathlib.Core.Bool.{Bool, true, false, not}
 use mathlib.Core.Option.{Option, none, some}
 use mathlib.Core.List.{[], _∷_}
 use native.Mathlib.Nat.{add-zero, add-suc, zero-add, suc-add}
 use native.Mathlib.Omega.{arith}
-use borrow.Author.Tests.{lt-ltb}
+use native.Mathlib.Decide.{decLt}
+use lib.Dec.{ltb}
+use borrow.Author.Tests.{eq-eqb, le-ltb, lt-ltb}
 use Rattle.control.specs.Modes.{covered}
 use Rattle.runs.specs.declared.Answer.{Answer}
 use Rattle.runs.specs.declared.Answer.the-variants.{ModeNotCovered, WrongLength}
 use Rattle.runs.specs.declared.Kind.{Kind}
+use Rattle.runs.specs.declared.Main.{Main}
+use Rattle.runs.specs.declared.Main.the-variants.{Plain, Mp5, Mp6}
+use Rattle.runs.specs.MainChannels.{mainOf, delayFrames, lastAge}
 use Rattle.runs.specs.Lengths.{senderLen}
 use Rattle.runs.specs.Lent.{Frames, Signal, Memory, signalOf, memoryNext}
 use Rattle.runs.specs.Answers.{numberOf, onSuccess}
@@ -38,14 +43,42 @@ start-ok len mode m = go (covered mode) (wrong 0 (memorySizes len mode m))
 
 -- ---- states
 
-pub old : (k : ℕ) → min 2 (suc (suc k)) ≡ 2
-old k = omega arith
+pub two-le : (k : Main) → 2 ≤ lastAge k
+two-le Plain = omega arith
+two-le Mp5 = omega arith
+two-le Mp6 = omega arith
+
+pub delay-le : (k : Main) → delayFrames k ≤ lastAge k
+delay-le Plain = omega arith
+delay-le Mp5 = omega arith
+delay-le Mp6 = omega arith
+
+-- from the third L1 frame on, and from the one on whose P1 frames' second path has come
+pub old : (k : Main) (t : ℕ) → ltb (min (lastAge k) (suc (suc t))) 2 ≡ false
+old k t = le-ltb (min (lastAge k) (suc (suc t))) 2 (omega (arith, two-le k))
+
+pub late : (k : Main) (t : ℕ) → delayFrames k ≤ t → ltb (min (lastAge k) t) (delayFrames k) ≡ false
+late k t h = le-ltb (min (lastAge k) t) (delayFrames k) (omega (arith, delay-le k))
+
+pub aged-at : (last t : ℕ) → aged last (t % 2) (min last t) ≡ true
+unfolding aged
+aged-at last t =
+    elim (decLt t last) [
+      | yes h ↦ let e : min last t ≡ t = omega arith in rw (e, lt-ltb t last h, eq-eqb (t % 2) (t % 2) refl)
+      | no h ↦
+          let e : min last t ≡ last = omega arith in
+          rw (e, le-ltb last last (omega arith), eq-eqb last last refl, lt-ltb (t % 2) 2 (omega arith))
+    ]
 
 pub valid-at : (mode : ℕ) → covered mode ≡ true → (t : ℕ) → valid (stateAt mode t) ≡ true
-unfolding valid aged
-valid-at mode cov zero = rw cov
-valid-at mode cov (suc zero) = rw cov
-valid-at mode cov (suc (suc k)) = rw (cov, old k, lt-ltb (suc (suc k) % 2) 2 (omega arith))
+unfolding valid
+valid-at mode cov t = rw (cov, aged-at (lastAge (mainOf mode)) t)
+
+pub fresh-at : (mode : ℕ) → stateAt mode 0 ≡ fresh mode
+fresh-at mode = λ i. record { mode = mode; half = 0; age = none-yet i }
+  where
+    none-yet : min (lastAge (mainOf mode)) 0 ≡ 0
+    none-yet = omega arith
 
 pub next-at : (mode t : ℕ) → next (stateAt mode t) ≡ stateAt mode (suc t)
 unfolding next
@@ -54,7 +87,7 @@ next-at mode t = λ i. record { mode = mode; half = halves i; age = ages i }
     halves : (t % 2 + 1) % 2 ≡ suc t % 2
     halves = omega arith
 
-    ages : min 2 (min 2 t + 1) ≡ min 2 (suc t)
+    ages : min (lastAge (mainOf mode)) (min (lastAge (mainOf mode)) t + 1) ≡ min (lastAge (mainOf mode)) (suc t)
     ages = omega arith
 
 -- ---- the definition of what is sent, from L1 frame T on with the memory m there

@@ -1,7 +1,7 @@
 -- Document 01: "A start, a sending or a reading that meets no listed cause succeeds." Assumes nothing.
 use Prim.Native.Nat.{ℕ, _<_}
 use mathlib.Core.Path.{_≡_}
-use mathlib.Core.Bool.{true, false, cond}
+use mathlib.Core.Bool.{true, cond}
 use mathlib.Core.Option.{none}
 use mathlib.Core.List.{_++_}
 use native.Mathlib.Omega.{arith}
@@ -13,14 +13,16 @@ use Rattle.runs.specs.declared.State.{State}
 use Rattle.runs.specs.declared.Extended.{Extended}
 use Rattle.runs.specs.declared.Extended.the-variants.{P3, P4}
 use Rattle.runs.specs.declared.Kind.{Kind}
+use Rattle.runs.specs.MainChannels.{mainOf, delayFrames}
 use Rattle.runs.specs.Lengths.{senderLen, readerLen}
-use Rattle.runs.specs.Chain.{p1Bad, pidsBad}
+use Rattle.runs.specs.Chain.{pidsBad}
 use Rattle.runs.specs.Answers.{onSuccess}
 use Rattle.runs.specs.Causes.{first, judge, wrong}
 use Rattle.runs.specs.Lent.{Lent, Memory, frameOf}
 use Rattle.runs.specs.Starting.{memorySizes, start, startAnswer, started, valid}
 use Rattle.runs.specs.Sending.{lentSizes, sendAnswer, sendStep, sent}
-use Rattle.runs.specs.Reading.{fillPlace, framePlace, pushed, readAnswer, readStep, received}
+use Rattle.runs.specs.Judged.{mainPlace, fillPlace, framePlace}
+use Rattle.runs.specs.Reading.{pushed, readAnswer, readStep, received}
 
 -- a start of a covered mode with the right lengths
 pub start-succeeds : (len : Kind → ℕ) (mode : ℕ) (m : Memory) → covered mode ≡ true → wrong 0 (memorySizes len mode m) ≡ none
@@ -39,14 +41,14 @@ pub record Clear (s : State) (m : Memory) (l : Lent) : Type 0 where
   pub state : valid s ≡ true
   pub lengths : wrong 0 (lentSizes (s .mode) l ++ memorySizes readerLen (s .mode) m) ≡ none
   pub control : first 16 (departs (s .mode) 0 (l .signal .control)) ≡ none
-  pub p1 : p1Bad (l .signal .matrices .pm) ≡ false
+  pub main : mainPlace s m (l .signal .matrices) ≡ none
   pub pids : first 16 (pidsBad (l .signal .matrices .pm)) ≡ none
-  pub fill : cond (ltb (s .age) 2) (fillPlace s (l .signal .matrices)) none ≡ none
-  pub extended : cond (ltb (s .age) 2) none (framePlace s (pushed m (l .signal .matrices))) ≡ none
+  pub fill : fillPlace s (l .signal .matrices) ≡ none
+  pub extended : cond (ltb (s .age) 2) none (framePlace s (pushed (s .mode) m (l .signal .matrices))) ≡ none
 
 pub read-succeeds : (s : State) (m : Memory) (l : Lent) → Clear s m l → readStep s m l ≡ received s m l
 unfolding readStep readAnswer judge onSuccess
-read-succeeds s m l c = rw (c .state, c .lengths, c .control, c .p1, c .pids, c .fill, c .extended)
+read-succeeds s m l c = rw (c .state, c .lengths, c .control, c .main, c .pids, c .fill, c .extended)
 
 chosen : {A : Type 0} (x y : A) (a n : ℕ) → a < n → cond (ltb a n) x y ≡ x
 chosen x y a n h = rw (lt-ltb a n h)
@@ -57,3 +59,9 @@ pub early-kept : (s : State) (m : Memory) (l : Lent) → s .age < 2 → (e : Ext
 unfolding received
 early-kept s m l h P3 = chosen _ _ (s .age) _ (omega arith)
 early-kept s m l h P4 = chosen _ _ (s .age) _ (omega arith)
+
+-- and while P1' is late, so does the buffer for P1
+pub late-kept : (s : State) (m : Memory) (l : Lent) → s .age < delayFrames (mainOf (s .mode))
+    → received s m l .lent .frames .p1 ≡ l .frames .p1
+unfolding received
+late-kept s m l h = chosen _ _ (s .age) _ h

@@ -1,7 +1,7 @@
--- Document 01, the table of causes, and document 02's: the number and the place that each answer stands for.
+-- Documents 01 and 02, the table of causes: the number and the place that each answer stands for.
 use Prim.Native.Nat.{ℕ}
 use Rattle.runs.specs.declared.Answer.{Answer}
-use Rattle.runs.specs.declared.Answer.the-variants.{Success, ModeNotCovered, StateNotValid, WrongLength, WrongControl, P1NotCoded, PidsNotCoded, FillNotZero, ExtendedNotCoded, SharesTooMany, SymbolTooHigh, ScaleNotUsable, NoFrameFits, SeveralFit, WrongBudget}
+use Rattle.runs.specs.declared.Answer.the-variants.{Success, ModeNotCovered, StateNotValid, WrongLength, WrongControl, MainNotCoded, PidsNotCoded, FillNotZero, ExtendedNotCoded, SharesTooMany, SymbolTooHigh, ScaleNotUsable, NoFrameFits, SeveralFit, WrongBudget}
 
 abbrev pub numberOf : Answer → ℕ
 numberOf Success = 0
@@ -9,7 +9,7 @@ numberOf ModeNotCovered = 1
 numberOf StateNotValid = 2
 numberOf (WrongLength place) = 3
 numberOf (WrongControl block) = 4
-numberOf P1NotCoded = 5
+numberOf (MainNotCoded frame) = 5
 numberOf (PidsNotCoded frame) = 6
 numberOf (FillNotZero cell) = 7
 numberOf (ExtendedNotCoded frame) = 8
@@ -26,7 +26,7 @@ placeOf ModeNotCovered = 0
 placeOf StateNotValid = 0
 placeOf (WrongLength place) = place
 placeOf (WrongControl block) = block
-placeOf P1NotCoded = 0
+placeOf (MainNotCoded frame) = frame
 placeOf (PidsNotCoded frame) = frame
 placeOf (FillNotZero cell) = cell
 placeOf (ExtendedNotCoded frame) = frame
@@ -44,7 +44,7 @@ onSuccess ModeNotCovered done refused = refused
 onSuccess StateNotValid done refused = refused
 onSuccess (WrongLength place) done refused = refused
 onSuccess (WrongControl block) done refused = refused
-onSuccess P1NotCoded done refused = refused
+onSuccess (MainNotCoded frame) done refused = refused
 onSuccess (PidsNotCoded frame) done refused = refused
 onSuccess (FillNotZero cell) done refused = refused
 onSuccess (ExtendedNotCoded frame) done refused = refused

@@ -1,5 +1,5 @@
 -- Document 01, the table of causes: the lowest number wins, then the lowest place.
-use Prim.Native.Nat.{ℕ, suc, _-_}
+use Prim.Native.Nat.{ℕ, suc}
 use mathlib.Core.Bool.{Bool, cond}
 use mathlib.Core.Option.{Option, none, some}
 use mathlib.Core.List.{List, [], _∷_}
@@ -35,7 +35,3 @@ wrong k (size have want ∷ rest) = cond (eqb have want) (wrong (suc k) rest) (s
 -- the lowest place below n that is bad, if there is one
 unfoldable pub first : ℕ → (ℕ → Bool) → Option ℕ
 first n bad = cond (ltb (lowest n bad) n) (some (lowest n bad)) none
-
--- two rows of places, n of the first: those of the second are counted on
-unfoldable pub beside : ℕ → (ℕ → Bool) → (ℕ → Bool) → ℕ → Bool
-beside n f g k = cond (ltb k n) (f k) (g (k - n))

@@ -1,13 +1,17 @@
+pub mod MainChannels
 pub mod Lengths
 pub mod Chain
+pub mod Paths
 pub mod Answers
 pub mod Causes
 pub mod Lent
 pub mod Starting
 pub mod Sending
+pub mod Judged
 pub mod Reading
 pub mod Runs
 pub mod Defined
 pub mod Handed
 pub mod WholeRuns
 pub mod Probes
+pub mod ProbesTwoPaths

@@ -1,20 +1,23 @@
--- Document 01, "Operations of a run": what a reading does.
-use Prim.Native.Nat.{ℕ, _+_, _*_}
+-- Documents 01 and 02, "Operations of a run": what a reading does.
+use Prim.Native.Nat.{ℕ, _+_}
 use mathlib.Core.Bool.{cond, not}
-use mathlib.Core.Option.{Option, none}
+use mathlib.Core.Option.{none}
 use mathlib.Core.List.{[], _∷_, _++_}
 use lib.ListN.{length, drop}
 use lib.Dec.{ltb}
 use Rattle.control.specs.Departs.{departs}
 use Rattle.runs.specs.declared.Answer.{Answer}
-use Rattle.runs.specs.declared.Answer.the-variants.{Success, StateNotValid, WrongLength, WrongControl, P1NotCoded, PidsNotCoded, FillNotZero, ExtendedNotCoded}
+use Rattle.runs.specs.declared.Answer.the-variants.{Success, StateNotValid, WrongLength, WrongControl, MainNotCoded, PidsNotCoded, FillNotZero, ExtendedNotCoded}
 use Rattle.runs.specs.declared.State.{State}
 use Rattle.runs.specs.declared.Extended.the-variants.{P3, P4}
-use Rattle.runs.specs.Lengths.{kindOf, matrixLen, readerLen}
-use Rattle.runs.specs.Chain.{Buffer, p1Of, pidsOf, p1Bad, pidsBad, framesOf, frameBad, fillBad}
+use Rattle.runs.specs.MainChannels.{mainOf, delayFrames}
+use Rattle.runs.specs.Lengths.{kindOf, readerLen}
+use Rattle.runs.specs.Chain.{Buffer, p1Of, p2Of, pidsOf, pidsBad, framesOf}
+use Rattle.runs.specs.Paths.{scrambledOf, waiting}
 use Rattle.runs.specs.Answers.{onSuccess}
-use Rattle.runs.specs.Causes.{at, beside, first, judge, when, wrong}
-use Rattle.runs.specs.Lent.{Lent, Matrices, Memory, Result}
+use Rattle.runs.specs.Causes.{at, first, judge, when, wrong}
+use Rattle.runs.specs.Lent.{Lent, Matrices, Memory, Result, matrixOf}
+use Rattle.runs.specs.Judged.{due, mainPlace, fillPlace, countedFirst, framePlace}
 use Rattle.runs.specs.Starting.{memorySizes, next, valid}
 use Rattle.runs.specs.Sending.{lentSizes, refused}
 
@@ -22,22 +25,17 @@ use Rattle.runs.specs.Sending.{lentSizes, refused}
 unfoldable pub push : Buffer → Buffer → Buffer
 push m x = drop (length x) m ++ x
 
-unfoldable pub pushed : Memory → Matrices → Memory
-pushed m x = record { for3 = push (m .for3) (x .px1); for4 = push (m .for4) (x .px2) }
+-- the memory after one more L1 frame: the scrambled P1 frames that wait are those that PM brought
+unfoldable pub pushed : ℕ → Memory → Matrices → Memory
+pushed mode m x =
+    let k = mainOf mode in
+    record {
+      for3 = push (m .for3) (matrixOf mode x P3);
+      for4 = push (m .for4) (matrixOf mode x P4);
+      delayed = waiting k (m .delayed) (p1Of k (x .pm));
+    }
 
--- 7: the lowest cell of PX1, then PX2, that can show only the zero fill and is 1
-unfoldable pub fillPlace : State → Matrices → Option ℕ
-fillPlace s x =
-    let k3 = kindOf (s .mode) P3 in
-    let k4 = kindOf (s .mode) P4 in
-    first (8 * matrixLen k3 + 8 * matrixLen k4) (beside (8 * matrixLen k3) (fillBad k3 (s .age) (x .px1)) (fillBad k4 (s .age) (x .px2)))
-
--- 8: the lowest P3 frame, then P4 frame, of the L1 frame two earlier that is no coded frame, from the last three matrices
-unfoldable pub framePlace : State → Memory → Option ℕ
-framePlace s after =
-    first 16 (beside 8 (frameBad (kindOf (s .mode) P3) (s .half) (after .for3)) (frameBad (kindOf (s .mode) P4) (s .half) (after .for4)))
-
--- reading meets 2 to 8: 7 at age 0 or 1, and 8 at age 2, when all bits of that L1 frame have arrived
+-- reading meets 2 to 8: 8 from age 2 on, when all bits of that L1 frame have arrived
 unfoldable pub readAnswer : State → Memory → Lent → Answer
 readAnswer s m l =
     let x = l .signal .matrices in
@@ -45,25 +43,28 @@ readAnswer s m l =
     (when (not (valid s)) StateNotValid
     ∷ at WrongLength (wrong 0 (lentSizes (s .mode) l ++ memorySizes readerLen (s .mode) m))
     ∷ at WrongControl (first 16 (departs (s .mode) 0 (l .signal .control)))
-    ∷ when (p1Bad (x .pm)) P1NotCoded
+    ∷ at MainNotCoded (mainPlace s m x)
     ∷ at PidsNotCoded (first 16 (pidsBad (x .pm)))
-    ∷ at FillNotZero (cond (ltb (s .age) 2) (fillPlace s x) none)
-    ∷ at ExtendedNotCoded (cond (ltb (s .age) 2) none (framePlace s (pushed m x)))
+    ∷ at (λ c. FillNotZero (countedFirst (mainOf (s .mode)) + c)) (fillPlace s x)
+    ∷ at ExtendedNotCoded (cond (ltb (s .age) 2) none (framePlace s (pushed (s .mode) m x)))
     ∷ [])
 
--- a success returns P1 and PIDS, and at age 2 the P3 and P4 of the L1 frame two earlier
+-- a success returns PIDS and P2; once their second path has come, P1 frames, in MP5 and MP6 those of the L1 frame three earlier; and from age 2 on the P3
+-- and P4 of the L1 frame two earlier
 unfoldable pub received : State → Memory → Lent → Result
 received s m l =
     let x = l .signal .matrices in
-    let after = pushed m x in
+    let k = mainOf (s .mode) in
+    let after = pushed (s .mode) m x in
     record {
       answer = Success;
       state = next s;
       memory = after;
       lent = record {
         frames = record {
-          p1 = p1Of (x .pm);
+          p1 = cond (ltb (s .age) (delayFrames k)) (l .frames .p1) (scrambledOf k (due (s .mode) m x));
           pids = pidsOf (x .pm);
+          p2 = p2Of k (x .pm);
           p3 = cond (ltb (s .age) 2) (l .frames .p3) (framesOf (kindOf (s .mode) P3) (s .half) (after .for3));
           p4 = cond (ltb (s .age) 2) (l .frames .p4) (framesOf (kindOf (s .mode) P4) (s .half) (after .for4));
         };

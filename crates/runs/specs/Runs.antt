@@ -7,7 +7,8 @@ use lib.ListN.{length, getD}
 use lib.Dec.{eqb}
 use Rattle.runs.specs.declared.State.{State}
 use Rattle.runs.specs.declared.Extended.{Extended}
-use Rattle.runs.specs.Lengths.{kindOf, frameLen, senderLen, readerLen, p1Len, pidsLen}
+use Rattle.runs.specs.MainChannels.{mainOf, p1Len, p2Len}
+use Rattle.runs.specs.Lengths.{kindOf, frameLen, senderLen, readerLen, pidsLen}
 use Rattle.runs.specs.Answers.{numberOf}
 use Rattle.runs.specs.Lent.{Frames, Matrices, Signal, Lent, Memory, Result, frameOf, ByteFrames}
 use Rattle.runs.specs.Sending.{sendStep}
@@ -37,8 +38,9 @@ Every P (x ∷ xs) = P x × Every P xs
 
 -- frames of the right lengths
 pub record Fitting (mode : ℕ) (f : Frames) : Type 0 where
-  pub p1-right : length (f .p1) ≡ p1Len
+  pub p1-right : length (f .p1) ≡ p1Len (mainOf mode)
   pub pids-right : length (f .pids) ≡ pidsLen
+  pub p2-right : length (f .p2) ≡ p2Len (mainOf mode)
   pub extended-right : (e : Extended) → length (frameOf f e) ≡ frameLen (kindOf mode e)
   pub bytes : ByteFrames f
 
@@ -71,7 +73,7 @@ unfoldable pub signalsSent : (mode : ℕ) → SenderRun mode → List Signal
 signalsSent mode a = map (λ (c : Call). c .result .lent .signal) (succeeded (sendings mode a))
 
 abbrev pub noFrames : Frames
-noFrames = record { p1 = []; pids = []; p3 = []; p4 = [] }
+noFrames = record { p1 = []; pids = []; p2 = []; p3 = []; p4 = [] }
 
 abbrev pub noSignal : Signal
 noSignal = record { matrices = record { pm = []; px1 = []; px2 = [] }; control = [] }

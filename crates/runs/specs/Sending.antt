@@ -7,22 +7,24 @@ use Rattle.runs.specs.declared.Answer.{Answer}
 use Rattle.runs.specs.declared.Answer.the-variants.{Success, StateNotValid, WrongLength}
 use Rattle.runs.specs.declared.State.{State}
 use Rattle.runs.specs.declared.Extended.the-variants.{P3, P4}
-use Rattle.runs.specs.Lengths.{kindOf, frameLen, matrixLen, senderLen, p1Len, pidsLen, pmLen, controlLen}
+use Rattle.runs.specs.MainChannels.{mainOf, p1Len, p2Len}
+use Rattle.runs.specs.Lengths.{kindOf, frameLen, matrixLen, senderLen, pidsLen, pmLen, px2Len, controlLen}
 use Rattle.runs.specs.Answers.{onSuccess}
 use Rattle.runs.specs.Causes.{Size, at, judge, size, when, wrong}
 use Rattle.runs.specs.Lent.{Lent, Memory, Result, memoryNext, signalOf}
 use Rattle.runs.specs.Starting.{memorySizes, next, valid}
 
--- the lent buffers in the order of the table: P1, PIDS, P3, P4, PM, PX1, PX2, control
+-- the lent buffers in the order of the table: P1, PIDS, P2, P3, P4, PM, PX1, PX2, control
 unfoldable pub lentSizes : ℕ → Lent → List Size
 lentSizes mode l =
-    size (length (l .frames .p1)) p1Len
+    size (length (l .frames .p1)) (p1Len (mainOf mode))
     ∷ size (length (l .frames .pids)) pidsLen
+    ∷ size (length (l .frames .p2)) (p2Len (mainOf mode))
     ∷ size (length (l .frames .p3)) (frameLen (kindOf mode P3))
     ∷ size (length (l .frames .p4)) (frameLen (kindOf mode P4))
     ∷ size (length (l .signal .matrices .pm)) pmLen
     ∷ size (length (l .signal .matrices .px1)) (matrixLen (kindOf mode P3))
-    ∷ size (length (l .signal .matrices .px2)) (matrixLen (kindOf mode P4))
+    ∷ size (length (l .signal .matrices .px2)) (px2Len mode)
     ∷ size (length (l .signal .control)) controlLen
     ∷ []
 

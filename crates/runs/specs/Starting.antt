@@ -1,6 +1,6 @@
--- Document 01, "Operations of a run": states, and what a start does.
+-- Documents 01 and 02, "Operations of a run": states, and what a start does.
 use Prim.Native.Nat.{ℕ, _+_, _%_, min}
-use mathlib.Core.Bool.{Bool, false, cond, not, _&&_}
+use mathlib.Core.Bool.{Bool, cond, not, _&&_}
 use mathlib.Core.List.{List, [], _∷_}
 use lib.ListN.{length, replicate}
 use lib.Dec.{eqb, ltb}
@@ -10,22 +10,23 @@ use Rattle.runs.specs.declared.Answer.the-variants.{Success, ModeNotCove
 use Rattle.runs.specs.declared.State.{State}
 use Rattle.runs.specs.declared.Extended.the-variants.{P3, P4}
 use Rattle.runs.specs.declared.Kind.{Kind}
+use Rattle.runs.specs.MainChannels.{mainOf, lastAge, delayLen}
 use Rattle.runs.specs.Lengths.{kindOf}
 use Rattle.runs.specs.Answers.{onSuccess}
 use Rattle.runs.specs.Causes.{Size, at, judge, size, when, wrong}
 use Rattle.runs.specs.Lent.{Memory}
 
--- age 0 with half 0, age 1 with half 1, age 2 with either
-unfoldable pub aged : (half age : ℕ) → Bool
-aged half age = cond (eqb age 0) (eqb half 0) (cond (eqb age 1) (eqb half 1) (cond (eqb age 2) (ltb half 2) false))
+-- below the last age each has its half: 0 with 0, 1 with 1, 2 with 0. The last, 2 or in MP5 and MP6 3, goes with either
+unfoldable pub aged : (last half age : ℕ) → Bool
+aged last half age = cond (ltb age last) (eqb half (age % 2)) (eqb age last && ltb half 2)
 
 -- and a covered mode
 unfoldable pub valid : State → Bool
-valid s = covered (s .mode) && aged (s .half) (s .age)
+valid s = covered (s .mode) && aged (lastAge (mainOf (s .mode))) (s .half) (s .age)
 
 -- the state after one more L1 frame
 unfoldable pub next : State → State
-next s = record { mode = s .mode; half = (s .half + 1) % 2; age = min 2 (s .age + 1) }
+next s = record { mode = s .mode; half = (s .half + 1) % 2; age = min (lastAge (mainOf (s .mode))) (s .age + 1) }
 
 -- the state before the first
 abbrev pub fresh : ℕ → State
@@ -33,7 +34,7 @@ fresh mode = record { mode = mode; half = 0; age = 0 }
 
 -- the state before L1 frame t of a run
 abbrev pub stateAt : (mode t : ℕ) → State
-stateAt mode t = record { mode = mode; half = t % 2; age = min 2 t }
+stateAt mode t = record { mode = mode; half = t % 2; age = min (lastAge (mainOf mode)) t }
 
 -- ---- a start, of a sender with the lengths `senderLen`, of a reader with `readerLen`
 
@@ -43,13 +44,22 @@ pub record Started : Type 0 where
   pub state : State
   pub memory : Memory
 
--- the memory for P3, for P4
+-- the memory for P3, for P4, the delay memory
 unfoldable pub memorySizes : (Kind → ℕ) → ℕ → Memory → List Size
-memorySizes len mode m = size (length (m .for3)) (len (kindOf mode P3)) ∷ size (length (m .for4)) (len (kindOf mode P4)) ∷ []
+memorySizes len mode m =
+    size (length (m .for3)) (len (kindOf mode P3))
+    ∷ size (length (m .for4)) (len (kindOf mode P4))
+    ∷ size (length (m .delayed)) (delayLen (mainOf mode))
+    ∷ []
 
 -- the zero fill
 abbrev pub zeros : (Kind → ℕ) → ℕ → Memory
-zeros len mode = record { for3 = replicate (len (kindOf mode P3)) 0; for4 = replicate (len (kindOf mode P4)) 0 }
+zeros len mode =
+    record {
+      for3 = replicate (len (kindOf mode P3)) 0;
+      for4 = replicate (len (kindOf mode P4)) 0;
+      delayed = replicate (delayLen (mainOf mode)) 0;
+    }
 
 unfoldable pub startAnswer : (Kind → ℕ) → ℕ → Memory → Answer
 startAnswer len mode m =

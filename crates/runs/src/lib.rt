@@ -1,6 +1,6 @@
 // Document 01, "Operations of a run": a run's state, the extended channels, and what a call answers. The crate holds the definitions of runs and the theorem about whole runs; the calls themselves stand in `calls`, `sending` and `reading`.
 
-// Document 01: the service mode; the half, which L1 frame of the internal matrix comes next; and the age, the L1 frames sent or read since the start, 2 for two or more.
+// Document 01: the service mode; the half, which L1 frame of the internal matrix comes next; and the age, the L1 frames sent or read since the start, 2 for two or more, in MP5 and MP6 3 for three or more.
 // A state is handed in as it is, so one that is not valid can be refused.
 pub struct State {
     pub mode: u8,
@@ -20,14 +20,21 @@ pub enum Kind {
     Wide,
 }
 
-// Document 01, the table of causes: success, and each cause with its place where that can differ.
+// How a mode fills PM: with one P1 frame (MP1, MP2, MP3 and MP11), or with eight, which PX2 brings again after the diversity delay, and one of P2 (MP5, MP6).
+pub enum Main {
+    Plain,
+    Mp5,
+    Mp6,
+}
+
+// Documents 01 and 02, the table of causes: success, and each cause with its place where that can differ.
 pub enum Answer {
     Success,
     ModeNotCovered,
     StateNotValid,
     WrongLength(usize),
     WrongControl(usize),
-    P1NotCoded,
+    MainNotCoded(usize),
     PidsNotCoded(usize),
     FillNotZero(usize),
     ExtendedNotCoded(usize),

@@ -58,5 +58,5 @@ module _ (n : ℕ) (frames : List ℕ) (a e : ℕ) (some : 0 < n) (start : a % n
       ap (take e) (sym (append-assoc (take a out) part (drop (e - a) (drop a out))))
       ∙ take-at (take a out ++ part) (drop (e - a) (drop a out)) e l
       ∙ ap₂ {C = List ℕ} (λ (x y : List ℕ). x ++ y) front (here ∙ packed-cong (e - a) _ _ frame-bit)
-      ∙ sym (packed-append a (e - a) f)
+      ∙ packed-append a (e - a) f
       ∙ ap (λ (k : ℕ). packed k f) m

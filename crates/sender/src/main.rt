@@ -1,4 +1,4 @@
-// sender MODE COUNT: reads the transfer frames of COUNT L1 frames, each P1, PIDS, P3, P4, and writes for each its PM, PX1, PX2 and control.
+// sender MODE COUNT: reads the transfer frames of COUNT L1 frames, each P1, PIDS, P2, P3, P4, and writes for each its PM, PX1, PX2 and control.
 use programs::Arguments;
 use programs::Step;
 use runs::State;
@@ -7,30 +7,26 @@ use runs::State;
 fn turn(
     state: State,
     frame: u64,
-    p1: &mut [u8],
-    pids: &mut [u8],
-    p3: &mut [u8],
-    p4: &mut [u8],
+    input: &mut [u8],
     pm: &mut [u8],
     px1: &mut [u8],
     px2: &mut [u8],
     control: &mut [u8],
     memory3: &mut [u8],
     memory4: &mut [u8],
+    delay: &mut [u8],
 ) -> Step {
     let sent = programs::send_next(
         state,
         frame,
-        p1,
-        pids,
-        p3,
-        p4,
+        input,
         pm,
         px1,
         px2,
         control,
         memory3,
         memory4,
+        delay,
     );
     if !sent.go_on {
         return sent;
@@ -44,18 +40,16 @@ fn turn(
 fn send_all(
     mode: u8,
     count: u64,
-    p1: &mut [u8],
-    pids: &mut [u8],
-    p3: &mut [u8],
-    p4: &mut [u8],
+    input: &mut [u8],
     pm: &mut [u8],
     px1: &mut [u8],
     px2: &mut [u8],
     control: &mut [u8],
     memory3: &mut [u8],
     memory4: &mut [u8],
+    delay: &mut [u8],
 ) {
-    let started = programs::start_sending(mode, memory3, memory4);
+    let started = programs::start_sending(mode, memory3, memory4, delay);
     if !started.go_on {
         return;
     }
@@ -65,55 +59,100 @@ fn send_all(
         let step = turn(
             state,
             count - left,
-            p1,
-            pids,
-            p3,
-            p4,
+            input,
             pm,
             px1,
             px2,
             control,
             memory3,
             memory4,
+            delay,
         );
         state = step.state;
         left = programs::left_after(left, step.go_on);
     }
 }
 
-// The buffers of a run, each of its length in this mode.
-fn run(mode: u8, count: u64) {
-    let lengths = layer1::sender_lengths(mode);
-    let mut p1 = [0u8; 18272];
-    let mut pids = [0u8; 160];
-    let mut p3 = [0u8; 4608];
-    let mut p4 = [0u8; 4608];
+// The buffers of a run in MP1, MP2, MP3 and MP11, each of its length in this mode: no P2, and no delay memory.
+fn run_plain(mode: u8, count: u64) {
+    let want = layer1::sender_lengths(mode);
+    let mut input = [0u8; 27648];
     let mut pm = [0u8; 46080];
     let mut px1 = [0u8; 9216];
     let mut px2 = [0u8; 9216];
     let mut control = [0u8; 4096];
     let mut memory3 = [0u8; 18432];
     let mut memory4 = [0u8; 18432];
-    let a = programs::within(lengths[2], &p3);
-    let b = programs::within(lengths[3], &p4);
-    let c = programs::within(lengths[5], &px1);
-    let d = programs::within(lengths[6], &px2);
-    let e = programs::within(lengths[8], &memory3);
-    let f = programs::within(lengths[9], &memory4);
+    let a = programs::within(programs::frames_length(mode), &input);
+    let b = programs::within(want[6], &px1);
+    let c = programs::within(want[7], &px2);
+    let d = programs::within(want[9], &memory3);
+    let e = programs::within(want[10], &memory4);
     send_all(
         mode,
         count,
-        &mut p1,
-        &mut pids,
-        &mut p3[..a],
-        &mut p4[..b],
+        &mut input[..a],
         &mut pm,
-        &mut px1[..c],
-        &mut px2[..d],
+        &mut px1[..b],
+        &mut px2[..c],
         &mut control,
-        &mut memory3[..e],
-        &mut memory4[..f],
+        &mut memory3[..d],
+        &mut memory4[..e],
+        &mut [0u8; 0],
     );
+}
+
+// The buffers of a run in MP5: no P4.
+fn run_mp5(count: u64) {
+    let mut input = [0u8; 23040];
+    let mut pm = [0u8; 46080];
+    let mut px1 = [0u8; 9216];
+    let mut px2 = [0u8; 9216];
+    let mut control = [0u8; 4096];
+    let mut memory3 = [0u8; 18432];
+    let mut delay = [0u8; 13824];
+    send_all(
+        5,
+        count,
+        &mut input,
+        &mut pm,
+        &mut px1,
+        &mut px2,
+        &mut control,
+        &mut memory3,
+        &mut [0u8; 0],
+        &mut delay,
+    );
+}
+
+// The buffers of a run in MP6: neither P3 nor P4.
+fn run_mp6(count: u64) {
+    let mut input = [0u8; 18432];
+    let mut pm = [0u8; 46080];
+    let mut px2 = [0u8; 18432];
+    let mut control = [0u8; 4096];
+    let mut delay = [0u8; 27648];
+    send_all(
+        6,
+        count,
+        &mut input,
+        &mut pm,
+        &mut [0u8; 0],
+        &mut px2,
+        &mut control,
+        &mut [0u8; 0],
+        &mut [0u8; 0],
+        &mut delay,
+    );
+}
+
+// A run. The buffers of one mode and of another share the stack, since they stand in functions of their own.
+fn run(mode: u8, count: u64) {
+    match mode {
+        5 => run_mp5(count),
+        6 => run_mp6(count),
+        _ => run_plain(mode, count),
+    }
 }
 
 fn main() {

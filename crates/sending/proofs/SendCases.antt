@@ -1,23 +1,30 @@
 -- A sending case by case: its answer, and what a refusal and a success leave. Assumes nothing.
-use mathlib.Core.Path.{_≡_, refl, sym, ap, _∙_}
+use mathlib.Core.Path.{_≡_, refl, sym, ap, ap₂, _∙_}
 use mathlib.Core.List.{List, _++_}
-use Prim.Native.Nat.{ℕ}
+use Prim.Native.Nat.{ℕ, _≤_}
+use native.Mathlib.Omega.{arith}
+use lib.ListN.{length, take}
 use Rattle.control.specs.Control.{controlOf}
 use Rattle.runs.specs.declared.Answer.{Answer}
 use Rattle.runs.specs.declared.Extended.the-variants.{P3, P4}
 use Rattle.runs.specs.declared.Kind.{Kind}
+use Rattle.runs.specs.declared.Main.{Main}
+use Rattle.runs.specs.declared.Main.the-variants.{Plain, Mp5, Mp6}
 use Rattle.runs.specs.declared.State.{State}
 use Rattle.runs.specs.Answers.{numberOf}
 use Rattle.runs.specs.Causes.{wrong}
+use Rattle.runs.specs.MainChannels.{mainOf, p1Len}
 use Rattle.runs.specs.Chain.{memOf, pmOf, pxOf}
+use Rattle.runs.specs.Paths.{oldest, p1′Of, scrambledOf, waiting}
 use Rattle.runs.specs.Lengths.{kindOf, senderLen}
-use Rattle.runs.specs.Lent.{Lent, Memory, memoryNext, signalOf}
+use Rattle.runs.specs.Lent.{Frames, Lent, Memory, Signal, memoryNext, signalOf}
 use Rattle.runs.specs.Starting.{memorySizes, next}
 use Rattle.runs.specs.Sending.{lentSizes, refused, sendAnswer, sendStep, sent}
+use Rattle.runs.proofs.PM.{scrambled-length}
 use Rattle.runs.proofs.Answered.{not-success, success-is}
 use Rattle.runs.proofs.Succeeds.{send-succeeds}
 use Rattle.calls.specs.Admitted.{admitted}
-use Rattle.calls.specs.Called.{Buffer, gave, lent, memory}
+use Rattle.calls.specs.Called.{Buffer, memory, signal}
 use Rattle.calls.specs.Fits.{Fits}
 use Rattle.calls.specs.Sizes.{lengthsOf, sizes, wanted}
 use Rattle.calls.proofs.Admitted.{clear, compared, fits}
@@ -46,26 +53,34 @@ module _ (s : State) (m : Memory) (l : Lent) where
       sendable = let (v, e) = clear s _ (ap numberOf (sym is) ∙ zero) in fits senderLen s m l v e
 
       -- a success leaves what the definition says
-      pub written : (s′ : State) (k3 k4 : Kind) (pm px1 px2 control m3 m4 : Buffer) → s′ ≡ next s
-          → k3 ≡ kindOf (s .mode) P3 → k4 ≡ kindOf (s .mode) P4
-          → pm ≡ pmOf (l .frames .p1) (l .frames .pids)
-          → (px1 ≡ pxOf k3 (s .half) (m .for3) (l .frames .p3)) × (m3 ≡ memOf k3 (s .half) (m .for3) (l .frames .p3))
-          → (px2 ≡ pxOf k4 (s .half) (m .for4) (l .frames .p4)) × (m4 ≡ memOf k4 (s .half) (m .for4) (l .frames .p4))
-          → control ≡ controlOf (s .mode) 0
-          → gave (record { answer = a; state = s′ }) (memory m3 m4) (lent (l .frames .p1) (l .frames .pids) (l .frames .p3) (l .frames .p4) pm px1 px2 control)
-          ≡ sendStep s m l
-      unfolding sent signalOf memoryNext
-      written s′ k3 k4 pm px1 px2 control m3 m4 es h3 h4 e1 e3 e4 ec =
+      pub written : (s′ : State) (x : Signal) (m′ : Memory) → s′ ≡ next s
+          → x ≡ signalOf (s .mode) (s .half) m (l .frames) → m′ ≡ memoryNext (s .mode) (s .half) m (l .frames)
+          → record { answer = a; state = s′; memory = m′; lent = record { frames = l .frames; signal = x } } ≡ sendStep s m l
+      unfolding sent
+      written s′ x m′ es ex em =
           let (v, w) = clear s _ (ap numberOf (sym is) ∙ zero) in
-          made
+          (λ i. record { answer = success-is a zero i; state = es i; memory = em i; lent = record { frames = l .frames; signal = ex i } })
           ∙ sym (send-succeeds s m l v w)
-        where
-          made : gave (record { answer = a; state = s′ }) (memory m3 m4) (lent (l .frames .p1) (l .frames .pids) (l .frames .p3) (l .frames .p4) pm px1 px2 control) ≡ sent s m l
-          made =
-              let x3 = e3 .0 ∙ ap (λ (k : Kind). pxOf k (s .half) (m .for3) (l .frames .p3)) h3 in
-              let x4 = e4 .0 ∙ ap (λ (k : Kind). pxOf k (s .half) (m .for4) (l .frames .p4)) h4 in
-              let y3 = e3 .1 ∙ ap (λ (k : Kind). memOf k (s .half) (m .for3) (l .frames .p3)) h3 in
-              let y4 = e4 .1 ∙ ap (λ (k : Kind). memOf k (s .half) (m .for4) (l .frames .p4)) h4 in
-              λ i.
-              gave (record { answer = success-is a zero i; state = es i }) (memory (y3 i) (y4 i))
-              (lent (l .frames .p1) (l .frames .pids) (l .frames .p3) (l .frames .p4) (e1 i) (x3 i) (x4 i) (ec i))
+
+-- what the parts of the work leave
+module _ (s : State) (m : Memory) (f : Frames) where
+  pub worked : (k : Main) (k3 k4 : Kind) (pm px1 px2 control m3 m4 d : Buffer)
+      → k ≡ mainOf (s .mode) → k3 ≡ kindOf (s .mode) P3 → k4 ≡ kindOf (s .mode) P4
+      → ((t : Buffer) → px2 ≡ pxOf k4 (s .half) (m .for4) (f .p4) ++ p1′Of k (oldest k (m .delayed) t))
+      → m4 ≡ memOf k4 (s .half) (m .for4) (f .p4)
+      → (d ≡ waiting k (m .delayed) (scrambledOf k (f .p1))) × (pm ≡ pmOf k (f .p1) (f .p2) (f .pids))
+      → (px1 ≡ pxOf k3 (s .half) (m .for3) (f .p3)) × (m3 ≡ memOf k3 (s .half) (m .for3) (f .p3))
+      → control ≡ controlOf (s .mode) 0
+      → (signal pm px1 px2 control ≡ signalOf (s .mode) (s .half) m f) × (memory m3 m4 d ≡ memoryNext (s .mode) (s .half) m f)
+  unfolding signalOf memoryNext
+  worked k k3 k4 pm px1 px2 control m3 m4 d hk h3 h4 e2 e4 (ed, ep) (e1, e3) ec = (
+    (λ i.
+        signal ((ep ∙ ap (λ (k : Main). pmOf k (f .p1) (f .p2) (f .pids)) hk) i)
+        ((e1 ∙ ap (λ (k : Kind). pxOf k (s .half) (m .for3) (f .p3)) h3) i)
+        ((e2 (scrambledOf k (f .p1)) ∙ ap₂ (λ (k : Main) (k4 : Kind). pxOf k4 (s .half) (m .for4) (f .p4) ++ p1′Of k (oldest k (m .delayed) (scrambledOf k (f .p1)))) hk h4) i)
+        (ec i)),
+    (λ i.
+        memory ((e3 ∙ ap (λ (k : Kind). memOf k (s .half) (m .for3) (f .p3)) h3) i)
+        ((e4 ∙ ap (λ (k : Kind). memOf k (s .half) (m .for4) (f .p4)) h4) i)
+        ((ed ∙ ap (λ (k : Main). waiting k (m .delayed) (scrambledOf k (f .p1))) hk) i)),
+  )

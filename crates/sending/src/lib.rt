@@ -2,20 +2,25 @@
 use calls::Outcome;
 use calls::admit;
 use calls::kind_of;
+use calls::main_of;
 use calls::next_of;
 use calls::number;
 use calls::sender_lengths;
 use runs::Extended;
 use runs::State;
 ghost use mathlib.Core.Path.{_≡_};
+ghost use Rattle.runs.specs.Lengths.{senderLen};
+ghost use Rattle.runs.specs.Lent.{memoryNext, signalOf};
 ghost use Rattle.runs.specs.Sending.{sendStep};
-ghost use Rattle.calls.specs.Called.{gave, lent, memory};
+ghost use Rattle.calls.specs.Fits.{Fits};
+ghost use Rattle.calls.specs.Called.{frames, gave, lent, memory, signal};
 
-// Sends an L1 frame: writes its matrices and control sequences from the transfer frames lent, and the sender's memory.
-pub fn send(
+// Writes the matrices and control sequences of an L1 frame, and the sender's memory.
+fn write(
     state: State,
     p1: &[u8],
     pids: &[u8],
+    p2: &[u8],
     p3: &[u8],
     p4: &[u8],
     pm: &mut [u8],
@@ -24,15 +29,51 @@ pub fn send(
     control: &mut [u8],
     memory3: &mut [u8],
     memory4: &mut [u8],
+    delay: &mut [u8],
+)
+    requires { ⌜ Fits senderLen state (memory (now memory3) (now memory4) (now delay)) (lent (now p1) (now pids) (now p2) (now p3) (now p4) (now pm) (now px1) (now px2) (now control)) ⌝ }
+    ensures { λ _. ⌜ signal (now (pm .exit)) (now (px1 .exit)) (now (px2 .exit)) (now (control .exit)) ≡ signalOf (state .mode) (state .half) (memory (now (memory3 .entry)) (now (memory4 .entry)) (now (delay .entry))) (frames (now (p1 .entry)) (now (pids .entry)) (now (p2 .entry)) (now (p3 .entry)) (now (p4 .entry))) ⌝ }
+    ensures { λ _. ⌜ memory (now (memory3 .exit)) (now (memory4 .exit)) (now (delay .exit)) ≡ memoryNext (state .mode) (state .half) (memory (now (memory3 .entry)) (now (memory4 .entry)) (now (delay .entry))) (frames (now (p1 .entry)) (now (pids .entry)) (now (p2 .entry)) (now (p3 .entry)) (now (p4 .entry))) ⌝ }
+{
+    let main = main_of(state.mode);
+    let half = state.half;
+    chain::write_px2(
+        main,
+        kind_of(state.mode, Extended::P4),
+        half,
+        p4,
+        delay,
+        px2,
+        memory4,
+    );
+    chain::write_pm(main, p1, p2, pids, delay, pm);
+    chain::write_px(kind_of(state.mode, Extended::P3), half, p3, px1, memory3);
+    control::fill_control(state.mode, 0, control);
+}
+
+// Sends an L1 frame: writes its matrices and control sequences from the transfer frames lent, and the sender's memory.
+pub fn send(
+    state: State,
+    p1: &[u8],
+    pids: &[u8],
+    p2: &[u8],
+    p3: &[u8],
+    p4: &[u8],
+    pm: &mut [u8],
+    px1: &mut [u8],
+    px2: &mut [u8],
+    control: &mut [u8],
+    memory3: &mut [u8],
+    memory4: &mut [u8],
+    delay: &mut [u8],
 ) -> Outcome
-    ensures { λ r. ⌜ gave r (memory (now (memory3 .exit)) (now (memory4 .exit)))
-        (lent (now (p1 .entry)) (now (pids .entry)) (now (p3 .entry)) (now (p4 .entry)) (now (pm .exit)) (now (px1 .exit)) (now (px2 .exit)) (now (control .exit)))
-        ≡ sendStep state (memory (now (memory3 .entry)) (now (memory4 .entry)))
-        (lent (now (p1 .entry)) (now (pids .entry)) (now (p3 .entry)) (now (p4 .entry)) (now (pm .entry)) (now (px1 .entry)) (now (px2 .entry)) (now (control .entry))) ⌝ }
+    ensures { λ r. ⌜ gave r (memory (now (memory3 .exit)) (now (memory4 .exit)) (now (delay .exit))) (lent (now (p1 .entry)) (now (pids .entry)) (now (p2 .entry)) (now (p3 .entry)) (now (p4 .entry)) (now (pm .exit)) (now (px1 .exit)) (now (px2 .exit)) (now (control .exit)))
+        ≡ sendStep state (memory (now (memory3 .entry)) (now (memory4 .entry)) (now (delay .entry))) (lent (now (p1 .entry)) (now (pids .entry)) (now (p2 .entry)) (now (p3 .entry)) (now (p4 .entry)) (now (pm .entry)) (now (px1 .entry)) (now (px2 .entry)) (now (control .entry))) ⌝ }
 {
     let have = [
         p1.len(),
         pids.len(),
+        p2.len(),
         p3.len(),
         p4.len(),
         pm.len(),
@@ -41,6 +82,7 @@ pub fn send(
         control.len(),
         memory3.len(),
         memory4.len(),
+        delay.len(),
     ];
     let want = sender_lengths(state.mode);
     let answer = admit(state, &have, &want);
@@ -48,11 +90,21 @@ pub fn send(
     if number(answer) != 0 {
         return Outcome { answer, state };
     }
-    let half = state.half;
-    chain::write_pm(p1, pids, pm);
-    chain::write_px(kind_of(state.mode, Extended::P3), half, p3, px1, memory3);
-    chain::write_px(kind_of(state.mode, Extended::P4), half, p4, px2, memory4);
-    control::fill_control(state.mode, 0, control);
+    write(
+        state,
+        p1,
+        pids,
+        p2,
+        p3,
+        p4,
+        pm,
+        px1,
+        px2,
+        control,
+        memory3,
+        memory4,
+        delay,
+    );
     Outcome {
         answer,
         state: next,

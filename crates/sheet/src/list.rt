@@ -30,3 +30,11 @@ pub fn no_list() {
         b"refused: the cell list has no empty line in its first 4096 bytes\n",
     );
 }
+
+// Says that there are no sheets in a mode with a second path of P1.
+pub fn no_sheet() {
+    io::write_all(
+        STDERR_FILENO,
+        b"refused: there are sheets for MP1, MP2, MP3 and MP11 only\n",
+    );
+}

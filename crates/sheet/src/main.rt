@@ -5,22 +5,20 @@ mod list;
 use crate::answers::Pass;
 use crate::answers::print_lines;
 use crate::list::no_list;
+use crate::list::no_sheet;
 use crate::list::read_list;
 use programs::Arguments;
 use programs::Step;
 use runs::State;
 
-// Sends L1 frame `frame` and prints its answers.
+// Sends L1 frame `frame` and prints its answers. The older modes have no delay memory.
 fn turn(
     mode: u8,
     count: u64,
     list: &[u8],
     state: State,
     frame: u64,
-    p1: &mut [u8],
-    pids: &mut [u8],
-    p3: &mut [u8],
-    p4: &mut [u8],
+    input: &mut [u8],
     pm: &mut [u8],
     px1: &mut [u8],
     px2: &mut [u8],
@@ -31,16 +29,14 @@ fn turn(
     let sent = programs::send_next(
         state,
         frame,
-        p1,
-        pids,
-        p3,
-        p4,
+        input,
         pm,
         px1,
         px2,
         control,
         memory3,
         memory4,
+        &mut [0u8; 0],
     );
     if !sent.go_on {
         return sent;
@@ -56,10 +52,7 @@ fn send_all(
     count: u64,
     list: &[u8],
     start: State,
-    p1: &mut [u8],
-    pids: &mut [u8],
-    p3: &mut [u8],
-    p4: &mut [u8],
+    input: &mut [u8],
     pm: &mut [u8],
     px1: &mut [u8],
     px2: &mut [u8],
@@ -76,10 +69,7 @@ fn send_all(
             list,
             state,
             count - left,
-            p1,
-            pids,
-            p3,
-            p4,
+            input,
             pm,
             px1,
             px2,
@@ -101,19 +91,15 @@ fn answer_all(
     memory3: &mut [u8],
     memory4: &mut [u8],
 ) {
-    let lengths = layer1::sender_lengths(mode);
-    let mut p1 = [0u8; 18272];
-    let mut pids = [0u8; 160];
-    let mut p3 = [0u8; 4608];
-    let mut p4 = [0u8; 4608];
+    let want = layer1::sender_lengths(mode);
+    let mut input = [0u8; 27648];
     let mut pm = [0u8; 46080];
     let mut px1 = [0u8; 9216];
     let mut px2 = [0u8; 9216];
     let mut control = [0u8; 4096];
-    let a = programs::within(lengths[2], &p3);
-    let b = programs::within(lengths[3], &p4);
-    let c = programs::within(lengths[5], &px1);
-    let d = programs::within(lengths[6], &px2);
+    let a = programs::within(programs::frames_length(mode), &input);
+    let c = programs::within(want[6], &px1);
+    let d = programs::within(want[7], &px2);
     if !print_lines(Pass::Refusals, mode, count, list, &pm, &px1, &px2) {
         return;
     }
@@ -122,10 +108,7 @@ fn answer_all(
         count,
         list,
         start,
-        &mut p1,
-        &mut pids,
-        &mut p3[..a],
-        &mut p4[..b],
+        &mut input[..a],
         &mut pm,
         &mut px1[..c],
         &mut px2[..d],
@@ -137,7 +120,7 @@ fn answer_all(
 
 // Starts the sender, and reads the cell list.
 fn start(mode: u8, count: u64, memory3: &mut [u8], memory4: &mut [u8]) {
-    let started = programs::start_sending(mode, memory3, memory4);
+    let started = programs::start_sending(mode, memory3, memory4, &mut [0u8; 0]);
     if !started.go_on {
         return;
     }
@@ -152,13 +135,17 @@ fn start(mode: u8, count: u64, memory3: &mut [u8], memory4: &mut [u8]) {
     answer_all(mode, count, &text[..end], state, memory3, memory4);
 }
 
-// The memory of a run, of its length in this mode.
+// The memory of a run, of its length in this mode. The finders, and so a sheet, keep to the modes without P1'.
 fn run(mode: u8, count: u64) {
-    let lengths = layer1::sender_lengths(mode);
+    if calls::delay_len(calls::main_of(mode)) > 0 {
+        no_sheet();
+        return;
+    }
+    let want = layer1::sender_lengths(mode);
     let mut memory3 = [0u8; 18432];
     let mut memory4 = [0u8; 18432];
-    let e = programs::within(lengths[8], &memory3);
-    let f = programs::within(lengths[9], &memory4);
+    let e = programs::within(want[9], &memory3);
+    let f = programs::within(want[10], &memory4);
     start(mode, count, &mut memory3[..e], &mut memory4[..f]);
 }
 

@@ -38,14 +38,19 @@ fn state_before(mode: u8, frame: u64) -> State
     ensures { λ r. ⌜ r ≡ stateAt mode frame ⌝ }
 {
     let half = (frame % 2) as u8;
-    if frame < 2 {
+    let last = calls::last_age(calls::main_of(mode));
+    if frame < last as u64 {
         return State {
             mode,
             half,
-            age: half,
+            age: frame as u8,
         };
     }
-    State { mode, half, age: 2 }
+    State {
+        mode,
+        half,
+        age: last,
+    }
 }
 
 // The number of a cell of PM.

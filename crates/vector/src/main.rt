@@ -4,6 +4,7 @@ mod numbers;
 mod scales;
 
 use layer1::Source;
+use libc::STDIN_FILENO;
 use libc::STDOUT_FILENO;
 use numbers::print_part;
 use programs::Arguments;
@@ -78,11 +79,10 @@ fn answer_symbol(
     px2: &mut [u8],
     control: &mut [u8],
 ) {
-    let came = programs::read_four(pm, px1, px2, control);
-    let a = came.first;
-    let b = came.second;
-    let c = came.third;
-    let d = came.fourth;
+    let a = io::read_full(STDIN_FILENO, pm);
+    let b = io::read_full(STDIN_FILENO, px1);
+    let c = io::read_full(STDIN_FILENO, px2);
+    let d = io::read_full(STDIN_FILENO, control);
     let mut re = [0.0f32; 1093];
     let mut im = [0.0f32; 1093];
     let answer = layer1::fill_vector(
@@ -112,8 +112,8 @@ fn run(mode: u8, symbol: usize, lower: f32, upper: f32) {
     let mut px1 = [0u8; 9216];
     let mut px2 = [0u8; 9216];
     let mut control = [0u8; 4096];
-    let b = programs::within(lengths[5], &px1);
-    let c = programs::within(lengths[6], &px2);
+    let b = programs::within(lengths[6], &px1);
+    let c = programs::within(lengths[7], &px2);
     answer_symbol(
         mode,
         symbol,

@@ -5,48 +5,48 @@ use second::draw::Draw;
 use second::modes::Mode;
 use second::run::{self, Answer, Reading, Sending, Side, State};
 
-/// The ten buffers of a sending or a reading, in the order of their places.
-#[derive(Clone, Debug, PartialEq, Eq)]
-pub struct Buffers(pub [Vec<u8>; 10]);
+/// The numbers of the covered modes, and of those with P1'.
+pub const MODES: [u64; 6] = [1, 2, 3, 11, 5, 6];
+pub const NEWER: [u64; 2] = [5, 6];
 
-pub const P3: usize = 2;
-pub const P4: usize = 3;
-pub const PM: usize = 4;
-pub const PX1: usize = 5;
-pub const PX2: usize = 6;
-pub const CONTROL: usize = 7;
-pub const MEMORY_P3: usize = 8;
-pub const MEMORY_P4: usize = 9;
+/// The twelve buffers of a sending or a reading, in the order of their places.
+#[derive(Clone, Debug, PartialEq, Eq)]
+pub struct Buffers(pub [Vec<u8>; 12]);
+
+pub const P1: usize = 0;
+pub const PIDS: usize = 1;
+pub const P2: usize = 2;
+pub const P3: usize = 3;
+pub const P4: usize = 4;
+pub const PM: usize = 5;
+pub const PX1: usize = 6;
+pub const PX2: usize = 7;
+pub const CONTROL: usize = 8;
+pub const MEMORY_P3: usize = 9;
+pub const MEMORY_P4: usize = 10;
+pub const DELAY: usize = 11;
 
 impl Buffers {
     /// Document 01, lent lengths: buffers of the right lengths, all of one byte.
     pub fn new(side: Side, mode: u64, byte: u8) -> Buffers {
-        let mode = Mode::of_number(mode).unwrap();
-        let memories = match side {
-            Side::Sender => mode.sender_memory_lengths(),
-            Side::Reader => mode.reader_memory_lengths(),
-        };
-        let lengths = [
-            &mode.frame_lengths()[..],
-            &mode.matrix_lengths()[..],
-            &memories[..],
-        ]
-        .concat();
+        let lengths = side.lengths(Mode::of_number(mode).unwrap());
         Buffers(std::array::from_fn(|place| vec![byte; lengths[place]]))
     }
 
     /// Document 01, operations: starts a side.
     pub fn start(&mut self, side: Side, mode: u64) -> Answer {
-        let [.., p3, p4] = &mut self.0;
-        run::start(side, mode, p3, p4)
+        let [.., p3, p4, delay] = &mut self.0;
+        run::start(side, mode, [p3, p4, delay])
     }
 
     /// Document 01, operations: sends.
     pub fn send(&mut self, state: State) -> Answer {
-        let [p1, pids, p3, p4, pm, px1, px2, control, memory_p3, memory_p4] = &mut self.0;
+        let [p1, pids, p2, p3, p4, pm, px1, px2, control, memory_p3, memory_p4, delay] =
+            &mut self.0;
         let mut lent = Sending {
             p1,
             pids,
+            p2,
             p3,
             p4,
             pm,
@@ -55,16 +55,19 @@ impl Buffers {
             control,
             memory_p3,
             memory_p4,
+            delay,
         };
         run::send(state, &mut lent)
     }
 
     /// Document 01, operations: reads.
     pub fn read(&mut self, state: State) -> Answer {
-        let [p1, pids, p3, p4, pm, px1, px2, control, memory_p3, memory_p4] = &mut self.0;
+        let [p1, pids, p2, p3, p4, pm, px1, px2, control, memory_p3, memory_p4, delay] =
+            &mut self.0;
         let mut lent = Reading {
             p1,
             pids,
+            p2,
             p3,
             p4,
             pm,
@@ -73,6 +76,7 @@ impl Buffers {
             control,
             memory_p3,
             memory_p4,
+            delay,
         };
         run::read(state, &mut lent)
     }
@@ -112,4 +116,14 @@ pub fn reader_after(mode: u64, sent: &[Buffers]) -> (Buffers, State) {
         assert_eq!((answer.number, answer.place), (0, 0));
     }
     (reader, answer.state)
+}
+
+/// Refusal table: a reading that is refused leaves the state and all buffers as they were.
+pub fn refused_reading(reader: &mut Buffers, state: State) -> (u32, usize) {
+    let before = reader.clone();
+    let answer = reader.read(state);
+    assert_ne!(answer.number, 0);
+    assert_eq!(answer.state, state);
+    assert_eq!(*reader, before);
+    (answer.number, answer.place)
 }

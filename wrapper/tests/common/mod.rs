@@ -1,21 +1,58 @@
 //! Each call made twice on equal buffers, through the library and through the second program, and the two held against each other.
 #![allow(dead_code)]
 
+use std::ops::Range;
+
 use layer1::{Outcome, Side, State};
 use second::draw::Draw;
 use second::run;
 
 /// The covered modes.
-pub const MODES: [u8; 4] = [1, 2, 3, 11];
+pub const MODES: [u8; 6] = [1, 2, 3, 5, 6, 11];
 
-/// Every state that is valid in a covered mode: half and age.
-pub const VALID: [(u8, u8); 4] = [(0, 0), (1, 1), (0, 2), (1, 2)];
+/// Those with P2 and with P1 on two paths.
+pub const TWO_PATHS: [u8; 2] = [5, 6];
 
-/// The places of PM, PX1, PX2 and control.
-pub const MATRICES: std::ops::Range<usize> = 4..8;
+/// The states that are valid in a covered mode: half and age.
+pub fn valid(mode: u8) -> &'static [(u8, u8)] {
+    match TWO_PATHS.contains(&mode) {
+        true => &[(0, 0), (1, 1), (0, 2), (0, 3), (1, 3)],
+        false => &[(0, 0), (1, 1), (0, 2), (1, 2)],
+    }
+}
 
-/// The ten buffers of a sending or a reading, in the order of their places.
-pub type Buffers = [Vec<u8>; 10];
+pub const P1: usize = 0;
+pub const PIDS: usize = 1;
+pub const P2: usize = 2;
+pub const P3: usize = 3;
+pub const P4: usize = 4;
+pub const PM: usize = 5;
+pub const PX1: usize = 6;
+pub const PX2: usize = 7;
+pub const CONTROL: usize = 8;
+pub const MEMORY3: usize = 9;
+pub const MEMORY4: usize = 10;
+pub const DELAY: usize = 11;
+
+/// The places of the transfer frames, of the matrices with control, of the memories, of all.
+pub const FRAMES: Range<usize> = P1..PM;
+pub const MATRICES: Range<usize> = PM..MEMORY3;
+pub const MEMORIES: Range<usize> = MEMORY3..12;
+pub const PLACES: Range<usize> = P1..12;
+
+/// The buffers of a sending or a reading, in the order of their places.
+pub type Buffers = [Vec<u8>; 12];
+
+/// Lends buffers to a call, by the names that its structure has for them; the memories for P3 and P4 have two.
+macro_rules! lent {
+    ($call:path, $buffers:expr, $memory3:ident, $memory4:ident) => {
+        lent!(@ $call, $buffers, p1 pids p2 p3 p4 pm px1 px2 control $memory3 $memory4 delay)
+    };
+    (@ $call:path, $buffers:expr, $($name:ident)*) => {{
+        let [$($name),*] = $buffers;
+        $call { $($name),* }
+    }};
+}
 
 /// A sending or a reading.
 #[derive(Clone, Copy, Debug)]
@@ -65,74 +102,28 @@ fn as_theirs(state: State) -> run::State {
 }
 
 fn ours(call: Call, state: State, buffers: &mut Buffers) -> Outcome {
-    let [p1, pids, p3, p4, pm, px1, px2, control, memory3, memory4] = buffers;
     match call {
         Call::Send => layer1::send(
             state,
-            &mut layer1::Sending {
-                p1,
-                pids,
-                p3,
-                p4,
-                pm,
-                px1,
-                px2,
-                control,
-                memory3,
-                memory4,
-            },
+            &mut lent!(layer1::Sending, buffers, memory3, memory4),
         ),
         Call::Read => layer1::read(
             state,
-            &mut layer1::Reading {
-                p1,
-                pids,
-                p3,
-                p4,
-                pm,
-                px1,
-                px2,
-                control,
-                memory3,
-                memory4,
-            },
+            &mut lent!(layer1::Reading, buffers, memory3, memory4),
         ),
     }
 }
 
 fn theirs(call: Call, state: State, buffers: &mut Buffers) -> Outcome {
     let state = as_theirs(state);
-    let [p1, pids, p3, p4, pm, px1, px2, control, memory_p3, memory_p4] = buffers;
     as_ours(match call {
         Call::Send => run::send(
             state,
-            &mut run::Sending {
-                p1,
-                pids,
-                p3,
-                p4,
-                pm,
-                px1,
-                px2,
-                control,
-                memory_p3,
-                memory_p4,
-            },
+            &mut lent!(run::Sending, buffers, memory_p3, memory_p4),
         ),
         Call::Read => run::read(
             state,
-            &mut run::Reading {
-                p1,
-                pids,
-                p3,
-                p4,
-                pm,
-                px1,
-                px2,
-                control,
-                memory_p3,
-                memory_p4,
-            },
+            &mut lent!(run::Reading, buffers, memory_p3, memory_p4),
         ),
     })
 }
@@ -157,44 +148,78 @@ pub fn both(call: Call, state: State, buffers: &mut Buffers) -> Outcome {
     outcome
 }
 
-/// Starts a side through both.
-pub fn both_start(side: Side, mode: u8, memory3: &mut [u8], memory4: &mut [u8]) -> Outcome {
-    let (mut other3, mut other4) = (memory3.to_vec(), memory4.to_vec());
+/// Makes a call that is refused through both: its number and place. It leaves the state and every buffer.
+pub fn refused(call: Call, state: State, buffers: &mut Buffers) -> (u8, u32) {
+    let before = buffers.clone();
+    let outcome = both(call, state, buffers);
+    assert_ne!(outcome.number, 0, "{call:?} of {state:?}, seed {}", seed());
+    assert_eq!(outcome.state, state);
+    assert!(*buffers == before, "{call:?} of {state:?}, seed {}", seed());
+    (outcome.number, outcome.place)
+}
+
+/// Makes a call that succeeds through both: the state that it returns.
+pub fn done(call: Call, state: State, buffers: &mut Buffers) -> State {
+    let outcome = both(call, state, buffers);
+    let answer = (outcome.number, outcome.place);
+    assert_eq!(answer, (0, 0), "{call:?} of {state:?}, seed {}", seed());
+    outcome.state
+}
+
+/// Starts a side through both, with the memories for P3 and P4 and the delay memory.
+pub fn both_start(side: Side, mode: u8, memories: &mut [Vec<u8>; 3]) -> Outcome {
+    let mut others = memories.clone();
     let other_side = match side {
         Side::Sender => run::Side::Sender,
         Side::Reader => run::Side::Reader,
     };
-    let outcome = layer1::start(side, mode, memory3, memory4);
-    let answer = run::start(other_side, mode.into(), &mut other3, &mut other4);
+    let theirs = others.each_mut().map(|memory| &mut memory[..]);
+    let answer = run::start(other_side, mode.into(), theirs);
+    let [memory3, memory4, delay] = memories.each_mut();
+    let outcome = layer1::start(side, mode, memory3, memory4, delay);
     assert_eq!(outcome, as_ours(answer), "start of {side:?} in mode {mode}");
     assert!(
-        memory3 == other3 && memory4 == other4,
-        "memory after a start of {side:?} in mode {mode}"
+        *memories == others,
+        "memories after a start of {side:?} in mode {mode}"
     );
     outcome
 }
 
-/// Starts a side of a covered mode with its memory in `buffers`, and hands out the state.
+/// Starts a side of a covered mode with its memories in `buffers`: the state.
 pub fn started(side: Side, mode: u8, buffers: &mut Buffers) -> State {
-    let [.., memory3, memory4] = buffers;
-    let outcome = both_start(side, mode, memory3, memory4);
+    let mut memories: [Vec<u8>; 3] = buffers[MEMORIES].to_vec().try_into().unwrap();
+    let outcome = both_start(side, mode, &mut memories);
     assert_eq!((outcome.number, outcome.place), (0, 0));
+    buffers[MEMORIES].clone_from_slice(&memories);
     outcome.state
+}
+
+/// A sender's run of the transfer frames in these buffers: the buffers after each sending.
+pub fn sent_of(draw: &mut Draw, mode: u8, frames: &[Buffers]) -> Vec<Buffers> {
+    let mut buffers = drawn(draw, Side::Sender, mode);
+    let mut state = started(Side::Sender, mode, &mut buffers);
+    let send = |frames: &Buffers| {
+        buffers[FRAMES].clone_from_slice(&frames[FRAMES]);
+        state = done(Call::Send, state, &mut buffers);
+        buffers.clone()
+    };
+    frames.iter().map(send).collect()
 }
 
 /// A sender's run of drawn frames: the buffers after each sending.
 pub fn sent(draw: &mut Draw, mode: u8, count: usize) -> Vec<Buffers> {
-    let mut buffers = drawn(draw, Side::Sender, mode);
-    let mut state = started(Side::Sender, mode, &mut buffers);
-    (0..count)
-        .map(|_| {
-            for frames in &mut buffers[..4] {
-                *frames = draw.bytes(frames.len());
-            }
-            let outcome = both(Call::Send, state, &mut buffers);
-            assert_eq!((outcome.number, outcome.place), (0, 0));
-            state = outcome.state;
-            buffers.clone()
-        })
-        .collect()
+    let frames: Vec<Buffers> = (0..count)
+        .map(|_| drawn(draw, Side::Sender, mode))
+        .collect();
+    sent_of(draw, mode, &frames)
+}
+
+/// A bit of a buffer: the buffer's place, and the bit counted from 0 through it.
+pub type Bit = (usize, usize);
+
+/// Turns bits over.
+pub fn turn_over(buffers: &mut Buffers, bits: &[Bit]) {
+    for &(place, n) in bits {
+        buffers[place][n / 8] ^= 128 >> (n % 8);
+    }
 }

@@ -1,6 +1,7 @@
 -- `interleave_px` meets its contract: coding and then the pass, upon the channel's buffers. Assumes nothing.
 use mathlib.Core.Path.{sym, ap, _∙_}
 use Prim.Native.Nat.{ℕ, _*_}
+use native.Mathlib.Omega.{arith}
 use denote.Ref.{now}
 use Rattle.interleaving.specs.PX.{codedBytes}
 use Rattle.runs.proofs.Bridge.{matrix-bytes, memory-bytes}
@@ -25,7 +26,7 @@ pass-requires c κs =
     let k = s .args .kind in
     let room = s .pre .1 in
     let code = coded-length k (now (s .args .frames)) (now (s .args .scrambled)) (now (s .args .coded)) room _ (e .encode-channel .ensures .1) in (
-      (rw t (room .used), s .pre .0),
+      (rw t (room .used), omega arith),
       (code ∙ ap codedBytes (sym t), s .pre .3 ∙ sym (memory-bytes k) ∙ ap (λ (x : ℕ). 2 * codedBytes x) (sym t), s .pre .2 ∙ sym (matrix-bytes k) ∙ ap codedBytes (sym t)),
     )
 

@@ -3,15 +3,11 @@ use mathlib.Core.Path.{sym, ap, _∙_}
 use denote.Ref.{now}
 use native.Mathlib.Omega.{arith}
 use Rattle.runs.specs.Lengths.{frameLen, matrixLen, readerLen}
-use Rattle.runs.specs.Lent.{Memory}
 use Rattle.judging.specs.Stages.{after}
 use Rattle.judging.proofs.Staged.{frame3-refused, frame4-refused, frames-right, recovered}
 use borrow.Author.Needs.{needs}
 use Rattle.judging.proofs.judge_frames.Statement.{statement}
 use Rattle.judging.proofs.judge_frames.Tie as tie
-
-abbrev afterAt : tie.Start → Memory
-afterAt s = after (now (s .args .memory3)) (now (s .args .memory4)) (now (s .args .px1)) (now (s .args .px2))
 
 kind-of-requires : tie.Need-kind-of-requires
 kind-of-requires c κs = search needs
@@ -27,19 +23,17 @@ same-length c = search needs
 
 returns : tie.Need-returns
 returns c =
-    let s = c .before .before .before .before .before .before .before .before .before .before .before .before in (
-      frame3-refused (s .args .state) (afterAt s) (c .before .before .before .before .before .kind-of .ensures) (c .before .before .before .recover-px .ensures .0) (c .if1 .taken),
+    let c1 = c .before .before .before in
+    let c2 = c1 .before .before in
+    let c3 = c2 .before .before .before .before .before .before .before in
+    let a = c3 .args in
+    let m = after (a .state) (now (a .memory3)) (now (a .memory4)) (now (a .px1)) (now (a .px2)) in (
+      frame3-refused (a .state) m (c2 .kind-of .ensures) (c1 .recover-px .ensures .0) (c .if1 .taken),
       λ z. absurd (omega arith),
     )
 
-kind-of-requires-2 : tie.Need-kind-of-requires-2
-kind-of-requires-2 c κs = search needs
-
-recover-px-requires-2 : tie.Need-recover-px-requires-2
-recover-px-requires-2 c κs =
-    let p = c .before .before .before .before .before .before .before .before .before .before .before .before .before .before .pre in
-    let k = sym (c .before .kind-of2 .ensures) in
-    (p .half-lt, p .memory4-long ∙ ap readerLen k, p .px2-long ∙ ap matrixLen k, p .p4-long ∙ ap frameLen k)
+recover-p4-requires : tie.Need-recover-p4-requires
+recover-p4-requires c κs = search needs
 
 add-t18 : tie.Need-add-t18
 add-t18 c = search needs
@@ -52,10 +46,14 @@ same-length-3 c = search needs
 
 returns-2 : tie.Need-returns-2
 returns-2 c =
-    let f = c .before .before .before .before .before .before .before .before .before in
-    let s = f .before .before .before .before .before .before .before .before .before in (
-      frame4-refused (s .args .state) (afterAt s) (f .before .before .kind-of .ensures) (f .recover-px .ensures .0) (c .before .before .before .before .before .before .if1 .left)
-          (c .before .before .before .before .before .kind-of2 .ensures) (c .before .before .before .recover-px2 .ensures .0) (c .if2 .taken),
+    let c1 = c .before .before .before in
+    let c2 = c1 .before .before in
+    let c3 = c2 .before .before .before in
+    let c4 = c3 .before .before in
+    let c5 = c4 .before .before .before .before .before .before .before in
+    let a = c5 .args in
+    let m = after (a .state) (now (a .memory3)) (now (a .memory4)) (now (a .px1)) (now (a .px2)) in (
+      frame4-refused (a .state) m (c4 .kind-of .ensures) (c3 .recover-px .ensures .0) (c2 .if1 .left) (c1 .recover-p4 .ensures .0) (c .if2 .taken),
       λ z. absurd (omega arith),
     )
 
@@ -67,11 +65,15 @@ same-length-5 c = search needs
 
 returns-3 : tie.Need-returns-3
 returns-3 c =
-    let f = c .before .before .before .before .before .before .before .before .before in
-    let s = f .before .before .before .before .before .before .before .before .before in (
-      frames-right (s .args .state) (afterAt s) (f .before .before .kind-of .ensures) (f .recover-px .ensures .0) (c .before .before .before .before .before .before .if1 .left)
-          (c .before .before .before .before .before .kind-of2 .ensures) (c .before .before .before .recover-px2 .ensures .0) (c .if2 .left),
-      λ z. recovered (s .args .state) (afterAt s) (f .before .before .kind-of .ensures) (c .before .before .before .before .before .kind-of2 .ensures) (f .recover-px .ensures .1) (c .before .before .before .recover-px2 .ensures .1),
+    let c1 = c .before .before .before in
+    let c2 = c1 .before .before in
+    let c3 = c2 .before .before .before in
+    let c4 = c3 .before .before in
+    let c5 = c4 .before .before .before .before .before .before .before in
+    let a = c5 .args in
+    let m = after (a .state) (now (a .memory3)) (now (a .memory4)) (now (a .px1)) (now (a .px2)) in (
+      frames-right (a .state) m (c4 .kind-of .ensures) (c3 .recover-px .ensures .0) (c2 .if1 .left) (c1 .recover-p4 .ensures .0) (c .if2 .left),
+      λ z. recovered (a .state) m (c4 .kind-of .ensures) (c3 .recover-px .ensures .1) (c1 .recover-p4 .ensures .1),
     )
 
 pub judge-frames-spec : {M : Type 1} → statement M
@@ -82,8 +84,7 @@ judge-frames-spec =
     recover-px-requires
     same-length
     returns
-    kind-of-requires-2
-    recover-px-requires-2
+    recover-p4-requires
     add-t18
     same-length-2
     same-length-3

@@ -3,29 +3,24 @@ use mathlib.Core.Path.{_≡_, sym, _∙_}
 use denote.Ref.{now}
 use native.Mathlib.Omega.{arith}
 use Rattle.runs.specs.Answers.{numberOf}
-use Rattle.runs.specs.Lent.{Memory, Signal}
 use Rattle.calls.specs.Called.{memory, signal}
 use Rattle.judging.proofs.Staged.{control-refused, control-right, at-control, at-pm, at-px}
 use borrow.Author.Needs.{needs}
 use Rattle.judging.proofs.judge_signal.Statement.{statement}
 use Rattle.judging.proofs.judge_signal.Tie as tie
 
-abbrev memoryAt : tie.Start → Memory
-memoryAt s = memory (now (s .args .memory3)) (now (s .args .memory4))
-
-abbrev signalAt : tie.Start → Signal
-signalAt s = signal (now (s .args .pm)) (now (s .args .px1)) (now (s .args .px2)) (now (s .args .control))
-
 first-departing-requires : tie.Need-first-departing-requires
 first-departing-requires c κs = search needs
 
-cast-t15 : tie.Need-cast-t15
-cast-t15 c = search needs
+cast-t17 : tie.Need-cast-t17
+cast-t17 c = search needs
 
 returns : tie.Need-returns
 returns c =
-    let s = c .before .before .before .before .before .before .before .before .before .before .before .before in (
-      at-control (s .args .state) (memoryAt s) (signalAt s) _ (control-refused _ _ _ (c .before .first-departing .ensures) (c .if1 .taken)) (λ z. omega arith),
+    let a = c .before .before .before .before .before .before .before .before .before .before .before .before .before .before .args in
+    let m = memory (now (a .memory3)) (now (a .memory4)) (now (a .delay)) in
+    let g = signal (now (a .pm)) (now (a .px1)) (now (a .px2)) (now (a .control)) in (
+      at-control (a .state) m g _ (control-refused _ _ _ (c .before .first-departing .ensures) (c .if1 .taken)) (λ z. omega arith),
       (λ z. absurd (omega arith), λ z. absurd (omega arith)),
     )
 
@@ -41,21 +36,25 @@ same-length c = search needs
 same-length-2 : tie.Need-same-length-2
 same-length-2 c = search needs
 
+same-length-3 : tie.Need-same-length-3
+same-length-3 c = search needs
+
 returns-2 : tie.Need-returns-2
 returns-2 c =
-    let d = c .before .before .before .before .before .before .before .before .before in
-    let s = d .before .before .before .before .before .before .before .before .before .before .before .before in
-    let zero-not : numberOf (c .before .before .before .before .before .before .judge-pm .result) ≡ 0 → ⊥ = λ z. c .if2 .taken (c .before .number .ensures ∙ z) in (
-      at-pm (s .args .state) (memoryAt s) (signalAt s) _ (control-right _ _ _ (d .before .first-departing .ensures) (d .if1 .left))
-          (c .before .before .before .before .before .before .judge-pm .ensures .0) zero-not,
+    let c1 = c .before .before .before .before .before .before .before .before in
+    let c2 = c1 .before .before .before .before in
+    let c3 = c2 .before in
+    let c4 = c3 .before .before .before .before .before .before .before .before .before .before .before .before .before in
+    let a = c4 .args in
+    let m = memory (now (a .memory3)) (now (a .memory4)) (now (a .delay)) in
+    let g = signal (now (a .pm)) (now (a .px1)) (now (a .px2)) (now (a .control)) in
+    let zero-not : numberOf (c1 .judge-pm .result) ≡ 0 → ⊥ = λ z. c .if2 .taken (c .before .number .ensures ∙ z) in (
+      at-pm (a .state) m g _ (control-right _ _ _ (c3 .first-departing .ensures) (c2 .if1 .left)) (c1 .judge-pm .ensures .0 _ _ _) zero-not,
       (λ z. absurd (zero-not z), λ z. absurd (zero-not z)),
     )
 
 judge-px-requires : tie.Need-judge-px-requires
 judge-px-requires c κs = search needs
-
-same-length-3 : tie.Need-same-length-3
-same-length-3 c = search needs
 
 same-length-4 : tie.Need-same-length-4
 same-length-4 c = search needs
@@ -66,15 +65,28 @@ same-length-5 c = search needs
 same-length-6 : tie.Need-same-length-6
 same-length-6 c = search needs
 
+same-length-7 : tie.Need-same-length-7
+same-length-7 c = search needs
+
+same-length-8 : tie.Need-same-length-8
+same-length-8 c = search needs
+
 returns-3 : tie.Need-returns-3
 returns-3 c =
-    let t = c .before .before .before .before .before .before .before in
-    let d = t .before .before .before .before .before .before .before .before .before in
-    let s = d .before .before .before .before .before .before .before .before .before .before .before .before in
-    let j = t .before .before .before .before .before .before .judge-pm .ensures in
-    let zero = sym (t .before .number .ensures) ∙ t .if2 .left in
-    let x = c .before .before .before .before .judge-px .ensures in (
-      at-px (s .args .state) (memoryAt s) (signalAt s) _ (control-right _ _ _ (d .before .first-departing .ensures) (d .if1 .left)) (j .0) zero _ (x .0 _),
+    let c1 = c .before .before .before .before in
+    let c2 = c1 .before .before .before in
+    let c3 = c2 .before in
+    let c4 = c3 .before .before .before .before .before .before .before in
+    let c5 = c4 .before .before .before .before in
+    let c6 = c5 .before in
+    let c7 = c6 .before .before .before .before .before .before .before .before .before .before .before .before .before in
+    let a = c7 .args in
+    let m = memory (now (a .memory3)) (now (a .memory4)) (now (a .delay)) in
+    let g = signal (now (a .pm)) (now (a .px1)) (now (a .px2)) (now (a .control)) in
+    let j = c4 .judge-pm .ensures in
+    let zero = sym (c3 .number .ensures) ∙ c2 .if2 .left in
+    let x = c1 .judge-px .ensures in (
+      at-px (a .state) m g _ (control-right _ _ _ (c6 .first-departing .ensures) (c5 .if1 .left)) (j .0 _ _ _) zero _ (x .0 _ _),
       (λ z. j .1 zero, x .1),
     )
 
@@ -83,16 +95,18 @@ judge-signal-spec =
     tie.close
     (tie.spec
     first-departing-requires
-    cast-t15
+    cast-t17
     returns
     judge-pm-requires
     number-requires
     same-length
     same-length-2
+    same-length-3
     returns-2
     judge-px-requires
-    same-length-3
     same-length-4
     same-length-5
     same-length-6
+    same-length-7
+    same-length-8
     returns-3)

@@ -8,21 +8,20 @@ use Rattle.reader.proofs.read_all.Statement.{statement}
 use Rattle.reader.proofs.read_all.Tie as tie
 
 abbrev Inv-loop : tie.InvT-loop
-Inv-loop mode count on p1₀ pids₀ p3₀ p4₀ pm₀ px1₀ px2₀ control₀ memory3₀ memory4₀ number₀ state₀ left₀ p1 pids p3 p4 pm px1 px2 control memory3 memory4 state left =
+Inv-loop mode count on input₀ p1₀ pids₀ p2₀ p3₀ p4₀ memory3₀ memory4₀ delay₀ number state₀ left₀ input p1 pids p2 p3 p4 memory3 memory4 delay state left =
     (left ≤ count)
+    × (length input ≡ length input₀)
     × (length p1 ≡ length p1₀)
     × (length pids ≡ length pids₀)
+    × (length p2 ≡ length p2₀)
     × (length p3 ≡ length p3₀)
     × (length p4 ≡ length p4₀)
-    × (length pm ≡ length pm₀)
-    × (length px1 ≡ length px1₀)
-    × (length px2 ≡ length px2₀)
-    × (length control ≡ length control₀)
     × (length memory3 ≡ length memory3₀)
     × (length memory4 ≡ length memory4₀)
+    × (length delay ≡ length delay₀)
 
 abbrev μ-loop : tie.MeasureT-loop
-μ-loop mode count on p1₀ pids₀ p3₀ p4₀ pm₀ px1₀ px2₀ control₀ memory3₀ memory4₀ number₀ state₀ left₀ p1 pids p3 p4 pm px1 px2 control memory3 memory4 state left = left
+μ-loop mode count on input₀ p1₀ pids₀ p2₀ p3₀ p4₀ memory3₀ memory4₀ delay₀ number state₀ left₀ input p1 pids p2 p3 p4 memory3 memory4 delay state left = left
 
 start-reader-requires : tie.Need-start-reader-requires Inv-loop μ-loop
 start-reader-requires c κs = search needs
@@ -41,6 +40,9 @@ same-length c = search needs
 
 same-length-2 : tie.Need-same-length-2 Inv-loop μ-loop
 same-length-2 c = search needs
+
+same-length-3 : tie.Need-same-length-3 Inv-loop μ-loop
+same-length-3 c = search needs
 
 returns : tie.Need-returns Inv-loop μ-loop
 returns c = search needs
@@ -62,24 +64,19 @@ loop-less c = search needs
 
 loop-again : tie.Need-loop-again Inv-loop μ-loop
 loop-again c =
-    let t = c .before .before .before .before .before .before .before .before .before .before .before .before .before .before .before .before .before .before .before .before .before .before in
-    let l = t .before .before .before .before .before .before .before .before .before .before .before .before .loop .inv in
-    let k = t .turn .kept .1 .1 .1 in (
-      omega (arith, c .left-after .ensures, l .0),
-      k .0 ∙ l .1,
-      k .1 .0 ∙ l .2,
-      k .1 .1 .0 ∙ l .3,
-      k .1 .1 .1 .0 ∙ l .4,
-      k .1 .1 .1 .1 .0 ∙ l .5,
-      k .1 .1 .1 .1 .1 .0 ∙ l .6,
-      k .1 .1 .1 .1 .1 .1 .0 ∙ l .7,
-      k .1 .1 .1 .1 .1 .1 .1 .0 ∙ l .8,
-      k .1 .1 .1 .1 .1 .1 .1 .1 .0 ∙ l .9,
-      k .1 .1 .1 .1 .1 .1 .1 .1 .1 .0 ∙ l .10,
+    let x = c .before .before .before .before .before .before .before .before .before .before .before .before .before .before .before .before .before .before .before .before in
+    let y = x .before .before .before .before .before .before .before .before .before .before .before in (
+      omega (arith, c .left-after .ensures, y .loop .inv .0),
+      x .turn .kept .1 .1 .1 .0 ∙ y .loop .inv .1,
+      x .turn .kept .1 .1 .1 .1 .0 ∙ y .loop .inv .2,
+      x .turn .kept .1 .1 .1 .1 .1 .0 ∙ y .loop .inv .3,
+      x .turn .kept .1 .1 .1 .1 .1 .1 .0 ∙ y .loop .inv .4,
+      x .turn .kept .1 .1 .1 .1 .1 .1 .1 .0 ∙ y .loop .inv .5,
+      x .turn .kept .1 .1 .1 .1 .1 .1 .1 .1 .0 ∙ y .loop .inv .6,
+      x .turn .kept .1 .1 .1 .1 .1 .1 .1 .1 .1 .0 ∙ y .loop .inv .7,
+      x .turn .kept .1 .1 .1 .1 .1 .1 .1 .1 .1 .1 .0 ∙ y .loop .inv .8,
+      x .turn .kept .1 .1 .1 .1 .1 .1 .1 .1 .1 .1 .1 .0 ∙ y .loop .inv .9,
     )
-
-same-length-3 : tie.Need-same-length-3 Inv-loop μ-loop
-same-length-3 c = search needs
 
 same-length-4 : tie.Need-same-length-4 Inv-loop μ-loop
 same-length-4 c = search needs
@@ -123,6 +120,7 @@ read-all-spec =
     refuse-requires
     same-length
     same-length-2
+    same-length-3
     returns
     loop-holds
     sub-turn
@@ -130,7 +128,6 @@ read-all-spec =
     left-after-requires
     loop-less
     loop-again
-    same-length-3
     same-length-4
     same-length-5
     same-length-6

@@ -23,9 +23,11 @@ same-length-2 c = search needs
 
 returns : tie.Need-returns
 returns c =
-    let f = c .before .before .finish-channel in
-    let j = c .before .before .before .before .before .before .before .judge-channel in
-    let s = c .before .before .before .before .before .before .before .before .before .before .before .before in
+    let c1 = c .before .before in
+    let c2 = c1 .before .before .before .before .before in
+    let s = c2 .before .before .before .before .before in
+    let f = c1 .finish-channel in
+    let j = c2 .judge-channel in
     let a = s .args in
     let y₀ = bitAt (now (a .coded)) in
     λ y bits e.

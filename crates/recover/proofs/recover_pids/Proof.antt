@@ -35,9 +35,11 @@ same-length c = search needs
 returns : tie.Need-returns
 unfolding pidsBad pidsOf pidsLen
 returns c =
-    let d = c .before .before .before .decode-channel in
-    let g = c .before .before .before .before .before .before .before .before .gather-pids in
-    let s = c .before .before .before .before .before .before .before .before .before .before .before .before in
+    let c1 = c .before .before .before in
+    let c2 = c1 .before .before .before .before .before in
+    let s = c2 .before .before .before .before in
+    let d = c1 .decode-channel in
+    let g = c2 .gather-pids in
     let pm = now (s .args .pm) in
     let y : ℕ → ℕ = λ i. bitAt pm (pidsPlace i) in
     let r = d .ensures y (λ i. bitAt-lt pm _) (whole _ _ _ (g .ensures)) in

@@ -8,21 +8,19 @@ use Rattle.sender.proofs.send_all.Statement.{statement}
 use Rattle.sender.proofs.send_all.Tie as tie
 
 abbrev Inv-loop : tie.InvT-loop
-Inv-loop mode count p1₀ pids₀ p3₀ p4₀ pm₀ px1₀ px2₀ control₀ memory3₀ memory4₀ state₀ left₀ p1 pids p3 p4 pm px1 px2 control memory3 memory4 state left =
+Inv-loop mode count input₀ pm₀ px1₀ px2₀ control₀ memory3₀ memory4₀ delay₀ state₀ left₀ input pm px1 px2 control memory3 memory4 delay state left =
     (left ≤ count)
-    × (length p1 ≡ length p1₀)
-    × (length pids ≡ length pids₀)
-    × (length p3 ≡ length p3₀)
-    × (length p4 ≡ length p4₀)
+    × (length input ≡ length input₀)
     × (length pm ≡ length pm₀)
     × (length px1 ≡ length px1₀)
     × (length px2 ≡ length px2₀)
     × (length control ≡ length control₀)
     × (length memory3 ≡ length memory3₀)
     × (length memory4 ≡ length memory4₀)
+    × (length delay ≡ length delay₀)
 
 abbrev μ-loop : tie.MeasureT-loop
-μ-loop mode count p1₀ pids₀ p3₀ p4₀ pm₀ px1₀ px2₀ control₀ memory3₀ memory4₀ state₀ left₀ p1 pids p3 p4 pm px1 px2 control memory3 memory4 state left = left
+μ-loop mode count input₀ pm₀ px1₀ px2₀ control₀ memory3₀ memory4₀ delay₀ state₀ left₀ input pm px1 px2 control memory3 memory4 delay state left = left
 
 start-sending-requires : tie.Need-start-sending-requires Inv-loop μ-loop
 start-sending-requires c κs = search needs
@@ -32,6 +30,9 @@ same-length c = search needs
 
 same-length-2 : tie.Need-same-length-2 Inv-loop μ-loop
 same-length-2 c = search needs
+
+same-length-3 : tie.Need-same-length-3 Inv-loop μ-loop
+same-length-3 c = search needs
 
 returns : tie.Need-returns Inv-loop μ-loop
 returns c = search needs
@@ -53,24 +54,18 @@ loop-less c = search needs
 
 loop-again : tie.Need-loop-again Inv-loop μ-loop
 loop-again c =
-    let t = c .before .before .before .before .before .before .before .before .before .before .before .before .before .before .before .before .before .before .before .before .before .before in
-    let l = t .before .before .before .before .before .before .before .before .before .before .before .before .loop .inv in
-    let k = t .turn .kept .1 .1 in (
-      omega (arith, c .left-after .ensures, l .0),
-      k .0 ∙ l .1,
-      k .1 .0 ∙ l .2,
-      k .1 .1 .0 ∙ l .3,
-      k .1 .1 .1 .0 ∙ l .4,
-      k .1 .1 .1 .1 .0 ∙ l .5,
-      k .1 .1 .1 .1 .1 .0 ∙ l .6,
-      k .1 .1 .1 .1 .1 .1 .0 ∙ l .7,
-      k .1 .1 .1 .1 .1 .1 .1 .0 ∙ l .8,
-      k .1 .1 .1 .1 .1 .1 .1 .1 .0 ∙ l .9,
-      k .1 .1 .1 .1 .1 .1 .1 .1 .1 .0 ∙ l .10,
+    let x = c .before .before .before .before .before .before .before .before .before .before .before .before .before .before .before .before .before .before in
+    let y = x .before .before .before .before .before .before .before .before .before .before in (
+      omega (arith, c .left-after .ensures, y .loop .inv .0),
+      x .turn .kept .1 .1 .0 ∙ y .loop .inv .1,
+      x .turn .kept .1 .1 .1 .0 ∙ y .loop .inv .2,
+      x .turn .kept .1 .1 .1 .1 .0 ∙ y .loop .inv .3,
+      x .turn .kept .1 .1 .1 .1 .1 .0 ∙ y .loop .inv .4,
+      x .turn .kept .1 .1 .1 .1 .1 .1 .0 ∙ y .loop .inv .5,
+      x .turn .kept .1 .1 .1 .1 .1 .1 .1 .0 ∙ y .loop .inv .6,
+      x .turn .kept .1 .1 .1 .1 .1 .1 .1 .1 .0 ∙ y .loop .inv .7,
+      x .turn .kept .1 .1 .1 .1 .1 .1 .1 .1 .1 .0 ∙ y .loop .inv .8,
     )
-
-same-length-3 : tie.Need-same-length-3 Inv-loop μ-loop
-same-length-3 c = search needs
 
 same-length-4 : tie.Need-same-length-4 Inv-loop μ-loop
 same-length-4 c = search needs
@@ -96,9 +91,6 @@ same-length-10 c = search needs
 same-length-11 : tie.Need-same-length-11 Inv-loop μ-loop
 same-length-11 c = search needs
 
-same-length-12 : tie.Need-same-length-12 Inv-loop μ-loop
-same-length-12 c = search needs
-
 returns-2 : tie.Need-returns-2 Inv-loop μ-loop
 returns-2 c = search needs
 
@@ -111,6 +103,7 @@ send-all-spec =
     start-sending-requires
     same-length
     same-length-2
+    same-length-3
     returns
     loop-holds
     sub-turn
@@ -118,7 +111,6 @@ send-all-spec =
     left-after-requires
     loop-less
     loop-again
-    same-length-3
     same-length-4
     same-length-5
     same-length-6
@@ -127,5 +119,4 @@ send-all-spec =
     same-length-9
     same-length-10
     same-length-11
-    same-length-12
     returns-2)

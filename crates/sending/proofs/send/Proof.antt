@@ -1,11 +1,9 @@
--- `send` meets its contract: a refusal leaves everything, and a success leaves what the parts of the work ensure. Assumes nothing.
-use mathlib.Core.Path.{refl, sym, ap, _∙_}
+-- `send` meets its contract: a refusal leaves everything, and a success leaves what the work ensures. Assumes nothing.
+use mathlib.Core.Path.{refl, sym, _∙_}
 use denote.Ref.{now}
 use Rattle.runs.specs.Lent.{Lent, Memory}
 use Rattle.calls.specs.Called.{lent, memory}
 use Rattle.sending.proofs.SendCases.{kept, sendable, written}
-use native.Mathlib.Omega.{arith}
-use Rattle.runs.specs.Lengths.{frameLen, matrixLen, senderLen}
 use borrow.Author.Needs.{needs}
 use Rattle.sending.proofs.send.Statement.{statement}
 use Rattle.sending.proofs.send.Tie as tie
@@ -14,10 +12,10 @@ use Rattle.sending.proofs.send.Tie as tie
 abbrev lentAt : tie.Start → Lent
 lentAt s =
     let a = s .args in
-    lent (now (a .p1)) (now (a .pids)) (now (a .p3)) (now (a .p4)) (now (a .pm)) (now (a .px1)) (now (a .px2)) (now (a .control))
+    lent (now (a .p1)) (now (a .pids)) (now (a .p2)) (now (a .p3)) (now (a .p4)) (now (a .pm)) (now (a .px1)) (now (a .px2)) (now (a .control))
 
 abbrev memoryAt : tie.Start → Memory
-memoryAt s = memory (now (s .args .memory3)) (now (s .args .memory4))
+memoryAt s = memory (now (s .args .memory3)) (now (s .args .memory4)) (now (s .args .delay))
 
 sender-lengths-requires : tie.Need-sender-lengths-requires
 sender-lengths-requires c κs = search needs
@@ -40,48 +38,15 @@ number-requires c κs = search needs
 returns : tie.Need-returns
 returns c =
     let a = c .before .before .before in
-    let s = a .before .before .before .before .before .before .before .before .before .before .before .before .before .before in
+    let s = a .before .before .before .before .before .before .before .before .before .before .before .before .before .before .before .before in
     kept (s .args .state) (memoryAt s) (lentAt s) _ _ _ refl (a .before .before .before .sender-lengths .ensures) (a .admit .ensures) (λ z. c .if1 .taken (c .before .number .ensures ∙ z))
 
-write-pm-requires : tie.Need-write-pm-requires
-write-pm-requires c κs =
-    let t = c .before in
-    let a = t .before .before .before in
-    let s = a .before .before .before .before .before .before .before .before .before .before .before .before .before .before in
-    let f = sendable (s .args .state) (memoryAt s) (lentAt s) _ _ _ refl (a .before .before .before .sender-lengths .ensures) (a .admit .ensures) (sym (t .before .number .ensures) ∙ t .if1 .left) in
-    (f .p1, f .pids, f .pm)
-
-kind-of-requires : tie.Need-kind-of-requires
-kind-of-requires c κs = search needs
-
-write-px-requires : tie.Need-write-px-requires
-write-px-requires c κs =
+write-requires : tie.Need-write-requires
+write-requires c κs =
     let t = c .before .before .before .before .before .before .before in
     let a = t .before .before .before in
-    let s = a .before .before .before .before .before .before .before .before .before .before .before .before .before .before in
-    let f = sendable (s .args .state) (memoryAt s) (lentAt s) _ _ _ refl (a .before .before .before .sender-lengths .ensures) (a .admit .ensures) (sym (t .before .number .ensures) ∙ t .if1 .left) in
-    let k = c .before .before .kind-of .ensures in
-    (omega (arith, f .half-lt), f .p3 ∙ ap frameLen (sym k), f .px1 ∙ ap matrixLen (sym k), f .memory3 ∙ ap senderLen (sym k))
-
-kind-of-requires-2 : tie.Need-kind-of-requires-2
-kind-of-requires-2 c κs = search needs
-
-write-px-requires-2 : tie.Need-write-px-requires-2
-write-px-requires-2 c κs =
-    let t = c .before .before .before .before .before .before .before .before .before .before .before .before .before .before .before in
-    let a = t .before .before .before in
-    let s = a .before .before .before .before .before .before .before .before .before .before .before .before .before .before in
-    let f = sendable (s .args .state) (memoryAt s) (lentAt s) _ _ _ refl (a .before .before .before .sender-lengths .ensures) (a .admit .ensures) (sym (t .before .number .ensures) ∙ t .if1 .left) in
-    let k = c .before .before .kind-of2 .ensures in
-    (omega (arith, f .half-lt), f .p4 ∙ ap frameLen (sym k), f .px2 ∙ ap matrixLen (sym k), f .memory4 ∙ ap senderLen (sym k))
-
-fill-control-requires : tie.Need-fill-control-requires
-fill-control-requires c κs =
-    let t = c .before .before .before .before .before .before .before .before .before .before .before .before .before .before .before .before .before .before .before .before .before in
-    let a = t .before .before .before in
-    let s = a .before .before .before .before .before .before .before .before .before .before .before .before .before .before in
-    let f = sendable (s .args .state) (memoryAt s) (lentAt s) _ _ _ refl (a .before .before .before .sender-lengths .ensures) (a .admit .ensures) (sym (t .before .number .ensures) ∙ t .if1 .left) in
-    (f .mode-lt, omega arith, f .control)
+    let s = a .before .before .before .before .before .before .before .before .before .before .before .before .before .before .before .before in
+    sendable (s .args .state) (memoryAt s) (lentAt s) _ _ _ refl (a .before .before .before .sender-lengths .ensures) (a .admit .ensures) (sym (t .before .number .ensures) ∙ t .if1 .left)
 
 same-length : tie.Need-same-length
 same-length c = search needs
@@ -101,18 +66,17 @@ same-length-5 c = search needs
 same-length-6 : tie.Need-same-length-6
 same-length-6 c = search needs
 
+same-length-7 : tie.Need-same-length-7
+same-length-7 c = search needs
+
 returns-2 : tie.Need-returns-2
 returns-2 c =
-    let x = c .before .before in
-    let q = x .before .before .before .before .before .before in
-    let p = q .before .before .before .before .before .before .before .before in
-    let w = p .before .before .before .before .before .before in
-    let t = w .before .before in
+    let w = c .before .before .before .before .before .before .before .before .before .before .before .before .before .before in
+    let t = w .before .before .before .before .before .before .before .before in
     let a = t .before .before .before in
-    let s = a .before .before .before .before .before .before .before .before .before .before .before .before .before .before in
+    let s = a .before .before .before .before .before .before .before .before .before .before .before .before .before .before .before .before in
     written (s .args .state) (memoryAt s) (lentAt s) _ _ _ refl (a .before .before .before .sender-lengths .ensures) (a .admit .ensures) (sym (t .before .number .ensures) ∙ t .if1 .left)
-    _ _ _ _ _ _ _ _ _ (t .before .before .next-of .ensures) (p .before .before .before .kind-of .ensures) (q .before .before .before .kind-of2 .ensures)
-    (w .write-pm .ensures) (p .write-px .ensures) (q .write-px2 .ensures) (x .fill-control .ensures)
+    _ _ _ (t .before .before .next-of .ensures) (w .write .ensures .0) (w .write .ensures .1)
 
 pub send-spec : {M : Type 1} → statement M
 send-spec =
@@ -125,16 +89,12 @@ send-spec =
     next-of-requires
     number-requires
     returns
-    write-pm-requires
-    kind-of-requires
-    write-px-requires
-    kind-of-requires-2
-    write-px-requires-2
-    fill-control-requires
+    write-requires
     same-length
     same-length-2
     same-length-3
     same-length-4
     same-length-5
     same-length-6
+    same-length-7
     returns-2)

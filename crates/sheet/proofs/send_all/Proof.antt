@@ -8,12 +8,9 @@ use Rattle.sheet.proofs.send_all.Statement.{statement}
 use Rattle.sheet.proofs.send_all.Tie as tie
 
 abbrev Inv-loop : tie.InvT-loop
-Inv-loop mode count list p1₀ pids₀ p3₀ p4₀ pm₀ px1₀ px2₀ control₀ memory3₀ memory4₀ state₀ left₀ p1 pids p3 p4 pm px1 px2 control memory3 memory4 state left =
+Inv-loop mode count list input₀ pm₀ px1₀ px2₀ control₀ memory3₀ memory4₀ state₀ left₀ input pm px1 px2 control memory3 memory4 state left =
     (left ≤ count)
-    × (length p1 ≡ length p1₀)
-    × (length pids ≡ length pids₀)
-    × (length p3 ≡ length p3₀)
-    × (length p4 ≡ length p4₀)
+    × (length input ≡ length input₀)
     × (length pm ≡ length pm₀)
     × (length px1 ≡ length px1₀)
     × (length px2 ≡ length px2₀)
@@ -22,7 +19,7 @@ Inv-loop mode count list p1₀ pids₀ p3₀ p4₀ pm₀ px1₀ px2₀ control�
     × (length memory4 ≡ length memory4₀)
 
 abbrev μ-loop : tie.MeasureT-loop
-μ-loop mode count list p1₀ pids₀ p3₀ p4₀ pm₀ px1₀ px2₀ control₀ memory3₀ memory4₀ state₀ left₀ p1 pids p3 p4 pm px1 px2 control memory3 memory4 state left = left
+μ-loop mode count list input₀ pm₀ px1₀ px2₀ control₀ memory3₀ memory4₀ state₀ left₀ input pm px1 px2 control memory3 memory4 state left = left
 
 loop-holds : tie.Need-loop-holds Inv-loop μ-loop
 loop-holds c = search needs
@@ -41,20 +38,16 @@ loop-less c = search needs
 
 loop-again : tie.Need-loop-again Inv-loop μ-loop
 loop-again c =
-    let t = c .before .before .before .before .before .before .before .before .before .before .before .before .before .before .before .before .before .before .before .before .before .before in
-    let l = t .before .before .before .before .before .before .before .before .before .before .before .before .loop .inv in
-    let k = t .turn .kept .1 .1 .1 .1 .1 in (
-      omega (arith, c .left-after .ensures, l .0),
-      k .0 ∙ l .1,
-      k .1 .0 ∙ l .2,
-      k .1 .1 .0 ∙ l .3,
-      k .1 .1 .1 .0 ∙ l .4,
-      k .1 .1 .1 .1 .0 ∙ l .5,
-      k .1 .1 .1 .1 .1 .0 ∙ l .6,
-      k .1 .1 .1 .1 .1 .1 .0 ∙ l .7,
-      k .1 .1 .1 .1 .1 .1 .1 .0 ∙ l .8,
-      k .1 .1 .1 .1 .1 .1 .1 .1 .0 ∙ l .9,
-      k .1 .1 .1 .1 .1 .1 .1 .1 .1 .0 ∙ l .10,
+    let x = c .before .before .before .before .before .before .before .before .before .before .before .before .before .before .before .before in
+    let y = x .before .before .before .before .before .before .before .before .before in (
+      omega (arith, c .left-after .ensures, y .loop .inv .0),
+      x .turn .kept .1 .1 .1 .1 .1 .0 ∙ y .loop .inv .1,
+      x .turn .kept .1 .1 .1 .1 .1 .1 .0 ∙ y .loop .inv .2,
+      x .turn .kept .1 .1 .1 .1 .1 .1 .1 .0 ∙ y .loop .inv .3,
+      x .turn .kept .1 .1 .1 .1 .1 .1 .1 .1 .0 ∙ y .loop .inv .4,
+      x .turn .kept .1 .1 .1 .1 .1 .1 .1 .1 .1 .0 ∙ y .loop .inv .5,
+      x .turn .kept .1 .1 .1 .1 .1 .1 .1 .1 .1 .1 .0 ∙ y .loop .inv .6,
+      x .turn .kept .1 .1 .1 .1 .1 .1 .1 .1 .1 .1 .1 .0 ∙ y .loop .inv .7,
     )
 
 same-length : tie.Need-same-length Inv-loop μ-loop
@@ -78,15 +71,6 @@ same-length-6 c = search needs
 same-length-7 : tie.Need-same-length-7 Inv-loop μ-loop
 same-length-7 c = search needs
 
-same-length-8 : tie.Need-same-length-8 Inv-loop μ-loop
-same-length-8 c = search needs
-
-same-length-9 : tie.Need-same-length-9 Inv-loop μ-loop
-same-length-9 c = search needs
-
-same-length-10 : tie.Need-same-length-10 Inv-loop μ-loop
-same-length-10 c = search needs
-
 returns : tie.Need-returns Inv-loop μ-loop
 returns c = search needs
 
@@ -109,7 +93,4 @@ send-all-spec =
     same-length-5
     same-length-6
     same-length-7
-    same-length-8
-    same-length-9
-    same-length-10
     returns)

@@ -26,10 +26,13 @@ same-length c = search needs
 same-length-2 : tie.Need-same-length-2
 same-length-2 c = search needs
 
+same-length-3 : tie.Need-same-length-3
+same-length-3 c = search needs
+
 returns : tie.Need-returns
 returns c =
-    let s = c .before .before .before .before in
-    let k = s .before .before .before in
+    let s = c .before .before .before .before .before .before in
+    let k = s .before .before .before .before in
     s .start-side .ensures senderLen
     (k .before .before .sender-len .ensures ∙ ap senderLen (k .before .before .before .kind-of .ensures))
     (k .sender-len2 .ensures ∙ ap senderLen (k .before .kind-of2 .ensures))
@@ -45,4 +48,5 @@ start-sender-spec =
     start-side-requires
     same-length
     same-length-2
+    same-length-3
     returns)

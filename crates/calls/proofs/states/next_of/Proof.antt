@@ -1,14 +1,15 @@
 -- `next_of` meets its contract. Assumes nothing.
-use mathlib.Core.Path.{_≡_}
+use mathlib.Core.Path.{_≡_, ap, _∙_}
 use Prim.Native.Nat.{ℕ, _+_, _%_, min}
 use native.Mathlib.Omega.{arith}
 use Rattle.runs.specs.declared.State.{State}
+use Rattle.runs.specs.MainChannels.{mainOf, lastAge}
 use Rattle.runs.specs.Starting.{next}
 use borrow.Author.Needs.{needs}
 use Rattle.calls.proofs.states.next_of.Statement.{statement}
 use Rattle.calls.proofs.states.next_of.Tie as tie
 
-next-is : (s : State) (age : ℕ) → age ≡ min 2 (s .age + 1) → _≡_ {A = State} (record { mode = s .mode; half = (s .half % 2 + 1) % 2; age = age }) (next s)
+next-is : (s : State) (age : ℕ) → age ≡ min (lastAge (mainOf (s .mode))) (s .age + 1) → _≡_ {A = State} (record { mode = s .mode; half = (s .half % 2 + 1) % 2; age = age }) (next s)
 unfolding next
 next-is s age e = λ i. record { mode = s .mode; half = turned i; age = e i }
   where
@@ -18,11 +19,21 @@ next-is s age e = λ i. record { mode = s .mode; half = turned i; age = e i }
 add-half : tie.Need-add-half
 add-half c = search needs
 
+main-of-requires : tie.Need-main-of-requires
+main-of-requires c κs = search needs
+
+last-age-requires : tie.Need-last-age-requires
+last-age-requires c κs = search needs
+
 next-age-requires : tie.Need-next-age-requires
 next-age-requires c κs = search needs
 
 returns : tie.Need-returns
-returns c = next-is (c .before .before .args .state) _ (c .next-age .ensures)
+returns c =
+    let s = c .before .before .before .before .args .state in
+    next-is s _
+    (c .next-age .ensures ∙ ap (λ (n : ℕ). min n (s .age + 1)) (c .before .last-age .ensures ∙ ap lastAge (c .before .before .main-of .ensures)))
 
 pub next-of-spec : {M : Type 1} → statement M
-next-of-spec = tie.close (tie.spec add-half next-age-requires returns)
+next-of-spec =
+    tie.close (tie.spec add-half main-of-requires last-age-requires next-age-requires returns)

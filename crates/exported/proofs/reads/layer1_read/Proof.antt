@@ -9,7 +9,7 @@ read-requires : tie.Need-read-requires
 read-requires c κs = search needs
 
 outcome-word-requires : tie.Need-outcome-word-requires
-outcome-word-requires c κs = small _ _ _ _ (c .before .before .before .before .before .before .before .before .before .before .before .before .read .ensures) (read-place _ _ _)
+outcome-word-requires c κs = small _ _ _ _ (c .before .before .before .before .before .before .before .before .before .before .before .before .before .before .before .before .read .ensures) (read-place _ _ _)
 
 same-length : tie.Need-same-length
 same-length c = search needs
@@ -29,8 +29,14 @@ same-length-5 c = search needs
 same-length-6 : tie.Need-same-length-6
 same-length-6 c = search needs
 
+same-length-7 : tie.Need-same-length-7
+same-length-7 c = search needs
+
+same-length-8 : tie.Need-same-length-8
+same-length-8 c = search needs
+
 returns : tie.Need-returns
-returns c = left-by _ _ _ _ (c .before .before .before .before .before .before .before .before .before .before .before .before .before .read .ensures) _ (c .outcome-word .ensures)
+returns c = left-by _ _ _ _ (c .before .before .before .before .before .before .before .before .before .before .before .before .before .before .before .before .before .read .ensures) _ (c .outcome-word .ensures)
 
 pub layer1-read-spec : {M : Type 1} → statement M
 layer1-read-spec =
@@ -44,4 +50,6 @@ layer1-read-spec =
     same-length-4
     same-length-5
     same-length-6
+    same-length-7
+    same-length-8
     returns)

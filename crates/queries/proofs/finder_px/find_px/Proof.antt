@@ -4,6 +4,7 @@ use native.Mathlib.Omega.{arith}
 use borrow.Author.Tests.{not-true, not-false}
 use Rattle.bits.proofs.Tests.{and-true}
 use Rattle.control.specs.Modes.{covered}
+use Rattle.runs.specs.MainChannels.{mainOf, lastAge}
 use Rattle.runs.specs.Starting.{aged, valid}
 use Rattle.calls.proofs.Admitted.{half-of}
 use Rattle.queries.specs.FinderPX.{values}
@@ -77,9 +78,9 @@ content-requires c κs =
     let v = n .before .before .before in
     let s = v .before .args .state in
     let k = n .before .kind-of-number .result in
-    let (cov, old) = and-true (covered (s .mode)) (aged (s .half) (s .age)) (sym (v .is-valid .ensures) ∙ not-false _ (n .before .before .if1 .left)) in (
+    let (cov, old) = and-true (covered (s .mode)) (aged (lastAge (mainOf (s .mode))) (s .half) (s .age)) (sym (v .is-valid .ensures) ∙ not-false _ (n .before .before .if1 .left)) in (
       used k (λ z. c .before .before .before .before .before .if2 .left (n .columns .ensures .0 ∙ z)),
-      half-of _ _ old,
+      half-of (lastAge (mainOf (s .mode))) (s .half) (s .age) old,
       omega arith,
       omega arith,
     )

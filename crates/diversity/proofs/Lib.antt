@@ -1,0 +1,3 @@
+pub mod Delays
+mod Moves
+mod Seconds

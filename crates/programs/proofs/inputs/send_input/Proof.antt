@@ -1,0 +1,155 @@
+-- `send_input` meets its contract: the buffers that it lends are those that the definition cuts out of the input. Assumes nothing.
+use mathlib.Core.Path.{sym}
+use native.Mathlib.Omega.{arith}
+use denote.Ref.{now}
+use lib.Seq.{length-take-le}
+use Rattle.programs.proofs.Cut.{frames-are, sent-in}
+use borrow.Author.Needs.{needs}
+use Rattle.programs.proofs.inputs.send_input.Statement.{statement}
+use Rattle.programs.proofs.inputs.send_input.Tie as tie
+
+sender-lengths-requires : tie.Need-sender-lengths-requires
+sender-lengths-requires c κs = search needs
+
+array-read-end-of : tie.Need-array-read-end-of
+array-read-end-of c = search needs
+
+end-of-requires : tie.Need-end-of-requires
+end-of-requires c κs = search needs
+
+array-read-end-of-2 : tie.Need-array-read-end-of-2
+array-read-end-of-2 c = search needs
+
+end-of-requires-2 : tie.Need-end-of-requires-2
+end-of-requires-2 c κs = search needs
+
+array-read-end-of-3 : tie.Need-array-read-end-of-3
+array-read-end-of-3 c = search needs
+
+end-of-requires-3 : tie.Need-end-of-requires-3
+end-of-requires-3 c κs = search needs
+
+array-read-end-of-4 : tie.Need-array-read-end-of-4
+array-read-end-of-4 c = search needs
+
+end-of-requires-4 : tie.Need-end-of-requires-4
+end-of-requires-4 c κs = search needs
+
+array-read-end-of-5 : tie.Need-array-read-end-of-5
+array-read-end-of-5 c = search needs
+
+end-of-requires-5 : tie.Need-end-of-requires-5
+end-of-requires-5 c κs = search needs
+
+slice-aggregate-send : tie.Need-slice-aggregate-send
+slice-aggregate-send c = sym (length-take-le _ _ (omega (arith, c .before .before .before .before .before .end-of .ensures .1)))
+
+sub-send : tie.Need-sub-send
+sub-send c = search needs
+
+part-send-start : tie.Need-part-send-start
+part-send-start c = search needs
+
+part-send-end : tie.Need-part-send-end
+part-send-end c = search needs
+
+sub-send-2 : tie.Need-sub-send-2
+sub-send-2 c = search needs
+
+part-send-start-2 : tie.Need-part-send-start-2
+part-send-start-2 c = search needs
+
+part-send-end-2 : tie.Need-part-send-end-2
+part-send-end-2 c = search needs
+
+sub-send-3 : tie.Need-sub-send-3
+sub-send-3 c = search needs
+
+part-send-start-3 : tie.Need-part-send-start-3
+part-send-start-3 c = search needs
+
+part-send-end-3 : tie.Need-part-send-end-3
+part-send-end-3 c = search needs
+
+sub-send-4 : tie.Need-sub-send-4
+sub-send-4 c = search needs
+
+part-send-start-4 : tie.Need-part-send-start-4
+part-send-start-4 c = search needs
+
+part-send-end-4 : tie.Need-part-send-end-4
+part-send-end-4 c = search needs
+
+send-requires : tie.Need-send-requires
+send-requires c κs = search needs
+
+same-length : tie.Need-same-length
+same-length c = search needs
+
+same-length-2 : tie.Need-same-length-2
+same-length-2 c = search needs
+
+same-length-3 : tie.Need-same-length-3
+same-length-3 c = search needs
+
+same-length-4 : tie.Need-same-length-4
+same-length-4 c = search needs
+
+same-length-5 : tie.Need-same-length-5
+same-length-5 c = search needs
+
+same-length-6 : tie.Need-same-length-6
+same-length-6 c = search needs
+
+same-length-7 : tie.Need-same-length-7
+same-length-7 c = search needs
+
+returns : tie.Need-returns
+returns c =
+    let sent = c .before .before .before .before .before .before .before .before .before .before .before .before .before .before in
+    let e = sent .before .before .before .before .before .before .before .before .before .before .before .before .before in
+    let l = e .before .before .before .before .before in
+    let a = l .before .before .before .before .before .before .before .before .before .args in
+    sent-in _ _ _ _ _ _ _ _
+    (frames-are (a .state .mode) _ _ (now (a .input)) _ (l .sender-lengths .ensures) _ _ _ _ _
+    (e .before .before .before .before .end-of .ensures .2) (e .before .before .before .end-of2 .ensures .2) (e .before .before .end-of3 .ensures .2)
+    (e .before .end-of4 .ensures .2) (e .end-of5 .ensures .2))
+    (sent .send .ensures)
+
+pub send-input-spec : {M : Type 1} → statement M
+send-input-spec =
+    tie.close
+    (tie.spec
+    sender-lengths-requires
+    array-read-end-of
+    end-of-requires
+    array-read-end-of-2
+    end-of-requires-2
+    array-read-end-of-3
+    end-of-requires-3
+    array-read-end-of-4
+    end-of-requires-4
+    array-read-end-of-5
+    end-of-requires-5
+    slice-aggregate-send
+    sub-send
+    part-send-start
+    part-send-end
+    sub-send-2
+    part-send-start-2
+    part-send-end-2
+    sub-send-3
+    part-send-start-3
+    part-send-end-3
+    sub-send-4
+    part-send-start-4
+    part-send-end-4
+    send-requires
+    same-length
+    same-length-2
+    same-length-3
+    same-length-4
+    same-length-5
+    same-length-6
+    same-length-7
+    returns)

@@ -1,0 +1,66 @@
+-- `px2::wide_cell` meets its contract: the law `wide-place`. Assumes nothing.
+use native.Mathlib.Omega.{arith}
+use Rattle.px2.proofs.Cells.{wide-place, wide-lt}
+use borrow.Author.Needs.{needs}
+use Rattle.px2.proofs.wide_cell.Statement.{statement}
+use Rattle.px2.proofs.wide_cell.Tie as tie
+
+partition-requires : tie.Need-partition-requires
+partition-requires c κs = search needs
+
+mul-b : tie.Need-mul-b
+mul-b c = search needs
+
+add-b : tie.Need-add-b
+add-b c = search needs
+
+mul-result : tie.Need-mul-result
+mul-result c = search needs
+
+mul-result-2 : tie.Need-mul-result-2
+mul-result-2 c = search needs
+
+add-result : tie.Need-add-result
+add-result c = search needs
+
+mul-result-3 : tie.Need-mul-result-3
+mul-result-3 c = search needs
+
+mul-result-4 : tie.Need-mul-result-4
+mul-result-4 c = search needs
+
+mul-result-5 : tie.Need-mul-result-5
+mul-result-5 c = search needs
+
+add-result-2 : tie.Need-add-result-2
+add-result-2 c = search needs
+
+add-result-3 : tie.Need-add-result-3
+add-result-3 c = search needs
+
+add-result-4 : tie.Need-add-result-4
+add-result-4 c = search needs
+
+returns : tie.Need-returns
+returns c =
+    let i = c .before .args .i in
+    let e = wide-place i _ (c .partition .ensures .0) in
+    (e, omega (arith, e, wide-lt i (c .before .pre)))
+
+pub wide-cell-spec : {M : Type 1} → statement M
+wide-cell-spec =
+    tie.close
+    (tie.spec
+    partition-requires
+    mul-b
+    add-b
+    mul-result
+    mul-result-2
+    add-result
+    mul-result-3
+    mul-result-4
+    mul-result-5
+    add-result-2
+    add-result-3
+    add-result-4
+    returns)

@@ -1,0 +1,2 @@
+mod Leaves
+mod Returned

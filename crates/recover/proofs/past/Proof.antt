@@ -1,0 +1,17 @@
+-- `past` meets its contract. Assumes nothing.
+use borrow.Author.Tests.{le-ltb, lt-ltb}
+use borrow.Author.Needs.{needs}
+use Rattle.recover.proofs.past.Statement.{statement}
+use Rattle.recover.proofs.past.Tie as tie
+
+returns : tie.Need-returns
+returns c = rw (lt-ltb _ _ (c .if1 .taken))
+
+add-result : tie.Need-add-result
+add-result c = search needs
+
+returns-2 : tie.Need-returns-2
+returns-2 c = rw (le-ltb _ _ (c .if1 .left))
+
+pub past-spec : {M : Type 1} → statement M
+past-spec = tie.close (tie.spec returns add-result returns-2)
