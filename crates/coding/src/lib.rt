@@ -249,7 +249,7 @@ pub fn judge_channel(rate: Rate, n: usize, count: usize, coded: &[u8], between: 
     first_bad(rate, n, count, coded, between)
 }
 
-// Unscrambles what `judge_channel` left: the transfer frames of the channel's coded bits y.
+// Unscrambles what `judge_channel` left: the transfer frames of the channel's coded bits y. Left open: what it does with other bytes in `between`.
 pub fn finish_channel(rate: Rate, n: usize, between: &[u8], frames: &mut [u8])
     requires { ⌜ (length (now between) ≡ length (now frames)) × (0 < n) ⌝ }
     ensures { λ _. ⌜ ((y : ℕ → ℕ) → now (between .entry) ≡ packed (length (now (frames .entry))) (uncodedEach rate (8 * n) y) → now (frames .exit) ≡ packed (length (now (frames .entry))) (unchannel rate (8 * n) y)) ⌝ }

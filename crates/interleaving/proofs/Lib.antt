@@ -28,3 +28,4 @@ pub mod Frames
 pub mod InTurn
 pub mod OncePX2
 pub mod PointsPX2
+pub mod Points

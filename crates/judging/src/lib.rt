@@ -191,7 +191,8 @@ fn judge_px(
     judge_frames(state, px1, px2, memory3, memory4, p3, p4)
 }
 
-// Judges what came for an L1 frame, and recovers its P1 frames, still scrambled, PIDS and P2 and, from age 2 on, P3 and P4 of the one two earlier.
+// Judges what came for an L1 frame, and recovers its P1 frames, still scrambled, PIDS and P2 and, from age 2 on, P3 and P4 of the one two earlier. Left open: what
+// these five buffers, which are the reader's own, hold after a refusal, and P3's and P4's before age 2. Their lengths are kept.
 pub fn judge_signal(
     state: State,
     pm: &[u8],

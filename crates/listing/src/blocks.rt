@@ -61,7 +61,7 @@ fn take_byte(table: &[u16; 1152], p: Progress, b: u8, out: &mut [u8]) -> Progres
     }
 }
 
-// Takes a block of the input, and puts the meaning of each line that ends in it.
+// Takes a block of the input, and puts the meaning of each line that ends in it. Left open, here and in `finish`: what is put for a progress that no input reaches.
 pub fn list(p: Progress, block: &[u8], out: &mut [u8]) -> Progress
     requires { ⌜ (92 * length (now block) ≤ length (now out)) × (p .number + length (now block) < 2 ^ 64) ⌝ }
     ensures { λ r. ⌜ (Counts (r .end) (now (out .exit))) × (r .number ≤ p .number + length (now (block .entry))) × (length (now (out .exit)) ≡ length (now (out .entry))) ⌝ }

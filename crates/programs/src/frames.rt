@@ -5,9 +5,14 @@ use crate::refuse;
 use libc::STDIN_FILENO;
 use runs::Answer;
 use runs::State;
+ghost use mathlib.Core.Path.{_≡_};
+ghost use Rattle.calls.specs.Called.{memory, signal};
+ghost use Rattle.programs.specs.Steps.{SentStep, StartedStep, stepAfter};
 
 // The next step of a run; a refusal of L1 frame `frame` is said and ends it.
-fn step_after(answer: Answer, state: State, frame: u64) -> Step {
+fn step_after(answer: Answer, state: State, frame: u64) -> Step
+    ensures { λ r. ⌜ r ≡ stepAfter answer state ⌝ }
+{
     let number = layer1::number(answer);
     if number != 0 {
         refuse(number, layer1::place(answer), frame);
@@ -20,7 +25,9 @@ fn step_after(answer: Answer, state: State, frame: u64) -> Step {
 }
 
 // Starts a sender.
-pub fn start_sending(mode: u8, memory3: &mut [u8], memory4: &mut [u8], delay: &mut [u8]) -> Step {
+pub fn start_sending(mode: u8, memory3: &mut [u8], memory4: &mut [u8], delay: &mut [u8]) -> Step
+    ensures { λ r. ⌜ StartedStep mode (memory (now (memory3 .entry)) (now (memory4 .entry)) (now (delay .entry))) r (memory (now (memory3 .exit)) (now (memory4 .exit)) (now (delay .exit))) ⌝ }
+{
     let started = layer1::start_sender(mode, memory3, memory4, delay);
     let answer = started.answer;
     let state = started.state;
@@ -39,7 +46,10 @@ pub fn send_next(
     memory3: &mut [u8],
     memory4: &mut [u8],
     delay: &mut [u8],
-) -> Step {
+) -> Step
+    ensures { λ r. ⌜ SentStep state (memory (now (memory3 .entry)) (now (memory4 .entry)) (now (delay .entry))) (signal (now (pm .entry)) (now (px1 .entry)) (now (px2 .entry)) (now (control .entry))) (now (input .exit))
+        r (memory (now (memory3 .exit)) (now (memory4 .exit)) (now (delay .exit))) (signal (now (pm .exit)) (now (px1 .exit)) (now (px2 .exit)) (now (control .exit))) ⌝ }
+{
     let n = io::read_full(STDIN_FILENO, input);
     let sent = send_input(
         state,

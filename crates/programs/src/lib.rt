@@ -23,7 +23,9 @@ use libc::STDERR_FILENO;
 pub use lines::Line;
 pub use lines::read_line;
 use runs::State;
-ghost use Prim.Native.Nat.{_<_};
+ghost use mathlib.Core.Bool.{cond};
+ghost use mathlib.Core.Path.{_≡_};
+ghost use Prim.Native.Nat.{_-_, _<_};
 
 // The state after an L1 frame, and whether to go on.
 pub struct Step {
@@ -35,6 +37,7 @@ pub struct Step {
 pub fn left_after(left: u64, go_on: bool) -> u64
     requires { ⌜ 0 < left ⌝ }
     ensures { λ r. ⌜ r < left ⌝ }
+    ensures { λ r. ⌜ r ≡ cond «go_on» (left - 1) 0 ⌝ }
 {
     if go_on { left - 1 } else { 0 }
 }

@@ -35,7 +35,7 @@ use Rattle.queries.specs.declared.finder_px.FoundPx.{FoundPx}
 use Rattle.queries.specs.declared.finder_px.FoundPx.the-variants.{Coded, Fill, Refused}
 use Rattle.queries.specs.Finder.{found}
 use Rattle.queries.specs.FinderPX.{kindOfNumber, columnsOf, cellOf, frameCoded, told, foundPX}
-use Rattle.queries.specs.Sheets.{Sheet, numberOf}
+use Rattle.queries.specs.Sheets.{Sheet, channelNumber}
 use Rattle.queries.proofs.CasesPX as px
 use Rattle.queries.proofs.Origins.{used, cell-lt}
 use Rattle.queries.proofs.Stands.{found-stands}
@@ -98,7 +98,7 @@ not-five mode = go (eqb mode 5) (eqb mode 6)
     go true c e = cc
     go false c e = refl
 
-number-is : (mode : ℕ) → mainOf mode ≡ Plain → (e : Extended) → kindOf mode e ≡ kindOfNumber mode (numberOf e)
+number-is : (mode : ℕ) → mainOf mode ≡ Plain → (e : Extended) → kindOf mode e ≡ kindOfNumber mode (channelNumber e)
 unfolding kindOfNumber
 number-is mode is P3 = rw (not-five mode is)
 number-is mode is P4 = rw (not-five mode is)
@@ -128,10 +128,10 @@ module _ (s : State) (v : valid s ≡ true) (channel : ℕ) (k : Kind) (k-is : k
 
 module _ (mode : ℕ) (is : mainOf mode ≡ Plain) (a : SenderRun mode) (t : ℕ) (h : t < count mode a) (e : Extended) (pair row column : ℕ) where
   abbrev named : FoundPx
-  named = foundPX (stateAt mode t) (numberOf e) pair row column
+  named = foundPX (stateAt mode t) (channelNumber e) pair row column
 
-  at : ((r : Answer) → named ≡ Refused r → ⊥) → Inside (stateAt mode t) (kindOf mode e) (numberOf e) pair row column
-  at = inside (stateAt mode t) (valid-at mode (covered-of mode a) t) (numberOf e) (kindOf mode e) (number-is mode is e) pair row column
+  at : ((r : Answer) → named ≡ Refused r → ⊥) → Inside (stateAt mode t) (kindOf mode e) (channelNumber e) pair row column
+  at = inside (stateAt mode t) (valid-at mode (covered-of mode a) t) (channelNumber e) (kindOf mode e) (number-is mode is e) pair row column
 
   coded-in : (n frame bit : ℕ) → named ≡ Coded n frame bit
       → (n ≤ t)

@@ -16,9 +16,9 @@ use Rattle.queries.specs.declared.finder_px.FoundPx.the-variants.{Coded,
 use Rattle.queries.specs.Finder.{found}
 use Rattle.queries.specs.FinderPX.{foundPX, cellOf, frameCoded}
 
-abbrev pub numberOf : Extended → ℕ
-numberOf P3 = 3
-numberOf P4 = 4
+abbrev pub channelNumber : Extended → ℕ
+channelNumber P3 = 3
+channelNumber P4 = 4
 
 -- L1 frame t of the run a in MP1, MP2, MP3 or MP11, whose sending was handed the state `stateAt mode t`
 pub record Sheet (mode : ℕ) (a : SenderRun mode) (t : ℕ) : Type 0 where
@@ -27,10 +27,10 @@ pub record Sheet (mode : ℕ) (a : SenderRun mode) (t : ℕ) : Type 0 where
   pub pids-cell : (row column frame bit : ℕ) → found row column ≡ Pids frame bit
       → bitAt (matricesAt mode a t .pm) (row * 720 + column) ≡ channel TwoFifths 80 (bitAt (frameAt mode a t .pids)) (frame * 200 + bit)
   pub coded-cell : (e : Extended) (pair row column earlier frame bit : ℕ)
-      → foundPX (stateAt mode t) (numberOf e) pair row column ≡ Coded earlier frame bit
+      → foundPX (stateAt mode t) (channelNumber e) pair row column ≡ Coded earlier frame bit
       → (earlier ≤ t)
       × (bitAt (matrixOf mode (matricesAt mode a t) e) (cellOf (kindOf mode e) pair row column)
       ≡ codedOf (kindOf mode e) (frameOf (frameAt mode a (t - earlier)) e) (frame * frameCoded (kindOf mode e) + bit))
   pub fill-cell : (e : Extended) (pair row column : ℕ)
-      → foundPX (stateAt mode t) (numberOf e) pair row column ≡ Fill
+      → foundPX (stateAt mode t) (channelNumber e) pair row column ≡ Fill
       → bitAt (matrixOf mode (matricesAt mode a t) e) (cellOf (kindOf mode e) pair row column) ≡ 0

@@ -13,10 +13,10 @@ counts : (n : ℕ) (xs : List ℕ) → n ≤ length xs → Counts n xs
 counts n xs h = (h, sym (length-take-le n xs h))
 
 returns : tie.Need-returns
-returns c = counts _ _ (omega arith)
+returns c = (counts _ _ (omega arith), omega arith)
 
 returns-2 : tie.Need-returns-2
-returns-2 c = counts _ _ (omega arith)
+returns-2 c = (counts _ _ (omega arith), omega arith)
 
 pub within-spec : {M : Type 1} → statement M
 within-spec = tie.close (tie.spec returns returns-2)
