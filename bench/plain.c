@@ -1,7 +1,7 @@
 // The same work done bit by bit, as SY_IDD_1011s has it: a plain loop over the bits of each step, with every place worked out anew. Only measured against;
 // bench/run checks that its output is the same.
 //
-//     plain send MODE COUNT    transfer frames in, matrices and control out
+//     plain send MODE COUNT    reserved number and transfer frames of each L1 frame in, matrices and control out
 //     plain read MODE COUNT    the way back; an L1 frame that is not one that was sent ends the run with status 1
 #include <stdint.h>
 #include <stdio.h>
@@ -160,24 +160,33 @@ static int odd(uint32_t sequence, int from, int to) {
     return sum;
 }
 
-static uint32_t sequence(unsigned mode, unsigned count, unsigned column) {
+static uint32_t sequence(unsigned mode, unsigned count, unsigned reserved, unsigned column) {
     static const unsigned low[4] = {2, 1, 0, 3}, high[4] = {2, 3, 0, 1};
     uint32_t s = 0x32u << 25 | 1u << 22 | 3u << 9 | 1u << 8;
+    s |= (uint32_t)(reserved & 1) << 7 | (uint32_t)(reserved >> 1 & 1) << 16 | (uint32_t)(reserved >> 2 & 1) << 24;
     s |= (uint32_t)(column < 31 ? low[column % 4] : high[column % 4]) << 20 | (uint32_t)count << 12 | (uint32_t)mode << 1;
     s |= (uint32_t)odd(s, 24, 24) << 23 | (uint32_t)odd(s, 21, 19) << 18 | (uint32_t)odd(s, 16, 12) << 11;
     return s | (uint32_t)odd(s, 8, 1);
 }
 
-static void control_of(unsigned mode, uint8_t *control) {
+static void control_of(unsigned mode, unsigned reserved, uint8_t *control) {
     memset(control, 0, 4096);
     for (unsigned block = 0; block < 16; block++)
         for (unsigned column = 0; column < 61; column++) {
             int last = 0;
             for (unsigned row = 0; row < 32; row++) {
-                last ^= (int)(sequence(mode, block, column) >> (31 - row) & 1);
+                last ^= (int)(sequence(mode, block, reserved, column) >> (31 - row) & 1);
                 put(control, (block * 32 + row) * 64 + column, last);
             }
         }
+}
+
+// The reserved number in the first column of block 0, whose encoded rows differ where the sequence is 1.
+static uint8_t number_in(const uint8_t *control) {
+    static const unsigned rows[3] = {24, 15, 7};
+    unsigned number = 0;
+    for (unsigned n = 0; n < 3; n++) number |= (unsigned)(get(control, rows[n] * 64) ^ get(control, (rows[n] - 1) * 64)) << n;
+    return (uint8_t)number;
 }
 
 // ---- runs
@@ -223,7 +232,8 @@ static void send_path(const struct mode *m) {
 
 static void send_frame(const struct mode *m, size_t half) {
     size_t p1_coded = m->p1_frames * coded_bits(0, m->p1_bits);
-    in(p1, p1_bytes(m)), in(pids, sizeof pids), in(p2, m->p2_bits / 8);
+    uint8_t reserved;
+    in(&reserved, 1), in(p1, p1_bytes(m)), in(pids, sizeof pids), in(p2, m->p2_bits / 8);
     for (int e = 0; e < 2; e++)
         if (m->extended[e]) in(p3[e], m->extended[e]->bits / 16);
     encode_channel(0, p1, m->p1_bits, m->p1_frames, coded);
@@ -238,7 +248,7 @@ static void send_frame(const struct mode *m, size_t half) {
         encode_channel(1, p3[e], k->bits / 16, 8, coded);
         px_pass(k, half, coded, memory[e], matrix[e]);
     }
-    control_of(m->number, control);
+    control_of(m->number, reserved, control);
     out(pm, sizeof pm), out(matrix[0], matrix_bytes(m, 0)), out(matrix[1], matrix_bytes(m, 1)), out(control, sizeof control);
 }
 
@@ -266,10 +276,12 @@ static void read_extended(const struct px *k, int e, size_t half, long age) {
 
 static void read_frame(const struct mode *m, size_t half, long age) {
     size_t p1_coded = m->p1_frames * coded_bits(0, m->p1_bits);
-    uint8_t sent[4096];
+    uint8_t sent[4096], reserved;
     in(pm, sizeof pm), in(matrix[0], matrix_bytes(m, 0)), in(matrix[1], matrix_bytes(m, 1)), in(sent, sizeof sent);
-    control_of(m->number, control);
+    reserved = number_in(sent);
+    control_of(m->number, reserved, control);
     if (memcmp(sent, control, sizeof sent)) exit(1);
+    out(&reserved, 1);
     for (size_t i = 0; i < U_BITS; i++) put(coded, i, get(pm, u_cell(i)));
     decode_channel(0, coded, m->p1_bits, m->p1_frames, p1);
     if (m->path)

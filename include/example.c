@@ -1,4 +1,5 @@
-/* Sends one L1 frame: `example MODE` reads P1, PIDS, P2, P3 and P4 from standard input and writes PM, PX1, PX2 and control to standard output.
+/* Sends one L1 frame: `example MODE` reads its reserved number, one byte, P1, PIDS, P2, P3 and P4 from standard input and writes PM, PX1,
+ * PX2 and control to standard output.
  *
  *     rt staticlib exported
  *     gcc -std=c11 -Wall -Wextra -Iinclude include/example.c target/staticlib/libexported.a
@@ -26,11 +27,13 @@ int main(int argc, char **argv)
 
     uint64_t word = layer1_start_sender(mode, buffer[LAYER1_MEMORY3], len[LAYER1_MEMORY3], buffer[LAYER1_MEMORY4], len[LAYER1_MEMORY4],
                                         buffer[LAYER1_DELAY], len[LAYER1_DELAY]);
+    int number = getchar();
+    uint8_t reserved = number == EOF ? 0 : (uint8_t)number;
     for (size_t place = LAYER1_P1; place <= LAYER1_P4; place++)
         len[place] = fread(buffer[place], 1, len[place], stdin);
 
     if (layer1_number(word) == 0)
-        word = layer1_send(layer1_mode(word), layer1_half(word), layer1_age(word),
+        word = layer1_send(layer1_mode(word), layer1_half(word), layer1_age(word), layer1_last(word), reserved,
                            buffer[LAYER1_P1], len[LAYER1_P1], buffer[LAYER1_PIDS], len[LAYER1_PIDS],
                            buffer[LAYER1_P2], len[LAYER1_P2], buffer[LAYER1_P3], len[LAYER1_P3], buffer[LAYER1_P4], len[LAYER1_P4],
                            buffer[LAYER1_PM], len[LAYER1_PM], buffer[LAYER1_PX1], len[LAYER1_PX1],

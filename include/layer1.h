@@ -14,23 +14,26 @@
  * - the stack has room for LAYER1_SEND_STACK or LAYER1_READ_STACK bytes, below what the caller itself uses.
  * Nothing is allocated, and nothing of C but memcpy and memset is called.
  *
- * A run: a start, then sendings, or then readings. Each is handed the state in the word of the last call, and the memories as it left
- * them. Every buffer has exactly the length that layer1_sender_length or layer1_reader_length gives for the mode and its place; an unused
- * channel's has length 0. A refused call leaves the state and all buffers as they were.
+ * A run: a start, then sendings, or then readings. Each is handed the state in the word of the last call, which is mode, half, age and the
+ * last reserved number sent or read, 0 at a start, and the memories as it left them. Every buffer has exactly the length that
+ * layer1_sender_length or layer1_reader_length gives for the mode and its place; an unused channel's has length 0. A refused call leaves
+ * the state and all buffers as they were.
  *
  * The numbers of the table of causes, and the place that comes with each:
  *   0  success                                                                  0
  *   1  start: the mode is not 1, 2, 3, 5, 6 or 11; vector: not 1, 2, 3 or 11      0
  *   2  the state is not valid                                                   0
  *   3  a length is wrong, or a row, column, block pair or channel out of range  the first such buffer or argument, from 0
- *   4  a control block is not the one of this mode and count                    the lowest such block
+ *   4  a control block is not the one of this mode, its count and the number    the lowest such block
+ *      of block 0
  *   5  a P1 frame or P2 in PM is no coded frame; at age 3 a P1' frame in PX2    the lowest such P1 frame, from 0; 8 for P2
  *      is none, or not the P1 frame of the L1 frame three earlier
  *   6  the PIDS cells are no coded frame                                        the lowest such frame
  *   7  a cell that can show only the zero fill, or at ages 0 to 2 only the      the lowest such cell, through PX1, then PX2; in MP5
  *      delay's zeros, is 1                                                      and MP6 behind the 368,640 cells of PM
  *   8  a P3 or P4 frame of the L1 frame two earlier is no coded frame           0 to 7 for P3, 8 to 15 for P4, the lowest
- * and of document 02's:
+ * and of document 02's, of which 9 comes after 2 and before 3:
+ *   9  the reserved number of a sending is above 7                              0
  *  10  the shares add up to more than 16                                        0
  *  11  the symbol of a vector is above 511                                      0
  *  12  a scale is not finite or not above zero                                  0 for the lower sideband, 1 for the upper
@@ -75,8 +78,9 @@ uint64_t layer1_start_sender(uint8_t mode, uint8_t *memory3, size_t memory3_len,
 uint64_t layer1_start_reader(uint8_t mode, uint8_t *memory3, size_t memory3_len, uint8_t *memory4, size_t memory4_len,
                              uint8_t *delay, size_t delay_len);
 
-/* Sends an L1 frame: writes PM, PX1, PX2 and control from the transfer frames, and the sender's memories. Returns an outcome word. */
-uint64_t layer1_send(uint8_t mode, uint8_t half, uint8_t age,
+/* Sends an L1 frame: writes PM, PX1, PX2 and control from the transfer frames and its reserved number, 0 to 7 (document 02, S-2), and the
+ * sender's memories. Returns an outcome word. */
+uint64_t layer1_send(uint8_t mode, uint8_t half, uint8_t age, uint8_t last, uint8_t reserved,
                      const uint8_t *p1, size_t p1_len, const uint8_t *pids, size_t pids_len, const uint8_t *p2, size_t p2_len,
                      const uint8_t *p3, size_t p3_len, const uint8_t *p4, size_t p4_len,
                      uint8_t *pm, size_t pm_len, uint8_t *px1, size_t px1_len, uint8_t *px2, size_t px2_len,
@@ -84,8 +88,9 @@ uint64_t layer1_send(uint8_t mode, uint8_t half, uint8_t age,
                      uint8_t *memory3, size_t memory3_len, uint8_t *memory4, size_t memory4_len, uint8_t *delay, size_t delay_len);
 
 /* Reads an L1 frame: writes its PIDS and P2 frames, its P1 frames or, in MP5 and MP6 and from the fourth on, those of the one three earlier,
- * from the third on the P3 and P4 frames of the one two earlier, and the reader's memories. Returns an outcome word. */
-uint64_t layer1_read(uint8_t mode, uint8_t half, uint8_t age,
+ * from the third on the P3 and P4 frames of the one two earlier, and the reader's memories. Returns an outcome word, from which
+ * layer1_number_read takes the L1 frame's reserved number. */
+uint64_t layer1_read(uint8_t mode, uint8_t half, uint8_t age, uint8_t last,
                      uint8_t *p1, size_t p1_len, uint8_t *pids, size_t pids_len, uint8_t *p2, size_t p2_len,
                      uint8_t *p3, size_t p3_len, uint8_t *p4, size_t p4_len,
                      const uint8_t *pm, size_t pm_len, const uint8_t *px1, size_t px1_len, const uint8_t *px2, size_t px2_len,
@@ -102,9 +107,9 @@ uint64_t layer1_find(size_t row, size_t column);
 /* Whose coded bit stands in a cell of PX1 (channel 3) or PX2 (channel 4), in a block pair's matrix, of the L1 frame that this state comes
  * before. Returns a finding word. Refused under 3: a channel that the mode does not have, or any in MP5 and MP6, at place 0, the block pair
  * at 1, the row at 2, the column at 3. */
-uint64_t layer1_find_px(uint8_t mode, uint8_t half, uint8_t age, uint8_t channel, size_t pair, size_t row, size_t column);
+uint64_t layer1_find_px(uint8_t mode, uint8_t half, uint8_t age, uint8_t last, uint8_t channel, size_t pair, size_t row, size_t column);
 
-/* The mode and the block count of one control block of 256 bytes. Returns a lookup word. */
+/* The mode, the block count and the reserved number of one control block of 256 bytes. Returns a lookup word. */
 uint64_t layer1_lookup(const uint8_t *block, size_t block_len);
 
 /* A row of PM, a row of PX1 (channel 3) or PX2 (channel 4) of MP11. Returns a row word; there is no number, and a refused row is empty. */
@@ -150,7 +155,11 @@ static inline unsigned layer1_number(uint64_t word) { return word & 0xff; }
 static inline uint8_t layer1_mode(uint64_t word) { return (uint8_t)(word >> 8); }
 static inline uint8_t layer1_half(uint64_t word) { return (uint8_t)(word >> 16); }
 static inline uint8_t layer1_age(uint64_t word) { return (uint8_t)(word >> 24); }
-static inline uint32_t layer1_place(uint64_t word) { return (uint32_t)(word >> 32); }
+static inline uint8_t layer1_last(uint64_t word) { return (uint8_t)(word >> 56); }
+static inline uint32_t layer1_place(uint64_t word) { return word >> 32 & 0xffffff; }
+
+/* The outcome word of a reading: the reserved number of the L1 frame, 0 with any refusal. */
+static inline uint8_t layer1_number_read(uint64_t word) { return layer1_number(word) == 0 ? layer1_last(word) : 0; }
 
 /* A finding word. The channel of layer1_find: 0 none, 1 P1, 2 PIDS; the content of layer1_find_px: 0 none, 1 a coded bit, 2 the zero fill;
  * and how many L1 frames earlier that bit was sent. */
@@ -164,6 +173,7 @@ static inline uint32_t layer1_found_bit(uint64_t word) { return (uint32_t)(word 
 /* A lookup word. */
 static inline uint8_t layer1_looked_up_mode(uint64_t word) { return (uint8_t)(word >> 8); }
 static inline uint8_t layer1_looked_up_count(uint64_t word) { return (uint8_t)(word >> 16); }
+static inline uint8_t layer1_looked_up_reserved(uint64_t word) { return (uint8_t)(word >> 24); }
 static inline uint32_t layer1_looked_up_place(uint64_t word) { return (uint32_t)(word >> 32); }
 
 /* A nearest word: the number of read cells that differ from the frame's, and by how much at most a frame of another start is nearer. */

@@ -3,7 +3,7 @@
 use std::io::{self, BufRead, Read, Write};
 
 use crate::coding::Rate;
-use crate::control::control;
+use crate::control::{control, NUMBERS};
 use crate::draw::{cell_list, Damage, Draw};
 use crate::modes::{Mode, EXTENDED_WAIT, P1_BITS, PIDS_BITS};
 use crate::nearest;
@@ -18,7 +18,10 @@ use crate::vector::{self, Mapping};
 /// Why a command ends before its work is done.
 #[derive(Debug)]
 pub enum Stop {
-    Refused { refusal: Refusal, frame: u64 },
+    Refused {
+        refusal: Refusal,
+        frame: u64,
+    },
     NoList,
     /// Document 02, S-9: the finder keeps to the older modes.
     NoSheet,
@@ -86,6 +89,13 @@ fn take(input: &mut impl Read, length: usize) -> io::Result<Vec<u8>> {
     Ok(bytes)
 }
 
+/// Document 02, S-2: the reserved number of an L1 frame, the next byte of the input; 0 after its
+/// end, where the buffers that follow are too short.
+fn take_reserved(input: &mut impl Read) -> io::Result<u64> {
+    let byte = take(input, 1)?;
+    Ok(byte.first().copied().map_or(0, u64::from))
+}
+
 /// Documents 01 and 02, lent lengths: the next buffers of the input.
 fn take_each<const N: usize>(
     input: &mut impl Read,
@@ -124,9 +134,9 @@ impl Run {
         })
     }
 
-    /// Documents 01 and 02, operations: sends P1, PIDS, P2, P3 and P4; gives PM, PX1, PX2 and
-    /// control.
-    fn send(&mut self, frames: &[Vec<u8>; 5]) -> (Answer, [Vec<u8>; 4]) {
+    /// Documents 01 and 02, operations: sends P1, PIDS, P2, P3 and P4 with a reserved number; gives
+    /// PM, PX1, PX2 and control.
+    fn send(&mut self, reserved: u64, frames: &[Vec<u8>; 5]) -> (Answer, [Vec<u8>; 4]) {
         let [p1, pids, p2, p3, p4] = frames;
         let [mut pm, mut px1, mut px2, mut control] =
             self.mode.matrix_lengths().map(|length| vec![0; length]);
@@ -145,12 +155,13 @@ impl Run {
             memory_p4,
             delay,
         };
-        let answer = run::send(self.state, &mut lent);
+        let answer = run::send(self.state, reserved, &mut lent);
         self.state = answer.state;
         (answer, [pm, px1, px2, control])
     }
 
-    /// Documents 01 and 02, operations: reads PM, PX1, PX2 and control; gives the returned frames.
+    /// Documents 01 and 02, operations: reads PM, PX1, PX2 and control; gives the number and the
+    /// frames that are returned.
     fn read(&mut self, matrices: &[Vec<u8>; 4]) -> (Answer, Vec<u8>) {
         let [pm, px1, px2, control] = matrices;
         let [mut p1, mut pids, mut p2, mut p3, mut p4] =
@@ -175,6 +186,9 @@ impl Run {
         self.state = answer.state;
         let waits = [self.mode.delay(), 0, 0, EXTENDED_WAIT, EXTENDED_WAIT];
         let mut returned = Vec::new();
+        if answer.number == 0 {
+            returned.push(answer.reserved as u8);
+        }
         for (frames, wait) in [p1, pids, p2, p3, p4].iter().zip(waits) {
             if answer.number == 0 && age >= wait {
                 returned.extend_from_slice(frames);
@@ -184,11 +198,12 @@ impl Run {
     }
 }
 
-/// Document 01, sheet guarantees: draws the transfer frames of a run.
+/// Documents 01 and 02, sheet guarantees: draws the reserved numbers and transfer frames of a run.
 pub fn draw(seed: u64, mode: u64, count: u64, output: &mut impl Write) -> Result<(), Stop> {
     let mode = covered(mode)?;
     let mut draw = Draw::new(seed);
     for _ in 0..count {
+        output.write_all(&[draw.below(NUMBERS) as u8])?;
         for length in mode.frame_lengths() {
             output.write_all(&draw.bytes(length))?;
         }
@@ -205,8 +220,9 @@ pub fn send(
 ) -> Result<(), Stop> {
     let mut sender = Run::start(Side::Sender, mode)?;
     for frame in 0..count {
+        let reserved = take_reserved(input)?;
         let frames = take_each(input, sender.mode.frame_lengths())?;
-        let (answer, matrices) = sender.send(&frames);
+        let (answer, matrices) = sender.send(reserved, &frames);
         if answer.number != 0 {
             return Err(refused(answer.number, answer.place, frame));
         }
@@ -228,8 +244,9 @@ pub fn sheet(
     let mut sheet = Sheet::new(sender.mode, count, &list);
     output.write_all(sheet.refusals().as_bytes())?;
     for frame in 0..count {
+        let reserved = take_reserved(input)?;
         let frames = take_each(input, sender.mode.frame_lengths())?;
-        let (answer, matrices) = sender.send(&frames);
+        let (answer, matrices) = sender.send(reserved, &frames);
         if answer.number != 0 {
             return Err(refused(answer.number, answer.place, frame));
         }
@@ -288,9 +305,13 @@ pub fn read_on(
     Ok(())
 }
 
-/// Section 11: writes the control blocks of an L1 frame.
-pub fn control_blocks(mode: u64, output: &mut impl Write) -> Result<(), Stop> {
-    output.write_all(&control(covered(mode)?.number))?;
+/// Section 11: writes the control blocks of an L1 frame with a reserved number.
+pub fn control_blocks(mode: u64, reserved: u64, output: &mut impl Write) -> Result<(), Stop> {
+    let mode = covered(mode)?;
+    if reserved >= NUMBERS {
+        return Err(refused(9, 0, 0));
+    }
+    output.write_all(&control(mode.number, reserved))?;
     Ok(())
 }
 
@@ -416,7 +437,7 @@ pub fn vectors(input: &mut impl Read, output: &mut impl Write) -> Result<(), Sto
         output.write_all(&returned)?;
     }
     for mode in [1, 2, 3, 11] {
-        output.write_all(&control(mode))?;
+        output.write_all(&control(mode, 0))?;
     }
     Ok(())
 }

@@ -2,6 +2,7 @@
 //! room.
 
 use crate::coding::{encode, Rate};
+use crate::control::{block, BLOCKS, BLOCK_BYTES, NUMBERS};
 use crate::interleaving::{interleaver_two, pm_cells, Partitions};
 use crate::interleaving::{ALL_PIDS_CODED_BITS, PM_COLUMNS, PM_ROWS, U_BITS};
 use crate::modes::{Frames, Mode, BLOCK_PAIRS, PIDS};
@@ -123,6 +124,8 @@ enum Sort {
     InFrame(usize),
     /// Another coded frame of a channel in the place of one.
     OtherFrame(usize),
+    /// Another reserved number in one control block, in all from one on, or in all sixteen.
+    OtherNumber,
 }
 
 /// Which L1 frames of a run are damaged.
@@ -136,13 +139,14 @@ enum Plan {
 /// A plan of damage to the matrices of a run.
 pub struct Damage {
     draw: Draw,
+    mode: u64,
     targets: Vec<Target>,
     sorts: Vec<Sort>,
     plan: Plan,
 }
 
 impl Damage {
-    /// Damaged cells: 24 seeds that follow each other have a single hit of each sort, and as many
+    /// Damaged cells: 26 seeds that follow each other have a single hit of each sort, and as many
     /// runs with several hits.
     pub fn new(seed: u64, mode: &Mode, count: u64) -> Damage {
         let mut draw = Draw::new(seed);
@@ -151,7 +155,8 @@ impl Damage {
         let matrices = (0..4).filter(|&m| lengths[m] > 0).map(Sort::Anywhere);
         let inside = (0..targets.len()).map(Sort::InFrame);
         let others = (0..targets.len()).map(Sort::OtherFrame);
-        let sorts: Vec<Sort> = matrices.chain(inside).chain(others).collect();
+        let mut sorts: Vec<Sort> = matrices.chain(inside).chain(others).collect();
+        sorts.push(Sort::OtherNumber);
         let sort = sorts[(seed % sorts.len() as u64) as usize];
         let plan = match (seed / sorts.len() as u64) % 2 {
             0 => Plan::Single {
@@ -162,6 +167,7 @@ impl Damage {
         };
         Damage {
             draw,
+            mode: mode.number,
             targets,
             sorts,
             plan,
@@ -205,11 +211,38 @@ impl Damage {
                 let turned = cells.iter().zip(sum).filter(|(_, turned)| *turned);
                 (target.matrix, turned.map(|(&cell, _)| cell).collect())
             }
+            Sort::OtherNumber => (3, other_number(draw, self.mode)),
         };
         for cell in cells {
             flip(&mut matrices[matrix], cell);
         }
     }
+}
+
+/// Document 02, S-2: the cells in which drawn control blocks of two numbers differ. Parity and the
+/// differential encoder add modulo 2, so which two numbers makes no difference beyond their own.
+fn other_number(draw: &mut Draw, mode: u64) -> Vec<usize> {
+    let change = 1 + draw.below(NUMBERS - 1);
+    let blocks = match draw.below(3) {
+        0 => 0..BLOCKS,
+        1 => draw.below(BLOCKS)..BLOCKS,
+        _ => {
+            let only = draw.below(BLOCKS);
+            only..only + 1
+        }
+    };
+    let mut cells = Vec::new();
+    for count in blocks {
+        let changed = unpack(&block(mode, count, change));
+        let plain = unpack(&block(mode, count, 0));
+        let start = 8 * BLOCK_BYTES * count as usize;
+        cells.extend(
+            (0..plain.len())
+                .filter(|&n| changed[n] != plain[n])
+                .map(|n| start + n),
+        );
+    }
+    cells
 }
 
 /// Damaged cells: of how many first L1 frames one is to be damaged alone: all, or of another P1

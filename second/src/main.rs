@@ -17,7 +17,7 @@ const COMMANDS: [(&str, &str); 23] = [
     ("read-on", "MODE COUNT"),
     ("cells", ""),
     ("all-cells", ""),
-    ("control", "MODE"),
+    ("control", "MODE NUMBER"),
     ("damage", "SEED MODE COUNT"),
     ("damage-before", "SEED MODE COUNT"),
     ("compare", "MODE COUNT FILE_A FILE_B"),
@@ -105,7 +105,7 @@ fn dispatch(
         }
         ("cells", _) => Ok(cells::list(&mut input, output)?),
         ("all-cells", _) => Ok(cells::all(output)?),
-        ("control", &[mode]) => commands::control_blocks(mode, output),
+        ("control", &[mode, number]) => commands::control_blocks(mode, number, output),
         ("damage", &[seed, mode, count]) => commands::damage(seed, mode, count, &mut input, output),
         ("damage-before", &[seed, mode, count]) => {
             commands::damage_before(seed, mode, count, &mut input, output)

@@ -1,7 +1,7 @@
 //! Documents 01 and 02, operations of a run: reading, the way back, with its refusals.
 
 use crate::coding::{decode, Rate};
-use crate::control::{block, BLOCK_BYTES};
+use crate::control::{block, number_of, BLOCK_BYTES};
 use crate::interleaving::{pm_coded_bits, PM_COLUMNS, PM_ROWS};
 use crate::modes::{Extended, Frames, Mode, BLOCK_PAIRS, EXTENDED_WAIT, PIDS};
 use crate::packing::{pack, unpack};
@@ -11,7 +11,11 @@ use crate::scrambling::scramble;
 
 /// Documents 01 and 02, operations: reads one L1 frame.
 pub fn read(state: State, lent: &mut Reading) -> Answer {
-    answer(try_read(state, lent), state)
+    let result = try_read(state, lent);
+    Answer {
+        reserved: result.as_ref().map_or(0, |state| state.reserved),
+        ..answer(result, state)
+    }
 }
 
 /// Documents 01 and 02, operations: a reading with its refusals 2 to 8; nothing is written before
@@ -19,7 +23,7 @@ pub fn read(state: State, lent: &mut Reading) -> Answer {
 fn try_read(state: State, lent: &mut Reading) -> Result<State, Refusal> {
     let mode = state.valid_mode()?;
     check_lengths(&lent.lengths(), &Side::Reader.lengths(mode))?;
-    judge_control(mode, lent.control)?;
+    let reserved = judge_control(mode, lent.control)?;
     let (u, pids) = pm_coded_bits(&unpack(lent.pm));
     let (p1, p2) = u.split_at(mode.p1.all_coded_bits());
     let p1 = read_p1(mode, state, p1, lent)?;
@@ -45,17 +49,20 @@ fn try_read(state: State, lent: &mut Reading) -> Result<State, Refusal> {
     lent.p2.copy_from_slice(&p2);
     remember(&mode.p3, lent.memory_p3, lent.px1);
     remember(&mode.p4, lent.memory_p4, lent.px2);
-    Ok(state.next(mode))
+    Ok(state.next(mode, reserved))
 }
 
-/// Document 01, refusal 4: every control block is the one of this mode and its count.
-fn judge_control(mode: &Mode, control: &[u8]) -> Result<(), Refusal> {
+/// Documents 01 and 02, refusal 4: every control block is the one of this mode, its count and one
+/// reserved number, which block 0 tells and which is handed back.
+fn judge_control(mode: &Mode, control: &[u8]) -> Result<u64, Refusal> {
+    let departs = |place| Refusal { number: 4, place };
+    let first = number_of(mode.number, 0, &control[..BLOCK_BYTES]).ok_or(departs(0))?;
     for (place, lent) in control.chunks(BLOCK_BYTES).enumerate() {
-        if lent != block(mode.number, place as u64) {
-            return Err(Refusal { number: 4, place });
+        if lent != block(mode.number, place as u64, first) {
+            return Err(departs(place));
         }
     }
-    Ok(())
+    Ok(first)
 }
 
 /// Documents 01 and 02, refusal 5: the scrambled P1 frames that PM brings, if each is a coded frame

@@ -3,7 +3,7 @@
 use std::ops::Deref;
 
 use crate::coding::{encode, Rate};
-use crate::control::control;
+use crate::control::{control, NUMBERS};
 use crate::interleaving::{pm_matrix, Partitions};
 use crate::modes::{Extended, Mode, PIDS};
 use crate::packing::{pack, unpack};
@@ -11,12 +11,14 @@ use crate::scrambling::scramble;
 
 pub use crate::reading::read;
 
-/// A run state: the mode, which half of the internal matrix comes next, and the age.
+/// A run state: the mode, which half of the internal matrix comes next, the age, and the last
+/// reserved number.
 #[derive(Clone, Copy, Debug, PartialEq, Eq)]
 pub struct State {
     pub mode: u64,
     pub half: u64,
     pub age: u64,
+    pub reserved: u64,
 }
 
 /// What a start, a sending or a reading returns.
@@ -25,6 +27,8 @@ pub struct Answer {
     pub number: u32,
     pub place: usize,
     pub state: State,
+    /// The reserved number of the L1 frame that a reading has read; 0 in any other answer.
+    pub reserved: u64,
 }
 
 /// The number and place of a refusal.
@@ -92,6 +96,7 @@ impl State {
             mode,
             half: 0,
             age: 0,
+            reserved: 0,
         }
     }
 
@@ -102,18 +107,23 @@ impl State {
             0 | 1 if self.age == mode.oldest_age() => true,
             half => self.age < mode.oldest_age() && half == self.age % 2,
         };
-        Mode::of_number(self.mode).filter(valid).ok_or(Refusal {
-            number: 2,
-            place: 0,
-        })
+        Mode::of_number(self.mode)
+            .filter(valid)
+            .filter(|_| self.reserved < NUMBERS)
+            .ok_or(Refusal {
+                number: 2,
+                place: 0,
+            })
     }
 
-    /// Documents 01 and 02, operations: the state after one more L1 frame of this mode.
-    pub(crate) fn next(self, mode: &Mode) -> State {
+    /// Documents 01 and 02, operations: the state after one more L1 frame of this mode, with its
+    /// reserved number.
+    pub(crate) fn next(self, mode: &Mode, reserved: u64) -> State {
         State {
             mode: self.mode,
             half: 1 - self.half,
             age: (self.age + 1).min(mode.oldest_age()),
+            reserved,
         }
     }
 }
@@ -125,11 +135,13 @@ pub(crate) fn answer(result: Result<State, Refusal>, otherwise: State) -> Answer
             number: 0,
             place: 0,
             state,
+            reserved: 0,
         },
         Err(refusal) => Answer {
             number: refusal.number,
             place: refusal.place,
             state: otherwise,
+            reserved: 0,
         },
     }
 }
@@ -181,14 +193,20 @@ fn try_start(side: Side, number: u64, memories: [&mut [u8]; 3]) -> Result<State,
     Ok(State::fresh(number))
 }
 
-/// Documents 01 and 02, operations: sends one L1 frame.
-pub fn send(state: State, lent: &mut Sending) -> Answer {
-    answer(try_send(state, lent), state)
+/// Documents 01 and 02, operations: sends one L1 frame with a reserved number.
+pub fn send(state: State, reserved: u64, lent: &mut Sending) -> Answer {
+    answer(try_send(state, reserved, lent), state)
 }
 
-/// Documents 01 and 02, operations: a sending with its refusals 2 and 3.
-fn try_send(state: State, lent: &mut Sending) -> Result<State, Refusal> {
+/// Documents 01 and 02, operations: a sending with its refusals 2, 9 and 3, in this order.
+fn try_send(state: State, reserved: u64, lent: &mut Sending) -> Result<State, Refusal> {
     let mode = state.valid_mode()?;
+    if reserved >= NUMBERS {
+        return Err(Refusal {
+            number: 9,
+            place: 0,
+        });
+    }
     check_lengths(&lent.lengths(), &Side::Sender.lengths(mode))?;
     let p1 = scramble_frames(mode.p1.bits, &unpack(lent.p1));
     let mut u = encode_frames(Rate::TwoFifths, mode.p1.bits, &p1);
@@ -202,8 +220,9 @@ fn try_send(state: State, lent: &mut Sending) -> Result<State, Refusal> {
     }
     send_extended(&mode.p3, state.half, lent.p3, lent.px1, lent.memory_p3);
     send_extended(&mode.p4, state.half, lent.p4, lent.px2, lent.memory_p4);
-    lent.control.copy_from_slice(&control(mode.number));
-    Ok(state.next(mode))
+    lent.control
+        .copy_from_slice(&control(mode.number, reserved));
+    Ok(state.next(mode, reserved))
 }
 
 /// Section 8: scrambles transfer frames, each by itself, or takes the scrambling off again.

@@ -1,6 +1,7 @@
 //! The commands of the program.
 
 use second::commands::{self, Stop};
+use second::control::control;
 
 /// The commands: the output of a drawn run's sending.
 fn sent(seed: u64, mode: u64, count: u64) -> (Vec<u8>, Vec<u8>) {
@@ -25,12 +26,12 @@ fn reading_returns_the_frames() {
     let (frames, matrices) = sent(1, 2, 5);
     let mut returned = Vec::new();
     commands::read(2, 5, &mut &matrices[..], &mut returned).unwrap();
-    let drawn: Vec<&[u8]> = frames.chunks(18_432 + 2_304).collect();
+    let drawn: Vec<&[u8]> = frames.chunks(1 + 18_432 + 2_304).collect();
     let mut expected = Vec::new();
     for t in 0..5 {
-        expected.extend(&drawn[t][..18_432]);
+        expected.extend(&drawn[t][..1 + 18_432]);
         if t >= 2 {
-            expected.extend(&drawn[t - 2][18_432..]);
+            expected.extend(&drawn[t - 2][1 + 18_432..]);
         }
     }
     assert!(returned == expected);
@@ -42,18 +43,19 @@ fn reading_returns_the_frames() {
 fn reading_returns_the_frames_of_two_paths() {
     for (mode, p1, p2, p3) in [(5, 4_608, 13_664, 4_608), (6, 9_216, 9_056, 0)] {
         let (frames, matrices) = sent(1, mode, 6);
-        assert_eq!(frames.len(), 6 * (p1 + 160 + p2 + p3));
+        assert_eq!(frames.len(), 6 * (1 + p1 + 160 + p2 + p3));
         let mut returned = Vec::new();
         commands::read(mode, 6, &mut &matrices[..], &mut returned).unwrap();
-        let drawn: Vec<&[u8]> = frames.chunks(p1 + 160 + p2 + p3).collect();
+        let drawn: Vec<&[u8]> = frames.chunks(1 + p1 + 160 + p2 + p3).collect();
         let mut expected = Vec::new();
         for t in 0..6 {
+            expected.push(drawn[t][0]);
             if t >= 3 {
-                expected.extend(&drawn[t - 3][..p1]);
+                expected.extend(&drawn[t - 3][1..1 + p1]);
             }
-            expected.extend(&drawn[t][p1..p1 + 160 + p2]);
+            expected.extend(&drawn[t][1 + p1..1 + p1 + 160 + p2]);
             if t >= 2 {
-                expected.extend(&drawn[t - 2][p1 + 160 + p2..]);
+                expected.extend(&drawn[t - 2][1 + p1 + 160 + p2..]);
             }
         }
         assert!(returned == expected);
@@ -70,7 +72,7 @@ fn reading_on() {
     let mut report = Vec::new();
     commands::read_on(1, 4, &mut &matrices[..], &mut returned, &mut report).unwrap();
     assert_eq!(report, b"refused: number 5 place 0 frame 1\n");
-    let drawn: Vec<&[u8]> = frames.chunks(18_432).collect();
+    let drawn: Vec<&[u8]> = frames.chunks(1 + 18_432).collect();
     assert!(returned == [drawn[0], drawn[2], drawn[3]].concat());
 }
 
@@ -78,8 +80,14 @@ fn reading_on() {
 #[test]
 fn short_input() {
     let (frames, matrices) = sent(1, 11, 2);
-    let frame_length = 18_272 + 160 + 2 * 4_608;
-    for (length, place) in [(0, 0), (18_272, 1), (18_432, 3), (18_432 + 4_608, 4)] {
+    let frame_length = 1 + 18_272 + 160 + 2 * 4_608;
+    for (length, place) in [
+        (0, 0),
+        (1, 0),
+        (18_273, 1),
+        (18_433, 3),
+        (18_433 + 4_608, 4),
+    ] {
         let mut input = &frames[..frame_length + length];
         let mut output = Vec::new();
         let stop = commands::send(11, 2, &mut input, &mut output);
@@ -97,8 +105,8 @@ fn short_input() {
 /// Short input in MP5 and MP6: P2 is place 2, PX2 place 7.
 #[test]
 fn short_input_of_two_paths() {
-    let mp5 = [(4_607, 0), (4_608, 1), (4_768, 2), (18_432, 3)];
-    let mp6 = [(9_215, 0), (9_216, 1), (9_376, 2), (18_431, 2)];
+    let mp5 = [(4_608, 0), (4_609, 1), (4_769, 2), (18_433, 3)];
+    let mp6 = [(9_216, 0), (9_217, 1), (9_377, 2), (18_432, 2)];
     for (mode, ends) in [(5, mp5), (6, mp6)] {
         let (frames, matrices) = sent(1, mode, 1);
         for (length, place) in ends {
@@ -110,6 +118,27 @@ fn short_input_of_two_paths() {
             assert_eq!(refusal(stop), (3, place, 0));
         }
     }
+}
+
+/// Document 02, S-2: a number above 7 is refused as 9, before a short input is, and the L1 frames
+/// before it are sent.
+#[test]
+fn numbers_too_high() {
+    let (mut frames, matrices) = sent(1, 1, 3);
+    for number in [8, 255] {
+        frames[1 + 18_432] = number;
+        for length in [2 * (1 + 18_432), 1 + 18_432 + 1] {
+            let mut output = Vec::new();
+            let stop = commands::send(1, 3, &mut &frames[..length], &mut output);
+            assert_eq!(refusal(stop), (9, 0, 1));
+            assert!(output == matrices[..matrices.len() / 3]);
+        }
+    }
+    let mut blocks = Vec::new();
+    commands::control_blocks(3, 5, &mut blocks).unwrap();
+    assert!(blocks == control(3, 5));
+    let stop = commands::control_blocks(3, 8, &mut Vec::new());
+    assert_eq!(refusal(stop), (9, 0, 0));
 }
 
 /// Damage: reproducible, now and then on one L1 frame only, never of other lengths.
@@ -131,7 +160,7 @@ fn damage() {
     assert!((25..50).contains(&one_only));
 }
 
-/// Damage in MP5 and MP6: every cause is met, and in 24 runs whose seeds follow each other there is
+/// Damage in MP5 and MP6: every cause is met, and in 26 runs whose seeds follow each other there is
 /// one in which L1 frame t alone is damaged and a reader finds it out only in L1 frame t + 3.
 #[test]
 fn damage_of_two_paths() {
@@ -139,7 +168,7 @@ fn damage_of_two_paths() {
         let (_, matrices) = sent(1, mode, 7);
         let frame_length = matrices.len() / 7;
         let mut met = Vec::new();
-        for seeds in [100..124, 124..148, 148..172] {
+        for seeds in [104..130, 130..156, 156..182] {
             let mut late = 0;
             for seed in seeds {
                 let mut damaged = Vec::new();
@@ -224,7 +253,7 @@ fn vectors() {
         rest = &rest[2 * length + coded..];
         frames = &frames[length..];
     }
-    let control: Vec<u8> = [1, 2, 3, 11].map(second::control::control).concat();
+    let control: Vec<u8> = [1, 2, 3, 11].map(|mode| control(mode, 0)).concat();
     assert!(rest == control);
     let stop = commands::vectors(&mut &input[..18_300], &mut Vec::new());
     assert_eq!(refusal(stop), (3, 1, 0));

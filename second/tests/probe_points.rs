@@ -186,21 +186,30 @@ fn scrambling_sequence() {
 /// mode's two ones and bit 8 make the last parity bit 1.
 #[test]
 fn control_sequence() {
-    assert_eq!(sequence(1, 0, 0), 0x6464_0702);
-    assert_eq!(sequence(5, 0, 0), 0x6464_070B);
-    assert_eq!(sequence(6, 0, 0), 0x6464_070D);
+    assert_eq!(sequence(1, 0, 0, 0), 0x6464_0702);
+    assert_eq!(sequence(5, 0, 0, 0), 0x6464_070B);
+    assert_eq!(sequence(6, 0, 0, 0), 0x6464_070D);
+    // Document 02, S-2: each bit of the number with the parity bit that follows it.
+    for (number, expected) in [
+        (1, 0x6464_0783),
+        (2, 0x6465_0F02),
+        (4, 0x65E4_0702),
+        (7, 0x65E5_0F83),
+    ] {
+        assert_eq!(sequence(1, 0, number, 0), expected);
+    }
     assert_eq!(differential(0x6464_0702), 0x47B8_05FC);
-    let column: Vec<bool> = block(1, 0).chunks(8).map(|row| row[0] >= 128).collect();
+    let column: Vec<bool> = block(1, 0, 0).chunks(8).map(|row| row[0] >= 128).collect();
     assert_eq!(pack(&column), [0x47, 0xB8, 0x05, 0xFC]);
 }
 
 /// Probe points: row 31 of an encoded control block is zero; so are the last three bits of a row.
 #[test]
 fn control_rows() {
-    for mode in MODES {
-        assert_eq!(control(mode).len(), 4_096);
+    for (mode, number) in MODES.into_iter().zip([0, 7, 2, 5, 1, 4]) {
+        assert_eq!(control(mode, number).len(), 4_096);
         for count in 0..16 {
-            let block = block(mode, count);
+            let block = block(mode, count, number);
             assert_eq!(block[31 * 8..], [0; 8]);
             assert!(block.chunks(8).all(|row| row[7] % 8 == 0));
         }
@@ -216,7 +225,8 @@ fn control_fields() {
         } else {
             [2, 3, 0, 1][column % 4]
         };
-        let r = sequence(11, 13, column);
+        let r = sequence(11, 13, 6, column);
+        assert_eq!((r >> 24 & 1, r >> 16 & 1, r >> 7 & 1), (1, 1, 0));
         assert_eq!((r >> 20) & 3, rsid);
         assert_eq!((r >> 12) & 15, 13);
         assert_eq!((r >> 1) & 63, 11);
@@ -231,15 +241,18 @@ fn control_fields() {
 fn control_lookup() {
     for mode in MODES {
         for count in 0..16 {
-            let found = lookup(&block(mode, count));
+            let number = (mode + 5 * count) % 8;
+            let found = lookup(&block(mode, count, number));
             assert_eq!((found.number, found.mode, found.count), (0, mode, count));
+            assert_eq!(found.reserved, number);
         }
     }
     for mode in [0, 4, 7, 12, 37] {
-        let refused = lookup(&block(mode, 3));
+        let refused = lookup(&block(mode, 3, 1));
         assert_eq!((refused.number, refused.mode, refused.count), (4, 0, 0));
+        assert_eq!(refused.reserved, 0);
     }
-    let mut damaged = block(3, 5);
+    let mut damaged = block(3, 5, 7);
     damaged[255] = 1;
     let refused = lookup(&damaged);
     assert_eq!((refused.number, refused.mode, refused.count), (4, 0, 0));

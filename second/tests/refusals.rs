@@ -4,6 +4,7 @@ mod common;
 
 use common::{reader_after, refused_reading, sent_run, Buffers};
 use common::{CONTROL, DELAY, MEMORY_P3, MEMORY_P4, MODES, NEWER, PM, PX1, PX2};
+use second::control::{block, control};
 use second::draw::Draw;
 use second::interleaving::{interleaver_one, interleaver_two, PX_MP3_MP11};
 use second::packing::flip;
@@ -22,6 +23,7 @@ fn start_lengths() {
                 assert_eq!((answer.number, answer.place), (3, place));
                 let state = answer.state;
                 assert_eq!((state.mode, state.half, state.age), (1, 0, 0));
+                assert_eq!(state.reserved, 0);
                 assert_eq!(buffers, before);
                 assert_eq!(buffers.start(side, 7).number, 1);
             }
@@ -42,7 +44,12 @@ fn states_not_valid() {
             if covered && valid {
                 continue;
             }
-            let state = State { mode, half, age };
+            let state = State {
+                mode,
+                half,
+                age,
+                reserved: 3,
+            };
             let fitting = if covered { mode } else { 1 };
             // A wrong length gives way to the state.
             let mut sender = Buffers::new(Side::Sender, fitting, 0x33);
@@ -66,6 +73,7 @@ fn lengths() {
             mode,
             half: 0,
             age: 0,
+            reserved: 7,
         };
         for place in 0..12 {
             let mut sender = Buffers::new(Side::Sender, mode, 0x33);
@@ -111,8 +119,60 @@ fn control_blocks() {
     reader.take_matrices(&sent[0]);
     reader.0[CONTROL].rotate_left(256);
     assert_eq!(refused_reading(&mut reader, state), (4, 0));
-    reader.0[CONTROL] = second::control::control(2);
+    reader.0[CONTROL] = control(2, 0);
     assert_eq!(refused_reading(&mut reader, state), (4, 0));
+}
+
+/// Document 02, S-2, refusal 4: the number is block 0's, and the first block of another departs.
+#[test]
+fn numbers_that_differ() {
+    let sent = sent_run(3, 1, 1);
+    for first in 0..8 {
+        for (other, place) in [(0, 1), (1, 1), (7, 7), (15, 15)] {
+            let (mut reader, state) = reader_after(3, &[]);
+            reader.take_matrices(&sent[0]);
+            reader.0[CONTROL] = control(3, first);
+            let number = (first + 1 + other % 7) % 8;
+            let start = 256 * other as usize;
+            let block = block(3, other, number);
+            reader.0[CONTROL][start..start + 256].copy_from_slice(&block);
+            assert_eq!(refused_reading(&mut reader, state), (4, place));
+            reader.0[CONTROL] = control(3, number);
+            let answer = reader.read(state);
+            assert_eq!((answer.number, answer.reserved), (0, number));
+            assert_eq!(answer.state.reserved, number);
+        }
+    }
+}
+
+/// Document 02, S-2: 9 comes after 2 and before 3, and a state that holds a number above 7 is not
+/// valid; a refusal keeps the number of the state.
+#[test]
+fn numbers_too_high() {
+    for mode in MODES {
+        let mut state = State {
+            mode,
+            half: 0,
+            age: 0,
+            reserved: 4,
+        };
+        for number in [8, 9, 255] {
+            let mut sender = Buffers::new(Side::Sender, mode, 0x33);
+            sender.1 = number;
+            sender.0[PX1].push(0);
+            let before = sender.clone();
+            let answer = sender.send(state);
+            assert_eq!((answer.number, answer.place), (9, 0));
+            assert_eq!((answer.state, sender.clone()), (state, before.clone()));
+            state.reserved = number;
+            let answer = sender.send(state);
+            assert_eq!((answer.number, answer.place), (2, 0));
+            assert_eq!((answer.state, sender), (state, before));
+            let mut reader = Buffers::new(Side::Reader, mode, 0x33);
+            assert_eq!(refused_reading(&mut reader, state), (2, 0));
+            state.reserved = 4;
+        }
+    }
 }
 
 /// Refusals 5 and 6: P1 before PIDS, the lowest PIDS frame.

@@ -34,7 +34,15 @@ fn frames_come_back() {
             state = answer.state;
             let half = (t as u64 + 1) % 2;
             let age = (t as u64 + 1).min(oldest_age);
-            assert_eq!(state, State { mode, half, age });
+            let reserved = sent[t].1;
+            assert_eq!(answer.reserved, reserved);
+            let expected = State {
+                mode,
+                half,
+                age,
+                reserved,
+            };
+            assert_eq!(state, expected);
             let p1 = if t < delay { &before } else { &sent[t - delay] };
             assert_eq!(reader.0[P1], p1.0[P1]);
             assert_eq!(reader.0[PIDS..P3], sent[t].0[PIDS..P3]);
@@ -67,10 +75,25 @@ fn sender_states() {
         let mut answer = sender.start(Side::Sender, mode);
         assert!(sender.0[MEMORY_P3..].concat().iter().all(|&byte| byte == 0));
         let (_, last) = delay_and_oldest_age(mode);
-        for (half, age) in [(1, 1), (0, 2), (1, last), (0, last), (1, last)] {
+        assert_eq!(answer.state.reserved, 0);
+        let states = [
+            (1, 1, 5),
+            (0, 2, 0),
+            (1, last, 7),
+            (0, last, 7),
+            (1, last, 2),
+        ];
+        for (half, age, reserved) in states {
+            sender.1 = reserved;
             answer = sender.send(answer.state);
             assert_eq!((answer.number, answer.place), (0, 0));
-            assert_eq!(answer.state, State { mode, half, age });
+            let expected = State {
+                mode,
+                half,
+                age,
+                reserved,
+            };
+            assert_eq!(answer.state, expected);
         }
     }
 }

@@ -85,14 +85,17 @@ fn coded(mode: &Mode, frames: &[u8]) -> Vec<[Vec<bool>; 4]> {
         extended(mode.p4.row),
     ];
     let code = |frame: &[u8]| {
-        let mut rest = frame;
+        let mut rest = &frame[1..];
         std::array::from_fn(|channel| {
             let (taken, later) = rest.split_at(lengths[channel]);
             rest = later;
             code_frames(rates[channel], bits[channel], taken)
         })
     };
-    frames.chunks(lengths.iter().sum()).map(code).collect()
+    frames
+        .chunks(1 + lengths.iter().sum::<usize>())
+        .map(code)
+        .collect()
 }
 
 /// The sheet: each value is the coded bit that its line names, and a bit of PX is shown in the

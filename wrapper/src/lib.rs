@@ -11,14 +11,18 @@ pub struct State {
     pub mode: u8,
     pub half: u8,
     pub age: u8,
+    /// Document 02, S-2: the last number sent or read.
+    pub reserved: u8,
 }
 
-/// What a start, a sending or a reading returns: number and place of the table of causes, and the state.
+/// What a start, a sending or a reading returns: number and place of the table of causes, the state, and of a reading the L1 frame's reserved
+/// number, 0 when refused.
 #[derive(Clone, Copy, Debug, PartialEq, Eq)]
 pub struct Outcome {
     pub number: u8,
     pub place: u32,
     pub state: State,
+    pub reserved: u8,
 }
 
 /// The two sides of a run.
@@ -114,13 +118,14 @@ pub struct FoundPx {
     pub bit: u32,
 }
 
-/// What a control block says; mode and count 0 when refused.
+/// What a control block says; mode, count and reserved number 0 when refused.
 #[derive(Clone, Copy, Debug, PartialEq, Eq)]
 pub struct LookedUp {
     pub number: u8,
     pub place: u32,
     pub mode: u8,
     pub count: u8,
+    pub reserved: u8,
 }
 
 /// What a call returns that has no state: number and place of the table of causes.
@@ -148,12 +153,14 @@ fn byte(word: u64, bit: u32) -> u8 {
 fn outcome(word: u64) -> Outcome {
     Outcome {
         number: byte(word, 0),
-        place: (word >> 32) as u32,
+        place: (word >> 32) as u32 & 0x00ff_ffff,
         state: State {
             mode: byte(word, 8),
             half: byte(word, 16),
             age: byte(word, 24),
+            reserved: byte(word, 56),
         },
+        reserved: 0,
     }
 }
 
@@ -201,14 +208,16 @@ pub fn start(
     })
 }
 
-/// Sends an L1 frame.
-pub fn send(state: State, lent: &mut Sending) -> Outcome {
+/// Sends an L1 frame with a reserved number, 0 to 7.
+pub fn send(state: State, reserved: u8, lent: &mut Sending) -> Outcome {
     // SAFETY: as in `start`.
     outcome(unsafe {
         raw::layer1_send(
             state.mode,
             state.half,
             state.age,
+            state.reserved,
+            reserved,
             lent.p1.as_ptr(),
             lent.p1.len(),
             lent.pids.as_ptr(),
@@ -240,11 +249,12 @@ pub fn send(state: State, lent: &mut Sending) -> Outcome {
 /// Reads an L1 frame.
 pub fn read(state: State, lent: &mut Reading) -> Outcome {
     // SAFETY: as in `start`.
-    outcome(unsafe {
+    let outcome = outcome(unsafe {
         raw::layer1_read(
             state.mode,
             state.half,
             state.age,
+            state.reserved,
             lent.p1.as_mut_ptr(),
             lent.p1.len(),
             lent.pids.as_mut_ptr(),
@@ -270,7 +280,15 @@ pub fn read(state: State, lent: &mut Reading) -> Outcome {
             lent.delay.as_mut_ptr(),
             lent.delay.len(),
         )
-    })
+    });
+    let reserved = match outcome.number {
+        0 => outcome.state.reserved,
+        _ => 0,
+    };
+    Outcome {
+        reserved,
+        ..outcome
+    }
 }
 
 /// The length of the buffer at a place of a sending or a reading; 0 past the last.
@@ -306,7 +324,14 @@ pub fn find_px(state: State, channel: u8, pair: usize, row: usize, column: usize
     // SAFETY: only numbers cross.
     let word = unsafe {
         raw::layer1_find_px(
-            state.mode, state.half, state.age, channel, pair, row, column,
+            state.mode,
+            state.half,
+            state.age,
+            state.reserved,
+            channel,
+            pair,
+            row,
+            column,
         )
     };
     FoundPx {
@@ -323,7 +348,7 @@ pub fn find_px(state: State, channel: u8, pair: usize, row: usize, column: usize
     }
 }
 
-/// Looks up the mode and the block count of one control block.
+/// Looks up the mode, the block count and the reserved number of one control block.
 pub fn lookup(block: &[u8]) -> LookedUp {
     // SAFETY: the pointer and the length are those of a slice.
     let word = unsafe { raw::layer1_lookup(block.as_ptr(), block.len()) };
@@ -332,6 +357,7 @@ pub fn lookup(block: &[u8]) -> LookedUp {
         place: (word >> 32) as u32,
         mode: byte(word, 8),
         count: byte(word, 16),
+        reserved: byte(word, 24),
     }
 }
 

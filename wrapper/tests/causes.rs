@@ -1,9 +1,9 @@
 //! The table of causes of documents 01 and 02, 4 to 8: readings of a run with bits turned over, and the number and place that the table
-//! gives.
+//! gives. Cause 9 is a sending's and stands in refusals.rs.
 
 mod common;
 
-use std::ops::RangeInclusive;
+use std::ops::{Range, RangeInclusive};
 
 use common::{done, drawn, refused, seed, sent, started, turn_over, Bit, Call};
 use common::{CONTROL, MATRICES, MODES, PM, PX1, PX2};
@@ -23,6 +23,46 @@ const U_FIRST: Bit = pm(192, 360);
 const U_LAST: Bit = pm(71, 206);
 const PIDS_0: Bit = pm(18, 361);
 const PIDS_15: Bit = pm(501, 208);
+
+/// By hand, Table 11-1 and section 11.3: a bit of the sequence and the parity bit that follows it turned over turn the rows of the block from
+/// the first on to before the second. Sequence bit 31 is row 0, so bits 7 and 0 are rows 24 and 31, 16 and 11 rows 15 and 20, 24 and 23 rows
+/// 7 and 8: for the reserved number's weights 1, 2 and 4.
+const WEIGHTS: [Range<usize>; 3] = [24..31, 15..20, 7..8];
+
+/// These rows of a control block.
+fn rows(block: usize, rows: Range<usize>) -> Vec<Bit> {
+    rows.flat_map(|row| (0..61).map(move |column| (CONTROL, 2_048 * block + 64 * row + column)))
+        .collect()
+}
+
+/// The number of these blocks changed by one weight.
+fn other_number(weight: usize, blocks: &[usize]) -> Vec<Bit> {
+    let changed = |&block: &usize| rows(block, WEIGHTS[weight].clone());
+    blocks.iter().flat_map(changed).collect()
+}
+
+/// Document 02, S-2, in every mode at every age: blocks of another number than block 0's, and one whose parity does not follow.
+fn numbers() -> Vec<Cause> {
+    vec![
+        (other_number(0, &[1]), 0..=3, 4, 1),
+        (other_number(1, &[8]), 0..=3, 4, 8),
+        (other_number(2, &[15]), 0..=3, 4, 15),
+        (other_number(0, &[12, 4]), 0..=3, 4, 4),
+        (other_number(1, &[0]), 0..=3, 4, 1),
+        (other_number(2, &[0, 1]), 0..=3, 4, 2),
+        (other_number(0, &[0, 1, 2, 4]), 0..=3, 4, 3),
+        (
+            [other_number(0, &[9]), vec![(CONTROL, 32_767)]].concat(),
+            0..=3,
+            4,
+            9,
+        ),
+        ([other_number(1, &[2]), vec![U_FIRST]].concat(), 0..=3, 4, 2),
+        (rows(0, 24..32), 0..=3, 4, 0),
+        (rows(7, 15..32), 0..=3, 4, 7),
+        (rows(11, 7..32), 0..=3, 4, 11),
+    ]
+}
 
 /// In every mode at every age; U's last bit is P1's, or P2's.
 fn every(last: u32) -> Vec<Cause> {
@@ -138,12 +178,19 @@ fn mp5() -> Vec<Cause> {
 
 fn causes(mode: u8) -> Vec<Cause> {
     let all = match mode {
-        1 => vec![every(0)],
-        2 | 3 => vec![every(0), extended(PX1, 0, 0)],
-        5 => vec![every(8), MP5.causes(), extended(PX1, 368_640, 0), mp5()],
-        6 => vec![every(8), MP6.causes()],
+        1 => vec![every(0), numbers()],
+        2 | 3 => vec![every(0), numbers(), extended(PX1, 0, 0)],
+        5 => vec![
+            every(8),
+            numbers(),
+            MP5.causes(),
+            extended(PX1, 368_640, 0),
+            mp5(),
+        ],
+        6 => vec![every(8), numbers(), MP6.causes()],
         _ => vec![
             every(0),
+            numbers(),
             extended(PX1, 0, 0),
             extended(PX2, 73_728, 8),
             mp11(),
@@ -172,6 +219,31 @@ fn table() {
                 }
             }
             state = done(Call::Read, state, &mut reader);
+        }
+    }
+}
+
+/// Control of one other number is another L1 frame and no cause: each weight alone and all three, changed in all sixteen blocks, change the
+/// number that the reading returns by as much, and nothing else.
+#[test]
+fn other_numbers() {
+    for mode in MODES {
+        let mut draw = Draw::new(seed() + u64::from(mode));
+        let sent = sent(&mut draw, mode, 4);
+        let mut reader = drawn(&mut draw, Side::Reader, mode);
+        let mut state = started(Side::Reader, mode, &mut reader);
+        for (frame, change) in sent.iter().zip([1, 2, 4, 7]) {
+            reader[MATRICES].clone_from_slice(&frame[MATRICES]);
+            let (mut undisturbed, before) = (reader.clone(), state);
+            let all: Vec<usize> = (0..16).collect();
+            for weight in (0..3).filter(|weight| change >> weight & 1 == 1) {
+                turn_over(&mut reader, &other_number(weight, &all));
+            }
+            state = done(Call::Read, before, &mut reader);
+            assert_eq!(state.reserved, frame.reserved ^ change, "MP{mode}");
+            done(Call::Read, before, &mut undisturbed);
+            undisturbed[CONTROL].clone_from(&reader[CONTROL]);
+            assert!(reader == undisturbed, "MP{mode}");
         }
     }
 }

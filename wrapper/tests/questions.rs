@@ -2,7 +2,7 @@
 
 mod common;
 
-use common::{drawn, seed, valid, MODES, PM, PX1, PX2, TWO_PATHS};
+use common::{drawn, drawn_number, seed, valid, MODES, PM, PX1, PX2, TWO_PATHS};
 use layer1::{Channel, Content, Found, FoundPx, LookedUp, Side, State};
 use second::draw::Draw;
 use second::interleaving::PxRow;
@@ -50,15 +50,21 @@ fn named(row: &PxRow, half: u8, age: u8) -> Vec<Option<(usize, usize)>> {
         .collect()
 }
 
-/// All cells of PX1 and PX2 in every state of the older modes.
+/// All cells of PX1 and PX2 in every mode, half and age of the older modes, whatever the state's number is.
 #[test]
 fn cells_of_px() {
+    let mut draw = Draw::new(seed());
     for mode in MODES.into_iter().filter(|mode| !TWO_PATHS.contains(mode)) {
         let known = Mode::of_number(mode.into()).unwrap();
         for (channel, extended) in [(3, known.p3), (4, known.p4)] {
             let Some(row) = extended.row else { continue };
             for &(half, age) in valid(mode) {
-                let state = State { mode, half, age };
+                let state = State {
+                    mode,
+                    half,
+                    age,
+                    reserved: drawn_number(&mut draw),
+                };
                 for (cell, name) in named(row, half, age).into_iter().enumerate() {
                     let (y, column) = (cell / row.width(), cell % row.width());
                     let mut expected = FoundPx {
@@ -89,12 +95,23 @@ fn cells_of_px() {
 /// The refusals of the finder of PX1 and PX2: the state, the channel (any in MP5 and MP6), the block pair, the row, the column.
 #[test]
 fn no_cells_of_px() {
-    for (mode, half, age) in [0, 1, 2, 3, 4, 5, 6, 7, 11, 12, 255]
+    let states = [0, 1, 2, 3, 4, 5, 6, 7, 11, 12, 255]
         .into_iter()
         .flat_map(|mode| (0..4).flat_map(move |half| (0..5).map(move |age| (mode, half, age))))
-    {
-        let state = State { mode, half, age };
-        let valid = MODES.contains(&mode) && valid(mode).contains(&(half, age));
+        .flat_map(|(mode, half, age)| {
+            [0, 7, 8, 255].map(|reserved| State {
+                mode,
+                half,
+                age,
+                reserved,
+            })
+        });
+    for state in states {
+        let State {
+            mode, half, age, ..
+        } = state;
+        let known = MODES.contains(&mode) && valid(mode).contains(&(half, age));
+        let valid = known && state.reserved < 8;
         for channel in [0, 1, 2, 3, 4, 5, 255] {
             let columns = match (mode, channel) {
                 (2, 3) => 72,
@@ -135,32 +152,43 @@ fn both_lookup(block: &[u8]) -> LookedUp {
         place: 0,
         mode: theirs.mode as u8,
         count: theirs.count as u8,
+        reserved: theirs.reserved as u8,
     };
     assert_eq!(ours, expected, "seed {}", seed());
     ours
 }
 
-/// All blocks of covered modes, damaged ones, blocks of other modes, and other lengths.
+/// All blocks of covered modes with every number, damaged ones, blocks of other modes, and other lengths.
 #[test]
 fn control_blocks() {
     let mut draw = Draw::new(seed());
     for mode in 0..64 {
+        let covered = MODES.iter().any(|&known| u64::from(known) == mode);
         for count in 0..16 {
-            let block = second::control::block(mode, count);
-            let covered = MODES.iter().any(|&known| u64::from(known) == mode);
-            let ours = both_lookup(&block);
-            let expected = if covered {
-                (0, mode as u8, count as u8)
-            } else {
-                (4, 0, 0)
-            };
-            assert_eq!((ours.number, ours.mode, ours.count), expected);
-            for _ in 0..if covered { 24 } else { 1 } {
-                let mut damaged = block.clone();
-                for _ in 0..1 + draw.below(3) {
-                    flip(&mut damaged, draw.below(2_048) as usize);
+            let numbers = match covered {
+                true => 0..8,
+                false => {
+                    let only = draw.below(8);
+                    only..only + 1
                 }
-                both_lookup(&damaged);
+            };
+            for reserved in numbers {
+                let block = second::control::block(mode, count, reserved);
+                let ours = both_lookup(&block);
+                let expected = if covered {
+                    (0, mode as u8, count as u8, reserved as u8)
+                } else {
+                    (4, 0, 0, 0)
+                };
+                let given = (ours.number, ours.mode, ours.count, ours.reserved);
+                assert_eq!(given, expected);
+                for _ in 0..if covered { 3 } else { 1 } {
+                    let mut damaged = block.clone();
+                    for _ in 0..1 + draw.below(3) {
+                        flip(&mut damaged, draw.below(2_048) as usize);
+                    }
+                    both_lookup(&damaged);
+                }
             }
         }
     }

@@ -1,9 +1,9 @@
-//! Lengths that are wrong, states that are not valid, and every start.
+//! Lengths that are wrong, states that are not valid, reserved numbers that are too high, and every start.
 
 mod common;
 
-use common::{both_start, drawn, refused, seed, valid, Call};
-use common::{DELAY, MEMORIES, MODES, PLACES};
+use common::{both_start, done, drawn, drawn_number, refused, seed, valid, Call};
+use common::{DELAY, MEMORIES, MODES, P1, PLACES, PX1};
 use layer1::{Side, State};
 use second::draw::Draw;
 use second::modes::Mode;
@@ -38,7 +38,13 @@ fn lengths() {
                     if age == 2 && place < DELAY {
                         buffers[DELAY].push(1);
                     }
-                    let state = State { mode, half, age };
+                    let reserved = drawn_number(&mut draw);
+                    let state = State {
+                        mode,
+                        half,
+                        age,
+                        reserved,
+                    };
                     let expected = (3, place as u32);
                     assert_eq!(refused(call, state, &mut buffers), expected);
                 }
@@ -91,7 +97,7 @@ fn lengths_told() {
     }
 }
 
-/// Every mode with every half and age near the valid ones: refused under 2, before any length.
+/// Every mode with every half and age near the valid ones: refused under 2, before any length or number.
 #[test]
 fn states() {
     let mut draw = Draw::new(seed());
@@ -100,6 +106,7 @@ fn states() {
             let right = drawn(&mut draw, call.side(), mode);
             let mut short = right.clone();
             short[0].pop();
+            short.reserved = 8;
             for (half, age) in [0, 1, 2, 3, 255]
                 .into_iter()
                 .flat_map(|half| [0, 1, 2, 3, 4, 255].map(|age| (half, age)))
@@ -107,10 +114,70 @@ fn states() {
                 if MODES.contains(&mode) && valid(mode).contains(&(half, age)) {
                     continue;
                 }
-                let state = State { mode, half, age };
+                let state = State {
+                    mode,
+                    half,
+                    age,
+                    reserved: right.reserved,
+                };
                 for mut buffers in [right.clone(), short.clone()] {
                     assert_eq!(refused(call, state, &mut buffers), (2, 0));
                 }
+            }
+        }
+    }
+}
+
+/// Document 02, S-2: a state with a number above 7 is not valid, and is judged before any length or number.
+#[test]
+fn states_with_a_number_too_high() {
+    let mut draw = Draw::new(seed());
+    for call in [Call::Send, Call::Read] {
+        for mode in MODES {
+            let mut buffers = drawn(&mut draw, call.side(), mode);
+            for (reserved, &(half, age)) in (8..=255).zip(valid(mode).iter().cycle()) {
+                let state = State {
+                    mode,
+                    half,
+                    age,
+                    reserved,
+                };
+                assert_eq!(refused(call, state, &mut buffers), (2, 0));
+                if reserved % 2 == 0 {
+                    buffers.reserved = reserved;
+                    resized(&mut buffers[P1], usize::from(reserved) / 2 % 2);
+                }
+            }
+        }
+    }
+}
+
+/// Document 02, S-2: a sending is refused under 9 for every number above 7 and for no other, before any length, whatever the state's number is.
+#[test]
+fn numbers_too_high() {
+    let mut draw = Draw::new(seed());
+    for mode in MODES {
+        let right = drawn(&mut draw, Side::Sender, mode);
+        for (reserved, &(half, age)) in (0..=255).zip(valid(mode).iter().cycle()) {
+            let state = State {
+                mode,
+                half,
+                age,
+                reserved: drawn_number(&mut draw),
+            };
+            let mut buffers = right.clone();
+            buffers.reserved = reserved;
+            if reserved > 7 {
+                assert_eq!(refused(Call::Send, state, &mut buffers), (9, 0));
+                buffers[P1].pop();
+                buffers[PX1].push(0);
+                assert_eq!(refused(Call::Send, state, &mut buffers), (9, 0));
+            } else {
+                let next = done(Call::Send, state, &mut buffers);
+                assert_eq!(next.reserved, reserved);
+                buffers[PX1].push(0);
+                let expected = (3, PX1 as u32);
+                assert_eq!(refused(Call::Send, state, &mut buffers), expected);
             }
         }
     }
@@ -136,6 +203,7 @@ fn start(side: Side, mode: u8, right: &[Vec<u8>], hows: [usize; 3]) {
     assert_eq!((outcome.number, outcome.place), answer);
     let state = outcome.state;
     assert_eq!((state.mode, state.half, state.age), (known, 0, 0));
+    assert_eq!((state.reserved, outcome.reserved), (0, 0));
     match answer {
         (0, _) => assert!(memories.concat().iter().all(|&byte| byte == 0)),
         _ => assert!(memories == before),

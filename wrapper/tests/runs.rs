@@ -2,8 +2,8 @@
 
 mod common;
 
-use common::{both, done, drawn, refused, seed, sent, started, valid, Buffers, Call};
-use common::{DELAY, FRAMES, MATRICES, MODES, PLACES, TWO_PATHS};
+use common::{both, done, drawn, drawn_number, refused, seed, sent, sent_of, started, valid};
+use common::{Buffers, Call, CONTROL, DELAY, FRAMES, MATRICES, MODES, PLACES, TWO_PATHS};
 use layer1::{Side, State};
 use second::draw::{Damage, Draw};
 use second::modes::Mode;
@@ -14,8 +14,8 @@ fn later(mode: u8) -> [usize; 5] {
     [p1, 0, 0, 2, 2]
 }
 
-/// What was sent is read back, each channel after its waiting time; before that its buffer keeps what it held. The delay memories of both
-/// sides are the same.
+/// What was sent is read back, the number at once and each channel after its waiting time; before that its buffer keeps what it held. The
+/// delay memories of both sides are the same.
 #[test]
 fn sent_and_read_back() {
     for mode in MODES {
@@ -28,6 +28,7 @@ fn sent_and_read_back() {
             reader[FRAMES].clone_from_slice(&kept[FRAMES]);
             reader[MATRICES].clone_from_slice(&buffers[MATRICES]);
             state = done(Call::Read, state, &mut reader);
+            assert_eq!(state.reserved, buffers.reserved, "L1 frame {t} of MP{mode}");
             assert!(reader[DELAY] == buffers[DELAY], "L1 frame {t} of MP{mode}");
             for (place, later) in later(mode).into_iter().enumerate() {
                 let expected = match t.checked_sub(later) {
@@ -43,14 +44,47 @@ fn sent_and_read_back() {
     }
 }
 
-/// Calls in place of the next one of a run that are refused: states that are not valid, and each length wrong.
+/// Two runs that differ in the number of one L1 frame alone: they have sent different control there, and the same everywhere else.
+#[test]
+fn one_number() {
+    for mode in MODES {
+        let mut draw = Draw::new(seed() + 400 + u64::from(mode));
+        let run = sent(&mut draw, mode, 5);
+        for change in 1..8 {
+            let at = usize::from(change) % run.len();
+            let mut frames = run.clone();
+            frames[at].reserved ^= change;
+            let other = sent_of(&mut draw, mode, &frames);
+            for (t, (one, other)) in run.iter().zip(&other).enumerate() {
+                let differing: Vec<usize> = PLACES.filter(|&n| one[n] != other[n]).collect();
+                let expected = if t == at { vec![CONTROL] } else { vec![] };
+                assert_eq!(differing, expected, "L1 frame {t} of MP{mode}");
+            }
+        }
+    }
+}
+
+/// Calls in place of the next one of a run that are refused: states that are not valid, numbers of a sending that are too high, and each
+/// length wrong.
 fn refused_calls(call: Call, state: State, buffers: &mut Buffers) {
     for state in [
         State { mode: 4, ..state },
         State { half: 2, ..state },
         State { age: 4, ..state },
+        State {
+            reserved: 8,
+            ..state
+        },
     ] {
         assert_eq!(refused(call, state, buffers), (2, 0));
+    }
+    if let Call::Send = call {
+        let handed = buffers.reserved;
+        for reserved in [8, 255] {
+            buffers.reserved = reserved;
+            assert_eq!(refused(call, state, buffers), (9, 0));
+        }
+        buffers.reserved = handed;
     }
     for place in PLACES {
         buffers[place].push(0);
@@ -72,7 +106,7 @@ fn between_refused_calls() {
         let mut reading = started(Side::Reader, mode, &mut reader);
         started(Side::Reader, mode, &mut undisturbed);
         for buffers in &run {
-            sender[FRAMES].clone_from_slice(&buffers[FRAMES]);
+            sender.take_frames(buffers);
             refused_calls(Call::Send, sending, &mut sender);
             sending = done(Call::Send, sending, &mut sender);
             assert!(sender == *buffers, "sent in MP{mode}");
@@ -96,7 +130,7 @@ fn damaged() {
     for mode in MODES {
         let mut draw = Draw::new(seed() + 100 + u64::from(mode));
         let run = sent(&mut draw, mode, COUNT as usize);
-        for n in 0..24 {
+        for n in 0..26 {
             let known = Mode::of_number(mode.into()).unwrap();
             let mut damage = Damage::new(seed() + n, known, COUNT);
             let mut reader = drawn(&mut draw, Side::Reader, mode);
@@ -127,7 +161,12 @@ fn from_any_state() {
     for mode in MODES {
         let mut draw = Draw::new(seed() + 200 + u64::from(mode));
         for &(half, age) in valid(mode) {
-            let state = State { mode, half, age };
+            let state = State {
+                mode,
+                half,
+                age,
+                reserved: drawn_number(&mut draw),
+            };
             let mut sender = drawn(&mut draw, Side::Sender, mode);
             let delay = sender[DELAY].clone();
             done(Call::Send, state, &mut sender);

@@ -9,7 +9,7 @@
 #include <ucontext.h>
 
 /* Five L1 frames meet every valid state. */
-enum { PLACES = LAYER1_DELAY + 1, MOST = 46080, COUNT = 5, STACK = 1 << 20, PAINT = 0xA5 };
+enum { PLACES = LAYER1_DELAY + 1, MOST = 46080, COUNT = 5, RESERVED = 7, STACK = 1 << 20, PAINT = 0xA5 };
 
 static uint8_t buffer[PLACES][MOST];
 static size_t len[PLACES];
@@ -19,19 +19,19 @@ static ucontext_t here, there;
 static const uint8_t zeros[200];
 
 #define LENT(place) buffer[place], len[place]
-#define STATE layer1_mode(word), layer1_half(word), layer1_age(word)
+#define STATE layer1_mode(word), layer1_half(word), layer1_age(word), layer1_last(word)
 #define MEMORIES LENT(LAYER1_MEMORY3), LENT(LAYER1_MEMORY4), LENT(LAYER1_DELAY)
 #define ALL LENT(LAYER1_P1), LENT(LAYER1_PIDS), LENT(LAYER1_P2), LENT(LAYER1_P3), LENT(LAYER1_P4), \
             LENT(LAYER1_PM), LENT(LAYER1_PX1), LENT(LAYER1_PX2), LENT(LAYER1_CONTROL), MEMORIES
 
-static void send(void) { word = layer1_send(STATE, ALL); }
+static void send(void) { word = layer1_send(STATE, RESERVED, ALL); }
 
 static void read(void) { word = layer1_read(STATE, ALL); }
 
 static void find(void)
 {
     layer1_find(511, 719);
-    layer1_find_px(11, 1, 2, 4, 7, 63, 143);
+    layer1_find_px(11, 1, 2, RESERVED, 4, 7, 63, 143);
     layer1_lookup(buffer[LAYER1_CONTROL], 256);
 }
 

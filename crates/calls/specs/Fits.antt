@@ -13,6 +13,7 @@ use Rattle.runs.specs.Lent.{Lent, Memory}
 pub record Fits (len : Kind → ℕ) (s : State) (m : Memory) (l : Lent) : Type 0 where
   pub mode-lt : s .mode < 64
   pub half-lt : s .half < 2
+  pub reserved-lt : l .frames .reserved < 8
   pub p1 : length (l .frames .p1) ≡ p1Len (mainOf (s .mode))
   pub pids : length (l .frames .pids) ≡ 160
   pub p2 : length (l .frames .p2) ≡ p2Len (mainOf (s .mode))

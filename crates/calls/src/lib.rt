@@ -21,5 +21,6 @@ pub use lengths::table_row;
 pub use starting::start_reader;
 pub use starting::start_sender;
 pub use states::Outcome;
+pub use states::ReadOutcome;
 pub use states::is_valid;
 pub use states::next_of;

@@ -7,10 +7,17 @@ ghost use mathlib.Core.Path.{_≡_};
 ghost use Prim.Native.Nat.{_+_, min};
 ghost use Rattle.runs.specs.Starting.{aged, fresh, next, valid};
 
-// What a start, a sending or a reading returns.
+// What a start or a sending returns.
 pub struct Outcome {
     pub answer: Answer,
     pub state: State,
+}
+
+// What a reading returns: also the L1 frame's reserved number, and 0 with any refusal.
+pub struct ReadOutcome {
+    pub answer: Answer,
+    pub state: State,
+    pub reserved: u8,
 }
 
 // The state before the first L1 frame.
@@ -21,6 +28,7 @@ pub fn fresh_state(mode: u8) -> State
         mode,
         half: 0,
         age: 0,
+        reserved: 0,
     }
 }
 
@@ -41,11 +49,14 @@ fn is_aged(last: u8, half: u8, age: u8) -> bool
 pub fn is_valid(state: State) -> bool
     ensures { λ r. ⌜ r ≡ valid state ⌝ }
 {
-    if control::is_covered(state.mode) {
-        let last = last_age(main_of(state.mode));
-        return is_aged(last, state.half, state.age);
+    if !control::is_covered(state.mode) {
+        return false;
     }
-    false
+    let last = last_age(main_of(state.mode));
+    if !is_aged(last, state.half, state.age) {
+        return false;
+    }
+    state.reserved < 8
 }
 
 fn next_age(last: u8, age: u8) -> u8
@@ -57,9 +68,9 @@ fn next_age(last: u8, age: u8) -> u8
     last
 }
 
-// The state after one more L1 frame.
-pub fn next_of(state: State) -> State
-    ensures { λ r. ⌜ r ≡ next state ⌝ }
+// The state after one more L1 frame, of this number.
+pub fn next_of(state: State, reserved: u8) -> State
+    ensures { λ r. ⌜ r ≡ next reserved state ⌝ }
 {
     let half = (state.half % 2 + 1) % 2;
     let last = last_age(main_of(state.mode));
@@ -67,5 +78,6 @@ pub fn next_of(state: State) -> State
         mode: state.mode,
         half,
         age: next_age(last, state.age),
+        reserved,
     }
 }

@@ -42,8 +42,8 @@ pub covered-place : (m : ℕ) → covered m ≡ true → Place modes m
 unfolding covered
 covered-place m e = place modes m e
 
-pub covered-at : (k : ℕ) → k < 6 → covered (getD modes k 0) ≡ true
-unfolding covered modes
+pub covered-at : (k : ℕ) → k < length modes → covered (getD modes k 0) ≡ true
+unfolding covered
 covered-at k h = one-of-at modes k h
 
 pub mode-lt : (k : ℕ) → getD modes k 0 < 64

@@ -9,7 +9,7 @@ use Rattle.bits.specs.Tests.{all}
 use Rattle.bits.proofs.Tests.{all-at}
 use Rattle.bits.proofs.Numbers.{number-cong, number-lt}
 use Rattle.control.specs.Control.{field, parity, sequence, assembled, stored, encoded, blockOf}
-use Rattle.control.specs.Words.{decoded}
+use Rattle.control.specs.Words.{decoded, reservedRead}
 use Rattle.control.proofs.Values.{number-field}
 use Rattle.control.proofs.Sequences.{assembled-lt}
 use Rattle.control.proofs.Packing.{rowBit-here, bitAt-row}
@@ -53,20 +53,23 @@ three-bits : (z : ℕ) → z < 8 → z / 4 / 1 % 2 * 4 + z / 2 / 1 % 2 * 2 + z /
 unfolding all
 three-bits z h = eqb→eq _ _ (all-at 8 (λ z. eqb (z / 4 / 1 % 2 * 4 + z / 2 / 1 % 2 * 2 + z / 1 % 2) z) tt z h)
 
-reserved-field : (m c z : ℕ) → z < 8
-    → decoded (blockOf m c z) 7 * 4 + decoded (blockOf m c z) 15 * 2 + decoded (blockOf m c z) 24 ≡ z
-unfolding assembled sequence field parity
+pub reserved-field : (m c z : ℕ) → z < 8 → reservedRead (blockOf m c z) ≡ z
+unfolding reservedRead assembled sequence field parity
 reserved-field m c z h =
     let at : (row : ℕ) → 0 < row → row < 32 → decoded (blockOf m c z) row ≡ assembled m c z 0 row = decoded-row m c z in
     ap₂ (λ (a b : ℕ). a + b) (ap₂ (λ (a b : ℕ). a * 4 + b * 2) (at 7 (omega arith) (omega arith)) (at 15 (omega arith) (omega arith)))
     (at 24 (omega arith) (omega arith))
     ∙ three-bits z h
 
--- Blocks of different modes, counts or reserved bits differ.
+pub reserved-read-lt : (block : List ℕ) → reservedRead block < 8
+unfolding reservedRead
+reserved-read-lt block = omega (arith, decoded-lt block 7, decoded-lt block 15, decoded-lt block 24)
+
+-- Blocks of different modes, counts or numbers differ.
 pub block-determines : (m c z m′ c′ z′ : ℕ) → m < 64 → c < 16 → z < 8 → m′ < 64 → c′ < 16 → z′ < 8
     → blockOf m c z ≡ blockOf m′ c′ z′ → (m ≡ m′) × (c ≡ c′) × (z ≡ z′)
 block-determines m c z m′ c′ z′ hm hc hz hm′ hc′ hz′ e = (
   sym (mode-field m c z hm) ∙ ap (λ (b : List ℕ). number 6 (λ i. decoded b (25 + i))) e ∙ mode-field m′ c′ z′ hm′,
   sym (count-field m c z hc) ∙ ap (λ (b : List ℕ). number 4 (λ i. decoded b (16 + i))) e ∙ count-field m′ c′ z′ hc′,
-  sym (reserved-field m c z hz) ∙ ap (λ (b : List ℕ). decoded b 7 * 4 + decoded b 15 * 2 + decoded b 24) e ∙ reserved-field m′ c′ z′ hz′,
+  sym (reserved-field m c z hz) ∙ ap reservedRead e ∙ reserved-field m′ c′ z′ hz′,
 )

@@ -1,22 +1,24 @@
--- A block of a covered mode and a count is found as that mode and count, and any other block as none. Assumes nothing.
+-- A block of a covered mode, a count and a number is found as these, and any other block as none. Assumes nothing.
 use mathlib.Core.Path.{_≡_, refl, sym, ap, ap₂, _∙_}
 use mathlib.Core.List.{List}
 use mathlib.Core.Bool.{Bool, true, false}
 use Prim.Native.Nat.{ℕ, _+_, _*_, _/_, _≤_, _<_}
 use native.Mathlib.Decide.{decLt}
 use native.Mathlib.Omega.{arith}
-use borrow.Author.Tests.{lt-ltb}
-use lib.ListN.{length, getD}
+use borrow.Author.Tests.{lt-ltb, le-ltb}
+use lib.Dec.{ltb}
+use lib.ListN.{getD}
 use Rattle.bits.specs.Bits.{number}
 use Rattle.bits.specs.Tests.{same, lowest}
 use Rattle.bits.proofs.Tests.{same-true, same-eq, same-ne, lowest-below, lowest-passes, lowest-none}
 use Rattle.control.specs.Control.{blockOf}
 use Rattle.control.specs.Modes.{modes, covered}
-use Rattle.control.specs.Lookup.{modeOf, countOf, lookedUp}
+use Rattle.control.specs.Lookup.{triples, modeOf, countOf, reservedOf, lookedUp}
+use Rattle.control.specs.declared.Looked.{Looked}
 use Rattle.control.specs.declared.Looked.the-variants.{Found, NotABlock}
-use Rattle.control.specs.Words.{decoded}
+use Rattle.control.specs.Words.{decoded, reservedRead}
 use Rattle.control.proofs.Covered.{covered-place, covered-at, mode-lt, covered-lt}
-use Rattle.control.proofs.Decoding.{mode-field, count-field, block-determines}
+use Rattle.control.proofs.Decoding.{mode-field, count-field, reserved-field, block-determines}
 
 -- belongs in bits
 lowest-le : (n : ℕ) (p : ℕ → Bool) (k : ℕ) → p k ≡ true → lowest n p ≤ k
@@ -26,81 +28,106 @@ lowest-le n p k e = go (decLt k (lowest n p))
     go (yes l) = let f : p k ≡ false = lowest-below n p k l in let z : _≡_ {A = ℕ} 0 1 = cc in omega arith
     go (no l) = omega arith
 
--- ---- the 96 pairs
+found-cong : {m m′ c c′ z z′ : ℕ} → m ≡ m′ → c ≡ c′ → z ≡ z′ → Found m c z ≡ Found m′ c′ z′
+found-cong e f g = λ i. Found (e i) (f i) (g i)
+
+block-cong : {m m′ c c′ z z′ : ℕ} → m ≡ m′ → c ≡ c′ → z ≡ z′ → blockOf m c z ≡ blockOf m′ c′ z′
+block-cong e f g = λ i. blockOf (e i) (f i) (g i)
+
+-- ---- the triples
 
 count-lt : (n : ℕ) → countOf n < 16
 unfolding countOf
 count-lt n = omega arith
 
-pair-covered : (n : ℕ) → n < 96 → covered (modeOf n) ≡ true
+reserved-lt : (n : ℕ) → reservedOf n < 8
+unfolding reservedOf
+reserved-lt n = omega arith
+
+triple-covered : (n : ℕ) → n < triples → covered (modeOf n) ≡ true
+unfolding modeOf triples
+triple-covered n h = covered-at (n / 128) (omega arith)
+
+triple-lt : (n : ℕ) → modeOf n < 64
 unfolding modeOf
-pair-covered n h = covered-at (n / 16) (omega arith)
+triple-lt n = mode-lt (n / 128)
 
-pair-mode : (k c : ℕ) → c < 16 → modeOf (k * 16 + c) ≡ getD modes k 0
-unfolding modeOf
-pair-mode k c h = let q : (k * 16 + c) / 16 ≡ k = omega arith in ap (λ (i : ℕ). getD modes i 0) q
+abbrev block : ℕ → List ℕ
+block n = blockOf (modeOf n) (countOf n) (reservedOf n)
 
-pair-count : (k c : ℕ) → c < 16 → countOf (k * 16 + c) ≡ c
-unfolding countOf
-pair-count k c h = omega arith
+-- the triple of a mode's place, a count and a number
+module _ (k c z : ℕ) (hc : c < 16) (hz : z < 8) where
+  abbrev triple : ℕ
+  triple = k * 128 + c * 8 + z
 
-modes-six : length modes ≡ 6
-unfolding modes
-modes-six = refl
+  triple-mode : modeOf triple ≡ getD modes k 0
+  unfolding modeOf
+  triple-mode = let q : triple / 128 ≡ k = omega arith in ap (λ (i : ℕ). getD modes i 0) q
 
-pair-lt : (n : ℕ) → modeOf n < 64
-unfolding modeOf
-pair-lt n = mode-lt (n / 16)
+  triple-count : countOf triple ≡ c
+  unfolding countOf
+  triple-count = omega arith
+
+  triple-reserved : reservedOf triple ≡ z
+  unfolding reservedOf
+  triple-reserved = omega arith
 
 -- ---- what is looked up
 
-pub looked-up-found : (block : List ℕ) (m c : ℕ) → covered m ≡ true → c < 16 → block ≡ blockOf m c 0 → lookedUp block ≡ Found m c
-unfolding lookedUp
-looked-up-found block m c cov hc e =
-    let p : ℕ → Bool = λ n. same block (blockOf (modeOf n) (countOf n) 0) in
+pub looked-up-found : (b : List ℕ) (m c z : ℕ) → covered m ≡ true → c < 16 → z < 8 → b ≡ blockOf m c z → lookedUp b ≡ Found m c z
+unfolding lookedUp triples
+looked-up-found b m c z cov hc hz e =
+    let p : ℕ → Bool = λ n. same b (block n) in
     let k = covered-place m cov in
-    let r : ℕ = k .at * 16 + c in
-    let mode-is : modeOf r ≡ m = pair-mode (k .at) c hc ∙ k .is in
-    let hit : p r ≡ true = same-eq block _ (e ∙ sym (ap₂ (λ (a b : ℕ). blockOf a b 0) mode-is (pair-count (k .at) c hc))) in
-    let n : ℕ = lowest 96 p in
-    let l : n < 96 = omega (arith, lowest-le 96 p r hit, modes-six) in
-    let same-block : blockOf (modeOf n) (countOf n) 0 ≡ blockOf m c 0 = sym (same-true block _ (lowest-passes 96 p l)) ∙ e in
-    let d =
-    block-determines (modeOf n) (countOf n) 0 m c 0 (pair-lt n) (count-lt n) (omega arith) (covered-lt m cov) hc (omega arith) same-block
+    let r : ℕ = k .at * 128 + c * 8 + z in
+    let hit : p r ≡ true =
+    same-eq b _ (e ∙ sym (block-cong (triple-mode (k .at) c z hc hz ∙ k .is) (triple-count (k .at) c z hc hz) (triple-reserved (k .at) c z hc hz)))
     in
-    rw (lt-ltb n 96 l) (ap₂ Found (d .0) (d .1))
+    let n : ℕ = lowest triples p in
+    let l : n < triples = omega (arith, lowest-le triples p r hit, k .inside) in
+    let d =
+    block-determines (modeOf n) (countOf n) (reservedOf n) m c z (triple-lt n) (count-lt n) (reserved-lt n) (covered-lt m cov) hc hz
+    (sym (same-true b _ (lowest-passes triples p l)) ∙ e)
+    in
+    rw (lt-ltb n triples l) (found-cong (d .0) (d .1) (d .2))
 
-looked-up-none : (block : List ℕ) → ((n : ℕ) → n < 96 → block ≡ blockOf (modeOf n) (countOf n) 0 → ⊥) → lookedUp block ≡ NotABlock
+looked-up-none : (b : List ℕ) → ((n : ℕ) → n < triples → b ≡ block n → ⊥) → lookedUp b ≡ NotABlock
 unfolding lookedUp
-looked-up-none block h =
-    rw (lowest-none 96 (λ n. same block (blockOf (modeOf n) (countOf n) 0)) (λ n l. same-ne block (blockOf (modeOf n) (countOf n) 0) (h n l)))
+looked-up-none b h = rw (lowest-none triples (λ n. same b (block n)) (λ n l. same-ne b (block n) (h n l)), no-below triples)
+  where
+    no-below : (n : ℕ) → ltb n n ≡ false
+    no-below n = le-ltb n n (omega arith)
 
--- the code's way: a block is that of the mode and the count which its column 0 says, or of none
-module _ (block : List ℕ) (m c : ℕ) (hm : m ≡ number 6 (λ i. decoded block (25 + i))) (hc : c ≡ number 4 (λ i. decoded block (16 + i))) where
-  mode-read : (n : ℕ) → block ≡ blockOf (modeOf n) (countOf n) 0 → m ≡ modeOf n
-  mode-read n e = hm ∙ ap (λ (b : List ℕ). number 6 (λ i. decoded b (25 + i))) e ∙ mode-field (modeOf n) (countOf n) 0 (pair-lt n)
+-- the code's way: a block is that of the mode, the count and the number which its column 0 says, or of none
+module _ (b : List ℕ) (m c z : ℕ) (hm : m ≡ number 6 (λ i. decoded b (25 + i))) (hc : c ≡ number 4 (λ i. decoded b (16 + i)))
+    (hz : z ≡ reservedRead b) where
+  read : (n : ℕ) → b ≡ block n → (m ≡ modeOf n) × (c ≡ countOf n) × (z ≡ reservedOf n)
+  read n e = (
+    hm ∙ ap (λ (b : List ℕ). number 6 (λ i. decoded b (25 + i))) e ∙ mode-field (modeOf n) (countOf n) (reservedOf n) (triple-lt n),
+    hc ∙ ap (λ (b : List ℕ). number 4 (λ i. decoded b (16 + i))) e ∙ count-field (modeOf n) (countOf n) (reservedOf n) (count-lt n),
+    hz ∙ ap reservedRead e ∙ reserved-field (modeOf n) (countOf n) (reservedOf n) (reserved-lt n),
+  )
 
-  count-read : (n : ℕ) → block ≡ blockOf (modeOf n) (countOf n) 0 → c ≡ countOf n
-  count-read n e = hc ∙ ap (λ (b : List ℕ). number 4 (λ i. decoded b (16 + i))) e ∙ count-field (modeOf n) (countOf n) 0 (count-lt n)
-
-  pub looked-up-uncovered : covered m ≡ false → lookedUp block ≡ NotABlock
+  pub looked-up-uncovered : covered m ≡ false → lookedUp b ≡ NotABlock
   looked-up-uncovered f =
-      looked-up-none block (λ n l e.
-      let t : covered m ≡ true = ap covered (mode-read n e) ∙ pair-covered n l in
+      looked-up-none b (λ n l e.
+      let t : covered m ≡ true = ap covered (read n e .0) ∙ triple-covered n l in
       let z : _≡_ {A = ℕ} 0 1 = cc in
       omega arith)
 
-  pub looked-up-other : same block (blockOf m c 0) ≡ false → lookedUp block ≡ NotABlock
+  pub looked-up-other : same b (blockOf m c z) ≡ false → lookedUp b ≡ NotABlock
   looked-up-other f =
-      looked-up-none block (λ n l e.
-      let t : same block (blockOf m c 0) ≡ true = same-eq block _ (e ∙ sym (ap₂ (λ (a b : ℕ). blockOf a b 0) (mode-read n e) (count-read n e))) in
+      looked-up-none b (λ n l e.
+      let r = read n e in
+      let t : same b (blockOf m c z) ≡ true = same-eq b _ (e ∙ sym (block-cong (r .0) (r .1) (r .2))) in
       let z : _≡_ {A = ℕ} 0 1 = cc in
       omega arith)
 
--- The lookup of the block of a covered mode and a count finds them.
-pub looked-up-block : (m c : ℕ) → covered m ≡ true → c < 16 → lookedUp (blockOf m c 0) ≡ Found m c
-looked-up-block m c cov hc = looked-up-found (blockOf m c 0) m c cov hc refl
+-- The lookup of the block of a covered mode, a count and a number finds them.
+pub looked-up-block : (m c z : ℕ) → covered m ≡ true → c < 16 → z < 8 → lookedUp (blockOf m c z) ≡ Found m c z
+looked-up-block m c z cov hc hz = looked-up-found (blockOf m c z) m c z cov hc hz refl
 
--- A block of no covered mode and count is found as none.
-pub looked-up-no-block : (block : List ℕ) → ((m c : ℕ) → covered m ≡ true → c < 16 → block ≡ blockOf m c 0 → ⊥) → lookedUp block ≡ NotABlock
-looked-up-no-block block h = looked-up-none block (λ n l e. h (modeOf n) (countOf n) (pair-covered n l) (count-lt n) e)
+-- A block of no covered mode, count and number is found as none.
+pub looked-up-no-block : (b : List ℕ) → ((m c z : ℕ) → covered m ≡ true → c < 16 → z < 8 → b ≡ blockOf m c z → ⊥) → lookedUp b ≡ NotABlock
+looked-up-no-block b h =
+    looked-up-none b (λ n l e. h (modeOf n) (countOf n) (reservedOf n) (triple-covered n l) (count-lt n) (reserved-lt n) e)

@@ -1,7 +1,7 @@
 -- The system control data sequence as a word of 32 bits: each parity bit is the count of ones under its mask, modulo 2, and the word is the sum of its fields by weight. Both are shown of a sequence whose parity bits are any bits, so they serve the word before the parities too. Assumes nothing.
 use mathlib.Core.Path.{_≡_, refl, sym, ap, _∙_}
 use mathlib.Core.List.{List, [], _∷_, _++_}
-use Prim.Native.Nat.{ℕ, _+_, _*_, _/_, _%_, _^_, _<_}
+use Prim.Native.Nat.{ℕ, _+_, _-_, _*_, _/_, _%_, _^_, _<_}
 use native.Mathlib.Omega.{arith}
 use lib.ListN.{length, getD}
 use lib.Bits.{bitAnd}
@@ -136,3 +136,8 @@ sequence-number m c z j x p₃ p₂ p₁ p₀ hm hc e e₃ e₂ e₁ e₀ =
     weights x _ p₃ p₂ p₁ p₀ (P₃ z) (P₂ j) (P₁ c z) (P₀ m z) e f₃ f₂ f₁ f₀
     ∙ sym (filled-number m c z j (P₃ z) (P₂ j) (P₁ c z) (P₀ m z) hm hc)
     ∙ sym (number-filled m c z j)
+
+-- S-2: the number's bits of weight 1, 2, 4 are sequence bits 7, 16, 24 in every column, which stand in rows 24, 15, 7.
+pub reserved-places : (m c z j : ℕ) → (assembled m c z j (31 - 7) ≡ z % 2) × (assembled m c z j (31 - 16) ≡ z / 2 % 2) × (assembled m c z j (31 - 24) ≡ z / 4 % 2)
+unfolding assembled sequence parity field
+reserved-places m c z j = (omega arith, omega arith, omega arith)

@@ -1,8 +1,8 @@
--- The lookup of document 01: what a control block alone says, by comparing it with the blocks of all 96 pairs of a covered mode and a count.
-use Prim.Native.Nat.{ℕ, _/_, _%_}
+-- The lookup of document 01 with S-2: what a control block alone says, by comparing it with the blocks of every covered mode, count and number.
+use Prim.Native.Nat.{ℕ, _*_, _/_, _%_}
 use mathlib.Core.List.{List}
 use mathlib.Core.Bool.{cond}
-use lib.ListN.{getD}
+use lib.ListN.{length, getD}
 use lib.Dec.{ltb}
 use Rattle.bits.specs.Tests.{lowest, same}
 use Rattle.control.specs.Modes.{modes}
@@ -10,15 +10,21 @@ use Rattle.control.specs.Control.{blockOf}
 use Rattle.control.specs.declared.Looked.{Looked}
 use Rattle.control.specs.declared.Looked.the-variants.{Found, NotABlock}
 
--- Pair n: sixteen counts with the first covered mode, then sixteen with the second, and so on.
+-- Triple n: for the first covered mode sixteen counts with eight numbers each, then as many for the second, and so on.
+unfoldable pub triples : ℕ
+triples = length modes * 128
+
 unfoldable pub modeOf : ℕ → ℕ
-modeOf n = getD modes (n / 16) 0
+modeOf n = getD modes (n / 128) 0
 
 unfoldable pub countOf : ℕ → ℕ
-countOf n = n % 16
+countOf n = n / 8 % 16
 
--- The first pair whose block this is. The reserved bits are 0.
+unfoldable pub reservedOf : ℕ → ℕ
+reservedOf n = n % 8
+
+-- The first triple whose block this is.
 unfoldable pub lookedUp : List ℕ → Looked
 lookedUp block =
-    let n : ℕ = lowest 96 (λ n. same block (blockOf (modeOf n) (countOf n) 0)) in
-    cond (ltb n 96) (Found (modeOf n) (countOf n)) NotABlock
+    let n : ℕ = lowest triples (λ n. same block (blockOf (modeOf n) (countOf n) (reservedOf n))) in
+    cond (ltb n triples) (Found (modeOf n) (countOf n) (reservedOf n)) NotABlock

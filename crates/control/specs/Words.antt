@@ -23,3 +23,7 @@ across words n = getD words (n % 64) 0 / 2 ^ (31 - n / 64) % 2
 -- Of a packed block, the bit of column 0 at a row from 1 on, before differential encoding.
 unfoldable pub decoded : List ℕ → ℕ → ℕ
 decoded block row = (bitAt block (row * 64) + bitAt block ((row - 1) * 64)) % 2
+
+-- The three reserved bits of column 0 as a number: sequence bits 24, 16 and 7.
+unfoldable pub reservedRead : List ℕ → ℕ
+reservedRead block = decoded block 7 * 4 + decoded block 15 * 2 + decoded block 24

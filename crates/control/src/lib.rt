@@ -8,9 +8,9 @@ ghost use Rattle.bits.specs.Bits.{number, byteOf};
 ghost use Rattle.bits.specs.Tests.{same, lowest};
 ghost use Rattle.control.specs.Modes.{covered};
 ghost use Rattle.control.specs.Control.{rsid, assembled, rowBit, blockOf, controlOf};
-ghost use Rattle.control.specs.Departs.{departs};
+ghost use Rattle.control.specs.Departs.{departs, numberIn, strays};
 ghost use Rattle.control.specs.Lookup.{lookedUp};
-ghost use Rattle.control.specs.Words.{plain, Columns, across, decoded};
+ghost use Rattle.control.specs.Words.{plain, Columns, across, decoded, reservedRead};
 
 // Table 11-3: the two rows of four, by the column's number after division by 4.
 const TO_30: [u32; 4] = [0b10, 0b01, 0b00, 0b11];
@@ -163,7 +163,7 @@ pub fn block_is(mode: u8, count: u8, reserved: u8, block: &[u8]) -> bool
 }
 
 // The lowest block that is not the one of this mode, its count and these reserved bits, or 16.
-pub fn first_departing(mode: u8, reserved: u8, control: &[u8]) -> u8
+fn departing_from(mode: u8, reserved: u8, control: &[u8]) -> u8
     requires { ⌜ (mode < 64) × (reserved < 8) × (length (now control) ≡ 4096) ⌝ }
     ensures { λ r. ⌜ r ≡ lowest 16 (departs mode reserved (now (control .entry))) ⌝ }
 {
@@ -181,7 +181,7 @@ pub fn first_departing(mode: u8, reserved: u8, control: &[u8]) -> u8
 
 // What a control block alone says.
 pub enum Looked {
-    Found { mode: u8, count: u8 },
+    Found { mode: u8, count: u8, reserved: u8 },
     NotABlock,
 }
 
@@ -209,6 +209,39 @@ fn field_at(block: &[u8], row: usize, k: usize) -> u8
     x
 }
 
+// The reserved bits of column 0 as a number.
+fn reserved_at(block: &[u8]) -> u8
+    requires { ⌜ length (now block) ≡ 256 ⌝ }
+    ensures { λ r. ⌜ (r ≡ reservedRead (now (block .entry))) × (r < 8) ⌝ }
+{
+    let z2 = decoded_at(block, 7);
+    let z1 = decoded_at(block, 15);
+    let z0 = decoded_at(block, 24);
+    z2 * 4 + z1 * 2 + z0
+}
+
+// The number of an L1 frame's control: that of block 0, by its reserved bits and one comparison.
+pub fn number_in(mode: u8, control: &[u8]) -> u8
+    requires { ⌜ (mode < 64) × (length (now control) ≡ 4096) ⌝ }
+    ensures { λ r. ⌜ (r ≡ numberIn mode (now (control .entry))) × (r < 8) ⌝ }
+{
+    let reserved = reserved_at(&control[0..256]);
+    let carried = block_is(mode, 0, reserved, &control[0..256]);
+    if !carried {
+        return 0;
+    }
+    reserved
+}
+
+// The lowest block that is not the one of this mode, its count and the number of block 0, or 16.
+pub fn first_departing(mode: u8, control: &[u8]) -> u8
+    requires { ⌜ (mode < 64) × (length (now control) ≡ 4096) ⌝ }
+    ensures { λ r. ⌜ r ≡ lowest 16 (strays mode (now (control .entry))) ⌝ }
+{
+    let reserved = number_in(mode, control);
+    departing_from(mode, reserved, control)
+}
+
 // Whether the mode is MP1, MP2, MP3, MP11, MP5 or MP6.
 pub fn is_covered(mode: u8) -> bool
     ensures { λ r. ⌜ r ≡ covered mode ⌝ }
@@ -231,20 +264,25 @@ pub fn is_covered(mode: u8) -> bool
     mode == 6
 }
 
-// The mode and count of a block, by the fields of its column 0 and one comparison.
+// The mode, count and number of a block, by the fields of its column 0 and one comparison.
 pub fn lookup(block: &[u8]) -> Looked
     requires { ⌜ length (now block) ≡ 256 ⌝ }
     ensures { λ r. ⌜ r ≡ lookedUp (now (block .entry)) ⌝ }
 {
     let mode = field_at(block, 25, 6);
     let count = field_at(block, 16, 4);
+    let reserved = reserved_at(block);
     let known = is_covered(mode);
     if !known {
         return Looked::NotABlock;
     }
-    let equal = block_is(mode, count, 0, block);
+    let equal = block_is(mode, count, reserved, block);
     if !equal {
         return Looked::NotABlock;
     }
-    Looked::Found { mode, count }
+    Looked::Found {
+        mode,
+        count,
+        reserved,
+    }
 }

@@ -1,9 +1,11 @@
 -- The fields of a word are what it was made of: the shifts and masks of `include/layer1.h`, as quotients and remainders. Assumes nothing.
 use Prim.Native.Nat.{ℕ, _^_, _/_, _%_, _<_}
-use mathlib.Core.Path.{_≡_}
+use mathlib.Core.Path.{_≡_, ap, ap₂, _∙_}
+use mathlib.Core.Bool.{cond}
 use native.Mathlib.Omega.{arith}
+use lib.Dec.{eqb}
 use Rattle.runs.specs.declared.Answer.{Answer}
-use Rattle.runs.specs.declared.Answer.the-variants.{Success, ModeNotCovered, StateNotValid, WrongLength, WrongControl, MainNotCoded, PidsNotCoded, FillNotZero, ExtendedNotCoded, SharesTooMany, SymbolTooHigh, ScaleNotUsable, NoFrameFits, SeveralFit, WrongBudget}
+use Rattle.runs.specs.declared.Answer.the-variants.{Success, ModeNotCovered, StateNotValid, WrongLength, WrongControl, MainNotCoded, PidsNotCoded, FillNotZero, ExtendedNotCoded, ReservedTooHigh, SharesTooMany, SymbolTooHigh, ScaleNotUsable, NoFrameFits, SeveralFit, WrongBudget}
 use Rattle.runs.specs.declared.State.{State}
 use Rattle.runs.specs.Answers.{numberOf, placeOf}
 use Rattle.queries.specs.Finder.{Channel, none, p1, pids}
@@ -11,7 +13,7 @@ use Rattle.queries.specs.Finder as Finder
 use Rattle.queries.specs.FinderPX.{Content, none as nothing, coded, fill}
 use Rattle.queries.specs.FinderPX as FinderPX
 use Rattle.queries.specs.Lookup as Lookup
-use Rattle.exported.specs.Words.{answerWord, channelNumber, contentNumber, outcomeWord, foundWord, foundPxWord, lookedUpWord}
+use Rattle.exported.specs.Words.{answerWord, channelNumber, contentNumber, numberRead, outcomeWord, foundWord, foundPxWord, lookedUpWord}
 use Rattle.exported.proofs.Findings.{Small, SmallPX}
 
 pub number-lt : (a : Answer) → numberOf a < 2 ^ 8
@@ -24,6 +26,7 @@ number-lt (MainNotCoded k) = omega arith
 number-lt (PidsNotCoded k) = omega arith
 number-lt (FillNotZero k) = omega arith
 number-lt (ExtendedNotCoded k) = omega arith
+number-lt ReservedTooHigh = omega arith
 number-lt SharesTooMany = omega arith
 number-lt SymbolTooHigh = omega arith
 number-lt (ScaleNotUsable k) = omega arith
@@ -35,16 +38,27 @@ number-lt WrongBudget = omega arith
 abbrev pub byte : ℕ → ℕ → ℕ
 byte word at = word / at % 2 ^ 8
 
-pub outcome-fields : (a : Answer) (s : State) → s .mode < 2 ^ 8 → s .half < 2 ^ 8 → s .age < 2 ^ 8
+pub outcome-fields : (a : Answer) (s : State) → s .mode < 2 ^ 8 → s .half < 2 ^ 8 → s .age < 2 ^ 8 → placeOf a < 2 ^ 24
     → (outcomeWord a s % 2 ^ 8 ≡ numberOf a)
     × (byte (outcomeWord a s) (2 ^ 8) ≡ s .mode)
     × (byte (outcomeWord a s) (2 ^ 16) ≡ s .half)
     × (byte (outcomeWord a s) (2 ^ 24) ≡ s .age)
-    × (outcomeWord a s / 2 ^ 32 ≡ placeOf a)
+    × (outcomeWord a s / 2 ^ 32 % 2 ^ 24 ≡ placeOf a)
+    × (outcomeWord a s / 2 ^ 56 ≡ s .reserved)
 unfolding outcomeWord
-outcome-fields a s m h g =
+outcome-fields a s m h g p =
     let n = number-lt a in
-    (omega arith, omega arith, omega arith, omega arith, omega arith)
+    (omega arith, omega arith, omega arith, omega arith, omega arith, omega arith)
+
+-- so is the number that a reading returned
+pub number-told : (a : Answer) (s : State) (r : ℕ) → s .mode < 2 ^ 8 → s .half < 2 ^ 8 → s .age < 2 ^ 8 → placeOf a < 2 ^ 24 → r ≡ outcomeWord a s
+    → (r ≡ outcomeWord a s) × (numberRead r ≡ cond (eqb (numberOf a) 0) (s .reserved) 0)
+unfolding numberRead
+number-told a s r m h g p e =
+    let f = outcome-fields a s m h g p in
+    let n : r % 2 ^ 8 ≡ numberOf a = ap (λ (w : ℕ). w % 2 ^ 8) e ∙ f .0 in
+    let z : r / 2 ^ 56 ≡ s .reserved = ap (λ (w : ℕ). w / 2 ^ 56) e ∙ f .5 in
+    (e, ap₂ (λ (x y : ℕ). cond (eqb x 0) y 0) n z)
 
 -- the number that stands for a channel or a content
 channel-lt : (c : Channel) → channelNumber c < 2 ^ 8
@@ -80,13 +94,14 @@ found-px-fields v n (p, f, e, b) =
     let c = content-lt (v .content) in
     (omega arith, omega arith, omega arith, omega arith, omega arith, omega arith)
 
-pub looked-up-fields : (v : Lookup.Values) → v .number < 2 ^ 8 → v .mode < 2 ^ 8 → v .count < 2 ^ 8
+pub looked-up-fields : (v : Lookup.Values) → v .number < 2 ^ 8 → v .mode < 2 ^ 8 → v .count < 2 ^ 8 → v .reserved < 2 ^ 8
     → (lookedUpWord v % 2 ^ 8 ≡ v .number)
     × (byte (lookedUpWord v) (2 ^ 8) ≡ v .mode)
     × (byte (lookedUpWord v) (2 ^ 16) ≡ v .count)
+    × (byte (lookedUpWord v) (2 ^ 24) ≡ v .reserved)
     × (lookedUpWord v / 2 ^ 32 ≡ v .place)
 unfolding lookedUpWord
-looked-up-fields v n m c = (omega arith, omega arith, omega arith, omega arith)
+looked-up-fields v n m c z = (omega arith, omega arith, omega arith, omega arith, omega arith)
 
 pub answer-fields : (a : Answer) → (answerWord a % 2 ^ 8 ≡ numberOf a) × (answerWord a / 2 ^ 32 ≡ placeOf a)
 unfolding answerWord

@@ -106,7 +106,7 @@ foundPX-small s channel pair row column =
 -- ---- control blocks
 
 told-place : (looked : Looked) → valuesOfBlock (toldOfBlock looked) .place ≡ 0
-told-place (Found mode count) = refl
+told-place (Found mode count reserved) = refl
 told-place NotABlock = refl
 
 pub lookup-place : (block : List ℕ) → valuesOfBlock (lookupOf block) .place < 2 ^ 8

@@ -10,10 +10,10 @@ use lib.ListN.{length}
 use lib.Ieee.{Float}
 use borrow.Author.Tests.{ltb-true}
 use Rattle.bits.specs.Tests.{lowest}
-use Rattle.control.specs.Departs.{departs}
+use Rattle.control.specs.Departs.{strays}
 use Rattle.control.specs.Modes.{covered}
 use Rattle.runs.specs.declared.Answer.{Answer}
-use Rattle.runs.specs.declared.Answer.the-variants.{Success, ModeNotCovered, StateNotValid, WrongLength, WrongControl, MainNotCoded, PidsNotCoded, FillNotZero, ExtendedNotCoded, SharesTooMany, SymbolTooHigh, ScaleNotUsable, NoFrameFits, SeveralFit, WrongBudget}
+use Rattle.runs.specs.declared.Answer.the-variants.{Success, ModeNotCovered, StateNotValid, WrongLength, WrongControl, MainNotCoded, PidsNotCoded, FillNotZero, ExtendedNotCoded, ReservedTooHigh, SharesTooMany, SymbolTooHigh, ScaleNotUsable, NoFrameFits, SeveralFit, WrongBudget}
 use Rattle.runs.specs.declared.Extended.the-variants.{P3, P4}
 use Rattle.runs.specs.declared.Kind.{Kind}
 use Rattle.runs.specs.declared.Kind.the-variants.{Unused, Narrow, Wide}
@@ -38,17 +38,17 @@ use Rattle.mapping.specs.Vector.{Vector, answerOf, admitted, filled, imaginaryP
 
 data Below : Option ℕ → Type 0 where
   nowhere : Below none
-  there : (k : ℕ) → k < 2 ^ 32 → Below (some k)
+  there : (k : ℕ) → k < 2 ^ 24 → Below (some k)
 
 data Small : Option Answer → Type 0 where
   not-met : Small none
-  met : (answer : Answer) → placeOf answer < 2 ^ 32 → Small (some answer)
+  met : (answer : Answer) → placeOf answer < 2 ^ 24 → Small (some answer)
 
 data All : List (Option Answer) → Type 0 where
   end : All []
   and : {cause : Option Answer} {rest : List (Option Answer)} → Small cause → All rest → All (cause ∷ rest)
 
-judged : {causes : List (Option Answer)} → All causes → placeOf (judge causes) < 2 ^ 32
+judged : {causes : List (Option Answer)} → All causes → placeOf (judge causes) < 2 ^ 24
 unfolding judge
 judged end = omega arith
 judged (and not-met rest) = judged rest
@@ -66,7 +66,7 @@ below-cond : (t : Bool) {o o′ : Option ℕ} → Below o → Below o′ → Bel
 below-cond true h l = h
 below-cond false h l = l
 
-below-first : (n : ℕ) (bad : ℕ → Bool) → n ≤ 2 ^ 32 → Below (first n bad)
+below-first : (n : ℕ) (bad : ℕ → Bool) → n ≤ 2 ^ 24 → Below (first n bad)
 unfolding first
 below-first n bad l = go (ltb (lowest n bad) n) refl
   where
@@ -74,7 +74,7 @@ below-first n bad l = go (ltb (lowest n bad) n) refl
     go true e = there (lowest n bad) (omega (arith, ltb-true (lowest n bad) n e))
     go false e = nowhere
 
-below-wrong : (k : ℕ) (sizes : List Size) → k + length sizes < 2 ^ 32 → Below (wrong k sizes)
+below-wrong : (k : ℕ) (sizes : List Size) → k + length sizes < 2 ^ 24 → Below (wrong k sizes)
 unfolding wrong
 below-wrong k [] h = nowhere
 below-wrong k (size have want ∷ rest) h = below-cond (eqb have want) (below-wrong (suc k) rest (omega arith)) (there k (omega arith))
@@ -126,7 +126,7 @@ below-frame s after = below-first 16 _ (omega arith)
 
 -- ---- the steps: a success has place 0, a refusal that of its answer
 
-either : {A : Type 0} (place : A → ℕ) (a : Answer) (done other : A) → place done < 2 ^ 32 → place other < 2 ^ 32 → place (onSuccess a done other) < 2 ^ 32
+either : {A : Type 0} (place : A → ℕ) (a : Answer) (done other : A) → place done < 2 ^ 24 → place other < 2 ^ 24 → place (onSuccess a done other) < 2 ^ 24
 unfolding onSuccess
 either place Success done other h l = h
 either place ModeNotCovered done other h l = l
@@ -137,6 +137,7 @@ either place (MainNotCoded k) done other h l = l
 either place (PidsNotCoded k) done other h l = l
 either place (FillNotZero k) done other h l = l
 either place (ExtendedNotCoded k) done other h l = l
+either place ReservedTooHigh done other h l = l
 either place SharesTooMany done other h l = l
 either place SymbolTooHigh done other h l = l
 either place (ScaleNotUsable k) done other h l = l
@@ -144,31 +145,32 @@ either place NoFrameFits done other h l = l
 either place SeveralFit done other h l = l
 either place WrongBudget done other h l = l
 
-small-lengths : (sizes : List Size) → length sizes < 2 ^ 32 → Small (at WrongLength (wrong 0 sizes))
+small-lengths : (sizes : List Size) → length sizes < 2 ^ 24 → Small (at WrongLength (wrong 0 sizes))
 small-lengths sizes h = small-at WrongLength (λ k. refl) (below-wrong 0 sizes (omega arith))
 
-pub start-place : (len : Kind → ℕ) (mode : ℕ) (m : Memory) → placeOf (start len mode m .answer) < 2 ^ 32
+pub start-place : (len : Kind → ℕ) (mode : ℕ) (m : Memory) → placeOf (start len mode m .answer) < 2 ^ 24
 unfolding start startAnswer memorySizes
 start-place len mode m =
     either (λ g. placeOf (g .answer)) _ (started len mode) _ (omega arith)
     (judged (and (small-when (not (covered mode)) ModeNotCovered refl)
     (and (small-lengths (memorySizes len mode m) (omega arith)) end)))
 
-pub send-place : (s : State) (m : Memory) (l : Lent) → placeOf (sendStep s m l .answer) < 2 ^ 32
+pub send-place : (s : State) (m : Memory) (l : Lent) → placeOf (sendStep s m l .answer) < 2 ^ 24
 unfolding sendStep sendAnswer sent lentSizes memorySizes
 send-place s m l =
     either (λ g. placeOf (g .answer)) _ (sent s m l) _ (omega arith)
     (judged (and (small-when (not (valid s)) StateNotValid refl)
-    (and (small-lengths (lentSizes (s .mode) l ++ memorySizes senderLen (s .mode) m) (omega arith)) end)))
+    (and (small-when (not (ltb (l .frames .reserved) 8)) ReservedTooHigh refl)
+    (and (small-lengths (lentSizes (s .mode) l ++ memorySizes senderLen (s .mode) m) (omega arith)) end))))
 
-pub read-place : (s : State) (m : Memory) (l : Lent) → placeOf (readStep s m l .answer) < 2 ^ 32
+pub read-place : (s : State) (m : Memory) (l : Lent) → placeOf (readStep s m l .answer) < 2 ^ 24
 unfolding readStep readAnswer received lentSizes memorySizes
 read-place s m l =
     let x = l .signal .matrices in
     either (λ g. placeOf (g .answer)) _ (received s m l) _ (omega arith)
     (judged (and (small-when (not (valid s)) StateNotValid refl)
     (and (small-lengths (lentSizes (s .mode) l ++ memorySizes readerLen (s .mode) m) (omega arith))
-    (and (small-at WrongControl (λ k. refl) (below-first 16 (departs (s .mode) 0 (l .signal .control)) (omega arith)))
+    (and (small-at WrongControl (λ k. refl) (below-first 16 (strays (s .mode) (l .signal .control)) (omega arith)))
     (and (small-at MainNotCoded (λ k. refl) (below-main s m x))
     (and (small-at PidsNotCoded (λ k. refl) (below-first 16 (pidsBad (x .pm)) (omega arith)))
     (and (small-fill s x)
@@ -179,7 +181,7 @@ small-scale : (t : Bool) (k : ℕ) → k < 2 → Small (when t (ScaleNotUsable k
 small-scale true k h = met (ScaleNotUsable k) (omega arith)
 small-scale false k h = not-met
 
-pub fill-place : (mode symbol : ℕ) (lower upper : Float) (g : Signal) (re im : List Float) → placeOf (filled mode symbol lower upper g re im .answer) < 2 ^ 32
+pub fill-place : (mode symbol : ℕ) (lower upper : Float) (g : Signal) (re im : List Float) → placeOf (filled mode symbol lower upper g re im .answer) < 2 ^ 24
 unfolding filled answerOf admitted vectorSizes
 fill-place mode symbol lower upper g re im =
     either (λ (v : Vector). placeOf (v .answer)) _ (vector Success (realParts mode symbol lower upper g) (imaginaryParts mode symbol lower upper g)) _ (omega arith)

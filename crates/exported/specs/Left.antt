@@ -9,9 +9,9 @@ use Rattle.runs.specs.Lent.{Lent, Memory, Result}
 use Rattle.runs.specs.Starting.{Started}
 use Rattle.exported.specs.Words.{answerWord, outcomeWord}
 
--- a state crosses as its three numbers
-abbrev pub stateOf : (mode half age : ℕ) → State
-stateOf mode half age = record { mode = mode; half = half; age = age }
+-- a state crosses as its four numbers
+abbrev pub stateOf : (mode half age last : ℕ) → State
+stateOf mode half age last = record { mode = mode; half = half; age = age; reserved = last }
 
 -- by a start
 pub record StartLeft : Type 0 where

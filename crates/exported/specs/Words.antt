@@ -16,7 +16,11 @@ use Rattle.queries.specs.Lookup as Lookup
 
 -- a start, a sending, a reading: the answer and the state
 unfoldable pub outcomeWord : Answer → State → ℕ
-outcomeWord a s = numberOf a + 2 ^ 8 * s .mode + 2 ^ 16 * s .half + 2 ^ 24 * s .age + 2 ^ 32 * placeOf a
+outcomeWord a s = numberOf a + 2 ^ 8 * s .mode + 2 ^ 16 * s .half + 2 ^ 24 * s .age + 2 ^ 32 * placeOf a + 2 ^ 56 * s .reserved
+
+-- the reserved number that a reading returned: on success the state holds it, and with any refusal it is 0
+unfoldable pub numberRead : ℕ → ℕ
+numberRead word = cond (eqb (word % 2 ^ 8) 0) (word / 2 ^ 56) 0
 
 -- the channels of PM by number
 abbrev pub channelNumber : Channel → ℕ
@@ -40,7 +44,7 @@ foundPxWord v = v .number + 2 ^ 8 * contentNumber (v .content) + 2 ^ 16 * v .fra
 
 -- a lookup
 unfoldable pub lookedUpWord : Lookup.Values → ℕ
-lookedUpWord v = v .number + 2 ^ 8 * v .mode + 2 ^ 16 * v .count + 2 ^ 32 * v .place
+lookedUpWord v = v .number + 2 ^ 8 * v .mode + 2 ^ 16 * v .count + 2 ^ 24 * v .reserved + 2 ^ 32 * v .place
 
 -- a row of n bytes that is handed back: where it starts and how many bytes it has, and 0 where it is empty
 unfoldable pub rowWord : (n row : ℕ) → List ℕ → ℕ

@@ -25,19 +25,25 @@ pub extern "C" fn layer1_find_px(
     mode: u8,
     half: u8,
     age: u8,
+    last: u8,
     channel: u8,
     pair: usize,
     row: usize,
     column: usize,
 ) -> u64
-    ensures { λ r. ⌜ r ≡ foundPxWord (valuesPX (foundPX (stateOf mode half age) channel pair row column)) ⌝ }
+    ensures { λ r. ⌜ r ≡ foundPxWord (valuesPX (foundPX (stateOf mode half age last) channel pair row column)) ⌝ }
 {
-    let state = State { mode, half, age };
+    let state = State {
+        mode,
+        half,
+        age,
+        reserved: last,
+    };
     let cell = layer1::find_px(state, channel, pair, row, column);
     found_px_word(cell)
 }
 
-// The mode and the block count of one control block.
+// The mode, the block count and the number of one control block.
 #[no_mangle]
 pub extern "C" fn layer1_lookup(block: &[u8]) -> u64
     ensures { λ r. ⌜ r ≡ lookedUpWord (valuesOfBlock (lookupOf (now (block .entry)))) ⌝ }

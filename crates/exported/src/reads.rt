@@ -5,13 +5,15 @@ ghost use mathlib.Core.Path.{_≡_};
 ghost use Rattle.runs.specs.Reading.{readStep};
 ghost use Rattle.calls.specs.Called.{lent, memory};
 ghost use Rattle.exported.specs.Left.{left, leftBy, stateOf};
+ghost use Rattle.exported.specs.Words.{numberRead};
 
-// Reads an L1 frame.
+// Reads an L1 frame. Its reserved number is in the word.
 #[no_mangle]
 pub extern "C" fn layer1_read(
     mode: u8,
     half: u8,
     age: u8,
+    last: u8,
     p1: &mut [u8],
     pids: &mut [u8],
     p2: &mut [u8],
@@ -26,11 +28,16 @@ pub extern "C" fn layer1_read(
     delay: &mut [u8],
 ) -> u64
     ensures { λ r. ⌜ left r (memory (now (memory3 .exit)) (now (memory4 .exit)) (now (delay .exit)))
-        (lent (now (p1 .exit)) (now (pids .exit)) (now (p2 .exit)) (now (p3 .exit)) (now (p4 .exit)) (now (pm .entry)) (now (px1 .entry)) (now (px2 .entry)) (now (control .entry)))
-        ≡ leftBy (readStep (stateOf mode half age) (memory (now (memory3 .entry)) (now (memory4 .entry)) (now (delay .entry)))
-        (lent (now (p1 .entry)) (now (pids .entry)) (now (p2 .entry)) (now (p3 .entry)) (now (p4 .entry)) (now (pm .entry)) (now (px1 .entry)) (now (px2 .entry)) (now (control .entry)))) ⌝ }
+        (lent (numberRead r) (now (p1 .exit)) (now (pids .exit)) (now (p2 .exit)) (now (p3 .exit)) (now (p4 .exit)) (now (pm .entry)) (now (px1 .entry)) (now (px2 .entry)) (now (control .entry)))
+        ≡ leftBy (readStep (stateOf mode half age last) (memory (now (memory3 .entry)) (now (memory4 .entry)) (now (delay .entry)))
+        (lent 0 (now (p1 .entry)) (now (pids .entry)) (now (p2 .entry)) (now (p3 .entry)) (now (p4 .entry)) (now (pm .entry)) (now (px1 .entry)) (now (px2 .entry)) (now (control .entry)))) ⌝ }
 {
-    let state = State { mode, half, age };
+    let state = State {
+        mode,
+        half,
+        age,
+        reserved: last,
+    };
     let outcome = layer1::read(
         state,
         p1,
@@ -46,5 +53,7 @@ pub extern "C" fn layer1_read(
         memory4,
         delay,
     );
-    outcome_word(outcome)
+    let answer = outcome.answer;
+    let next = outcome.state;
+    outcome_word(answer, next)
 }

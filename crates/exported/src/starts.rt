@@ -18,7 +18,9 @@ pub extern "C" fn layer1_start_sender(
         ≡ startLeftBy (start senderLen mode (memory (now (memory3 .entry)) (now (memory4 .entry)) (now (delay .entry)))) ⌝ }
 {
     let outcome = layer1::start_sender(mode, memory3, memory4, delay);
-    outcome_word(outcome)
+    let answer = outcome.answer;
+    let next = outcome.state;
+    outcome_word(answer, next)
 }
 
 // Starts a reader.
@@ -33,5 +35,7 @@ pub extern "C" fn layer1_start_reader(
         ≡ startLeftBy (start readerLen mode (memory (now (memory3 .entry)) (now (memory4 .entry)) (now (delay .entry)))) ⌝ }
 {
     let outcome = layer1::start_reader(mode, memory3, memory4, delay);
-    outcome_word(outcome)
+    let answer = outcome.answer;
+    let next = outcome.state;
+    outcome_word(answer, next)
 }

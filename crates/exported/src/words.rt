@@ -3,28 +3,29 @@ use layer1::Answer;
 use layer1::Found;
 use layer1::FoundPx;
 use layer1::LookedUp;
-use layer1::Outcome;
+use layer1::State;
 use layer1::number;
 use layer1::place;
+ghost use mathlib.Core.Bool.{cond};
 ghost use mathlib.Core.Path.{_≡_};
 ghost use Prim.Native.Nat.{_^_, _≤_, _<_};
+ghost use lib.Dec.{eqb};
 ghost use lib.ListN.{length};
-ghost use Rattle.runs.specs.Answers.{placeOf};
+ghost use Rattle.runs.specs.Answers.{numberOf, placeOf};
 ghost use Rattle.queries.specs.Finder.{values};
 ghost use Rattle.queries.specs.FinderPX.{values as valuesPX};
 ghost use Rattle.queries.specs.Lookup.{values as valuesOfBlock};
-ghost use Rattle.exported.specs.Words.{answerWord, eightOf, foundPxWord, foundWord, lookedUpWord, outcomeWord, rowWord};
+ghost use Rattle.exported.specs.Words.{answerWord, eightOf, foundPxWord, foundWord, lookedUpWord, numberRead, outcomeWord, rowWord};
 
 // The word of a start, a sending or a reading.
-pub fn outcome_word(outcome: Outcome) -> u64
-    requires { ⌜ placeOf (outcome .answer) < 2 ^ 32 ⌝ }
-    ensures { λ r. ⌜ r ≡ outcomeWord (outcome .answer) (outcome .state) ⌝ }
+pub fn outcome_word(answer: Answer, state: State) -> u64
+    requires { ⌜ placeOf answer < 2 ^ 24 ⌝ }
+    ensures { λ r. ⌜ (r ≡ outcomeWord answer state) × (numberRead r ≡ cond (eqb (numberOf answer) 0) (state .reserved) 0) ⌝ }
 {
-    let answer = outcome.answer;
-    let state = outcome.state;
     let low = number(answer) as u64 + 256 * (state.mode as u64);
     let high = 65536 * (state.half as u64) + 16777216 * (state.age as u64);
-    low + high + 4294967296 * (place(answer) as u64)
+    let top = 72057594037927936 * (state.reserved as u64);
+    low + high + 4294967296 * (place(answer) as u64) + top
 }
 
 // The word of a finding in PM.
@@ -68,7 +69,11 @@ pub fn looked_up_word(said: LookedUp) -> u64
     ensures { λ r. ⌜ r ≡ lookedUpWord (valuesOfBlock said) ⌝ }
 {
     match said {
-        LookedUp::Found { mode, count } => 256 * (mode as u64) + 65536 * (count as u64),
+        LookedUp::Found {
+            mode,
+            count,
+            reserved,
+        } => { 256 * (mode as u64) + 65536 * (count as u64) + 16777216 * (reserved as u64) }
         LookedUp::Refused { answer } => {
             number(answer) as u64 + 4294967296 * (place(answer) as u64)
         }

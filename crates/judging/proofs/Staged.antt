@@ -14,7 +14,7 @@ use Rattle.bits.specs.Bits.{beside}
 use Rattle.bits.specs.Tests.{lowest}
 use Rattle.bits.proofs.Beside.{in-first, in-second}
 use Rattle.bits.proofs.Tests.{lowest-at, lowest-below, lowest-cong, lowest-passes}
-use Rattle.control.specs.Departs.{departs}
+use Rattle.control.specs.Departs.{strays}
 use Rattle.runs.specs.declared.Answer.{Answer}
 use Rattle.runs.specs.declared.Answer.the-variants.{Success, WrongControl, MainNotCoded, PidsNotCoded, FillNotZero, ExtendedNotCoded}
 use Rattle.runs.specs.declared.Extended.the-variants.{P3, P4}
@@ -47,7 +47,7 @@ pub first-no : (n : ℕ) (bad : ℕ → Bool) {r : ℕ} → r ≡ lowest n bad �
 unfolding first
 first-no n bad {r} e h = rw (← e, le-ltb r n h)
 
-module _ (s : State) (control : Buffer) (r : ℕ) (e : r ≡ lowest 16 (departs (s .mode) 0 control)) where
+module _ (s : State) (control : Buffer) (r : ℕ) (e : r ≡ lowest 16 (strays (s .mode) control)) where
   pub control-refused : r < 16 → WrongControl r ≡ controlAnswer s control
   unfolding controlAnswer judge
   control-refused h = rw (first-some 16 _ e h)

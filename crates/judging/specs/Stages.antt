@@ -6,7 +6,7 @@ use Prim.Native.Nat.{ℕ, _+_, _*_, _<_}
 use lib.Dec.{eqb, ltb}
 use lib.ListN.{length, take}
 use Rattle.bits.specs.Bits.{beside}
-use Rattle.control.specs.Departs.{departs}
+use Rattle.control.specs.Departs.{strays}
 use Rattle.runs.specs.declared.Answer.{Answer}
 use Rattle.runs.specs.declared.Answer.the-variants.{Success, WrongControl, MainNotCoded, PidsNotCoded, FillNotZero, ExtendedNotCoded}
 use Rattle.runs.specs.declared.Extended.the-variants.{P3, P4}
@@ -27,7 +27,7 @@ andThen answer next = onSuccess answer next answer
 
 -- 4
 unfoldable pub controlAnswer : State → Buffer → Answer
-controlAnswer s control = judge (at WrongControl (first 16 (departs (s .mode) 0 control)) ∷ [])
+controlAnswer s control = judge (at WrongControl (first 16 (strays (s .mode) control)) ∷ [])
 
 -- 5 and 6
 unfoldable pub pmAnswer : State → Memory → Matrices → Answer

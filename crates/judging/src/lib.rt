@@ -208,12 +208,12 @@ pub fn judge_signal(
     p3: &mut [u8],
     p4: &mut [u8],
 ) -> Answer
-    requires { ⌜ Fits readerLen state (memory (now memory3) (now memory4) (now delay)) (lent (now scrambled) (now pids) (now p2) (now p3) (now p4) (now pm) (now px1) (now px2) (now control)) ⌝ }
+    requires { ⌜ Fits readerLen state (memory (now memory3) (now memory4) (now delay)) (lent 0 (now scrambled) (now pids) (now p2) (now p3) (now p4) (now pm) (now px1) (now px2) (now control)) ⌝ }
     ensures { λ r. ⌜ r ≡ signalAnswer state (memory (now (memory3 .entry)) (now (memory4 .entry)) (now (delay .entry))) (signal (now (pm .entry)) (now (px1 .entry)) (now (px2 .entry)) (now (control .entry))) ⌝ }
     ensures { λ r. ⌜ (numberOf r ≡ 0 → (now (scrambled .exit) ≡ p1Of (mainOf (state .mode)) (now (pm .entry))) × (now (p2 .exit) ≡ p2Of (mainOf (state .mode)) (now (pm .entry))) × (now (pids .exit) ≡ pidsOf (now (pm .entry)))) ⌝ }
     ensures { λ r. ⌜ (numberOf r ≡ 0 → 2 ≤ state .age → Recovered state (after state (now (memory3 .entry)) (now (memory4 .entry)) (now (px1 .entry)) (now (px2 .entry))) (now (p3 .exit)) (now (p4 .exit))) ⌝ }
 {
-    let block = control::first_departing(state.mode, 0, control);
+    let block = control::first_departing(state.mode, control);
     if block < 16 {
         return Answer::WrongControl(block as usize);
     }

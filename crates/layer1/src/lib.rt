@@ -1,6 +1,7 @@
 // The entry points: the operations of documents 01 and 02. Every function is total, and its contract is one equation, or a relation that holds of one outcome.
 pub use allocation::share_places;
 pub use calls::Outcome;
+pub use calls::ReadOutcome;
 pub use calls::number;
 pub use calls::place;
 pub use calls::reader_lengths;

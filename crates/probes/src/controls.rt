@@ -19,10 +19,11 @@ fn is_row_31_zero(control: &[u8]) -> bool {
     true
 }
 
-// Sends the first L1 frame of a mode, of zeros, and leaves its control blocks.
-fn send(mode: u8, control: &mut [u8; 4096]) {
+// Sends the first L1 frame of a mode, of this number and of zeros, and leaves its control blocks.
+fn send(mode: u8, reserved: u8, control: &mut [u8; 4096]) {
     let want = layer1::sender_lengths(mode);
-    let input = [0u8; 27648];
+    let mut input = [0u8; 27649];
+    input[0] = reserved;
     let mut pm = [0u8; 46080];
     let mut px1 = [0u8; 9216];
     let mut px2 = [0u8; 18432];
@@ -39,6 +40,7 @@ fn send(mode: u8, control: &mut [u8; 4096]) {
         mode,
         half: 0,
         age: 0,
+        reserved: 0,
     };
     given(programs::send_input(
         state,
@@ -53,11 +55,13 @@ fn send(mode: u8, control: &mut [u8; 4096]) {
     ));
 }
 
-// Row 31 of the control blocks of a mode.
-fn row_31(mode: u8, control: &mut [u8; 4096]) {
+// Row 31 of the control blocks of a mode and a number.
+fn row_31(mode: u8, reserved: u8, control: &mut [u8; 4096]) {
     text(b"control of mode ");
     small(mode);
-    send(mode, control);
+    text(b" number ");
+    small(reserved);
+    send(mode, reserved, control);
     if is_row_31_zero(control) {
         text(b", row 31 zero\n");
         return;
@@ -65,13 +69,25 @@ fn row_31(mode: u8, control: &mut [u8; 4096]) {
     text(b", row 31 not zero\n");
 }
 
+// A number that is too high (document 02, S-2).
+fn too_high(reserved: u8) {
+    let mut control = [1u8; 4096];
+    text(b"send in mode 1 number ");
+    small(reserved);
+    send(1, reserved, &mut control);
+    text(b"\n");
+}
+
 pub fn controls() {
     let mut control = [1u8; 4096];
-    row_31(1, &mut control);
-    row_31(2, &mut control);
-    row_31(3, &mut control);
-    row_31(5, &mut control);
-    row_31(6, &mut control);
-    row_31(11, &mut control);
+    row_31(1, 0, &mut control);
+    row_31(2, 0, &mut control);
+    row_31(3, 0, &mut control);
+    row_31(5, 0, &mut control);
+    row_31(6, 0, &mut control);
+    row_31(11, 0, &mut control);
+    too_high(8);
+    too_high(255);
+    row_31(11, 6, &mut control);
     lookups(&mut control);
 }

@@ -88,11 +88,14 @@ fn look_up(block: &[u8]) {
         LookedUp::Found {
             mode,
             count: number,
+            reserved,
         } => {
             text(b": mode ");
             small(mode);
             text(b" count ");
             small(number);
+            text(b" number ");
+            small(reserved);
         }
         LookedUp::Refused { answer } => told(answer),
     }

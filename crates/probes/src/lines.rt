@@ -24,7 +24,7 @@ pub fn told(answer: Answer) {
     count(layer1::place(answer));
 }
 
-// Three numbers: mode, half and age.
+// Four numbers: mode, half, age and the last number sent or read.
 pub fn numbers(state: State) {
     text(b" ");
     small(state.mode);
@@ -32,6 +32,8 @@ pub fn numbers(state: State) {
     small(state.half);
     text(b" ");
     small(state.age);
+    text(b" ");
+    small(state.reserved);
 }
 
 // What a call returns: the answer, and the state.

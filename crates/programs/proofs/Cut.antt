@@ -18,7 +18,8 @@ use Rattle.runs.specs.Lent.{Frames, Memory, Signal}
 use Rattle.runs.specs.Sending.{sendStep}
 use Rattle.runs.specs.Reading.{readStep}
 use Rattle.calls.specs.declared.states.Outcome.{Outcome}
-use Rattle.calls.specs.Called.{frames, gave, signal}
+use Rattle.calls.specs.declared.states.ReadOutcome.{ReadOutcome}
+use Rattle.calls.specs.Called.{frames, gave, readGave, signal}
 use Rattle.calls.specs.Sizes.{wanted}
 use Rattle.programs.specs.Inputs.{cut, framesIn, handed, signalIn}
 
@@ -69,28 +70,30 @@ module _ (mode m3 m4 : ℕ) (input want : List ℕ) (lengths : want ≡ wanted m
   entry-is : (k : ℕ) → entry k ≡ getD (wanted mode m3 m4) k 0
   entry-is k = ap (λ (l : List ℕ). getD l k 0) lengths
 
-  pub frames-are : (a b c d e : ℕ) → a ≡ 0 + min (entry 0) (length input - 0) → b ≡ a + min (entry 1) (length input - a)
+  pub frames-are : (reserved z a b c d e : ℕ) → reserved ≡ getD input 0 0 → z ≡ 0 + min 1 (length input - 0) → a ≡ z + min (entry 0) (length input - z) → b ≡ a + min (entry 1) (length input - a)
       → c ≡ b + min (entry 2) (length input - b) → d ≡ c + min (entry 3) (length input - c) → e ≡ d + min (entry 4) (length input - d)
-      → frames (take a input) (take (b - a) (drop a input)) (take (c - b) (drop b input)) (take (d - c) (drop c input)) (take (e - d) (drop d input))
+      → frames reserved (take (a - z) (drop z input)) (take (b - a) (drop a input)) (take (c - b) (drop b input)) (take (d - c) (drop c input)) (take (e - d) (drop d input))
       ≡ framesIn mode input
   unfolding framesIn
-  frames-are a b c d e ea eb ec ed ee =
+  frames-are reserved z a b c d e er ez ea eb ec ed ee =
       let n0 : ℕ = p1Len (mainOf mode) in
       let n2 : ℕ = p2Len (mainOf mode) in
       let n3 : ℕ = frameLen (kindOf mode P3) in
       let n4 : ℕ = frameLen (kindOf mode P4) in
-      let fa : a ≡ 0 + min n0 (length input - 0) = ea ∙ ap (λ (k : ℕ). 0 + min k (length input - 0)) (entry-is 0) in
+      let fa : a ≡ z + min n0 (length input - z) = ea ∙ ap (λ (k : ℕ). z + min k (length input - z)) (entry-is 0) in
       let fb : b ≡ a + min pidsLen (length input - a) = eb ∙ ap (λ (k : ℕ). a + min k (length input - a)) (entry-is 1) in
       let fc : c ≡ b + min n2 (length input - b) = ec ∙ ap (λ (k : ℕ). b + min k (length input - b)) (entry-is 2) in
       let fd : d ≡ c + min n3 (length input - c) = ed ∙ ap (λ (k : ℕ). c + min k (length input - c)) (entry-is 3) in
       let fe : e ≡ d + min n4 (length input - d) = ee ∙ ap (λ (k : ℕ). d + min k (length input - d)) (entry-is 4) in
-      let sa = first-end input n0 a fa in
-      let sb = next-start input n0 pidsLen a b sa fb in
-      let sc = next-start input (n0 + pidsLen) n2 b c sb fc in
-      let sd = next-start input (n0 + pidsLen + n2) n3 c d sc fd in
+      let sz = first-end input 1 z ez in
+      let sa = next-start input 1 n0 z a sz fa in
+      let sb = next-start input (1 + n0) pidsLen a b sa fb in
+      let sc = next-start input (1 + n0 + pidsLen) n2 b c sb fc in
+      let sd = next-start input (1 + n0 + pidsLen + n2) n3 c d sc fd in
       λ i.
-      frames (first-cut input n0 a fa i) (cut-is input n0 pidsLen a b sa fb i)
-      (cut-is input (n0 + pidsLen) n2 b c sb fc i) (cut-is input (n0 + pidsLen + n2) n3 c d sc fd i) (cut-is input (n0 + pidsLen + n2 + n3) n4 d e sd fe i)
+      frames (er i) (cut-is input 1 n0 z a sz fa i) (cut-is input (1 + n0) pidsLen a b sa fb i)
+      (cut-is input (1 + n0 + pidsLen) n2 b c sb fc i) (cut-is input (1 + n0 + pidsLen + n2) n3 c d sc fd i)
+      (cut-is input (1 + n0 + pidsLen + n2 + n3) n4 d e sd fe i)
 
   pub signal-is : (a b c d : ℕ) → a ≡ 0 + min (entry 5) (length input - 0) → b ≡ a + min (entry 6) (length input - a)
       → c ≡ b + min (entry 7) (length input - b) → d ≡ c + min (entry 8) (length input - c)
@@ -159,5 +162,6 @@ module _ (o : Outcome) (m m₀ : Memory) (s : State) where
   pub sent-in : (f g : Frames) (x y : Signal) → f ≡ g → gave o m (handed f x) ≡ sendStep s m₀ (handed f y) → gave o m (handed g x) ≡ sendStep s m₀ (handed g y)
   sent-in f g x y e h = subst (λ (f : Frames). gave o m (handed f x) ≡ sendStep s m₀ (handed f y)) e h
 
-  pub read-in : (x y : Signal) (f g : Frames) → x ≡ y → gave o m (handed f x) ≡ readStep s m₀ (handed g x) → gave o m (handed f y) ≡ readStep s m₀ (handed g y)
-  read-in x y f g e h = subst (λ (x : Signal). gave o m (handed f x) ≡ readStep s m₀ (handed g x)) e h
+module _ (o : ReadOutcome) (m m₀ : Memory) (s : State) where
+  pub read-in : (x y : Signal) (f g : Frames) → x ≡ y → readGave o m (handed f x) ≡ readStep s m₀ (handed g x) → readGave o m (handed f y) ≡ readStep s m₀ (handed g y)
+  read-in x y f g e h = subst (λ (x : Signal). readGave o m (handed f x) ≡ readStep s m₀ (handed g x)) e h

@@ -1,8 +1,8 @@
--- The buffers of an L1 frame as the programs' inputs and outputs have them: end to end, in the order of the lent lengths. What the end of an input cuts short is
--- short, and what comes after it is empty.
+-- An L1 frame as the programs' inputs and outputs have it: a sender's number, one byte (S-2), and the buffers end to end, in the order of the lent lengths. What the
+-- end of an input cuts short is short, what comes after it is empty, and a number that is not there is 0.
 use mathlib.Core.List.{List}
 use Prim.Native.Nat.{ℕ, _+_}
-use lib.ListN.{take, drop}
+use lib.ListN.{getD, take, drop}
 use Rattle.runs.specs.declared.Extended.the-variants.{P3, P4}
 use Rattle.runs.specs.MainChannels.{mainOf, p1Len, p2Len}
 use Rattle.runs.specs.Lengths.{kindOf, frameLen, matrixLen, pidsLen, pmLen, px2Len, controlLen}
@@ -13,14 +13,15 @@ use Rattle.calls.specs.Called.{frames, signal}
 abbrev pub cut : (from n : ℕ) → List ℕ → List ℕ
 cut from n input = take n (drop from input)
 
--- P1, PIDS, P2, P3, P4
+-- the number, P1, PIDS, P2, P3, P4
 unfoldable pub framesIn : ℕ → List ℕ → Frames
 framesIn mode input =
     let p1 = p1Len (mainOf mode) in
     let p2 = p2Len (mainOf mode) in
     let p3 = frameLen (kindOf mode P3) in
     let p4 = frameLen (kindOf mode P4) in
-    frames (cut 0 p1 input) (cut p1 pidsLen input) (cut (p1 + pidsLen) p2 input) (cut (p1 + pidsLen + p2) p3 input) (cut (p1 + pidsLen + p2 + p3) p4 input)
+    frames (getD input 0 0) (cut 1 p1 input) (cut (1 + p1) pidsLen input) (cut (1 + p1 + pidsLen) p2 input) (cut (1 + p1 + pidsLen + p2) p3 input)
+    (cut (1 + p1 + pidsLen + p2 + p3) p4 input)
 
 -- PM, PX1, PX2, control
 unfoldable pub signalIn : ℕ → List ℕ → Signal

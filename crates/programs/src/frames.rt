@@ -34,7 +34,7 @@ pub fn start_sending(mode: u8, memory3: &mut [u8], memory4: &mut [u8], delay: &m
     step_after(answer, state, 0)
 }
 
-// Reads L1 frame `frame` into `input`, a buffer of an L1 frame's length, and sends it. An input that ends early lends a buffer that is too short, which `send` refuses.
+// Reads the number and the transfer frames of L1 frame `frame` into `input`, a buffer of their length, and sends them. An input that ends early lends a buffer that is too short, which `send` refuses.
 pub fn send_next(
     state: State,
     frame: u64,

@@ -1,15 +1,16 @@
-// An L1 frame from a program's input, in which its buffers lie end to end.
+// An L1 frame from a program's input, in which its number, if it is to be sent, and its buffers lie end to end.
 use layer1::Outcome;
+use layer1::ReadOutcome;
 use runs::State;
 ghost use mathlib.Core.Path.{_≡_};
 ghost use Prim.Native.Nat.{_+_, _-_, _≤_, min};
-ghost use lib.ListN.{length};
+ghost use lib.ListN.{getD, length};
 ghost use Rattle.runs.specs.declared.Extended.the-variants.{P3, P4};
 ghost use Rattle.runs.specs.MainChannels.{mainOf, p1Len, p2Len};
 ghost use Rattle.runs.specs.Lengths.{kindOf, frameLen, matrixLen, pidsLen, pmLen, px2Len, controlLen};
 ghost use Rattle.runs.specs.Sending.{sendStep};
 ghost use Rattle.runs.specs.Reading.{readStep};
-ghost use Rattle.calls.specs.Called.{frames, gave, memory, signal};
+ghost use Rattle.calls.specs.Called.{frames, gave, memory, readGave, signal};
 ghost use Rattle.programs.specs.Inputs.{framesIn, handed, signalIn};
 
 // The end of the buffer of this length that starts at byte `from` of an input of n bytes.
@@ -23,12 +24,12 @@ fn end_of(from: usize, length: usize, n: usize) -> usize
     n
 }
 
-// The bytes of an L1 frame's transfer frames, P1, PIDS, P2, P3 and P4, in this mode.
+// The bytes of an L1 frame's number and transfer frames, P1, PIDS, P2, P3 and P4, in this mode.
 pub fn frames_length(mode: u8) -> usize
-    ensures { λ r. ⌜ r ≡ p1Len (mainOf mode) + pidsLen + p2Len (mainOf mode) + frameLen (kindOf mode P3) + frameLen (kindOf mode P4) ⌝ }
+    ensures { λ r. ⌜ r ≡ 1 + p1Len (mainOf mode) + pidsLen + p2Len (mainOf mode) + frameLen (kindOf mode P3) + frameLen (kindOf mode P4) ⌝ }
 {
     let want = layer1::sender_lengths(mode);
-    want[0] + want[1] + want[2] + want[3] + want[4]
+    1 + want[0] + want[1] + want[2] + want[3] + want[4]
 }
 
 // The bytes of an L1 frame's matrices and control sequences, PM, PX1, PX2 and control.
@@ -39,7 +40,17 @@ pub fn signal_length(mode: u8) -> usize
     want[5] + want[6] + want[7] + want[8]
 }
 
-// Sends the L1 frame whose transfer frames lie in the input.
+// The number of the L1 frame in the input.
+fn number_of(input: &[u8]) -> u8
+    ensures { λ r. ⌜ r ≡ getD (now (input .entry)) 0 0 ⌝ }
+{
+    if input.len() == 0 {
+        return 0;
+    }
+    input[0]
+}
+
+// Sends the L1 frame whose number and transfer frames lie in the input.
 pub fn send_input(
     state: State,
     input: &[u8],
@@ -56,14 +67,16 @@ pub fn send_input(
 {
     let n = input.len();
     let want = layer1::sender_lengths(state.mode);
-    let a = end_of(0, want[0], n);
+    let z = end_of(0, 1, n);
+    let a = end_of(z, want[0], n);
     let b = end_of(a, want[1], n);
     let c = end_of(b, want[2], n);
     let d = end_of(c, want[3], n);
     let e = end_of(d, want[4], n);
     layer1::send(
         state,
-        &input[..a],
+        number_of(input),
+        &input[z..a],
         &input[a..b],
         &input[b..c],
         &input[c..d],
@@ -90,9 +103,9 @@ pub fn read_input(
     memory3: &mut [u8],
     memory4: &mut [u8],
     delay: &mut [u8],
-) -> Outcome
-    ensures { λ r. ⌜ gave r (memory (now (memory3 .exit)) (now (memory4 .exit)) (now (delay .exit))) (handed (frames (now (p1 .exit)) (now (pids .exit)) (now (p2 .exit)) (now (p3 .exit)) (now (p4 .exit))) (signalIn (state .mode) (now (input .entry))))
-        ≡ readStep state (memory (now (memory3 .entry)) (now (memory4 .entry)) (now (delay .entry))) (handed (frames (now (p1 .entry)) (now (pids .entry)) (now (p2 .entry)) (now (p3 .entry)) (now (p4 .entry))) (signalIn (state .mode) (now (input .entry)))) ⌝ }
+) -> ReadOutcome
+    ensures { λ r. ⌜ readGave r (memory (now (memory3 .exit)) (now (memory4 .exit)) (now (delay .exit))) (handed (frames (r .reserved) (now (p1 .exit)) (now (pids .exit)) (now (p2 .exit)) (now (p3 .exit)) (now (p4 .exit))) (signalIn (state .mode) (now (input .entry))))
+        ≡ readStep state (memory (now (memory3 .entry)) (now (memory4 .entry)) (now (delay .entry))) (handed (frames 0 (now (p1 .entry)) (now (pids .entry)) (now (p2 .entry)) (now (p3 .entry)) (now (p4 .entry))) (signalIn (state .mode) (now (input .entry)))) ⌝ }
 {
     let n = input.len();
     let want = layer1::reader_lengths(state.mode);

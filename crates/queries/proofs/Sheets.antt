@@ -126,12 +126,12 @@ module _ (s : State) (v : valid s ≡ true) (channel : ℕ) (k : Kind) (k-is : k
             says = px.inside s channel pair row column v k k-is _ refl n lp lr lc;
           }
 
-module _ (mode : ℕ) (is : mainOf mode ≡ Plain) (a : SenderRun mode) (t : ℕ) (h : t < count mode a) (e : Extended) (pair row column : ℕ) where
+module _ (mode : ℕ) (is : mainOf mode ≡ Plain) (a : SenderRun mode) (t : ℕ) (h : t < count mode a) (e : Extended) (z pair row column : ℕ) (lz : z < 8) where
   abbrev named : FoundPx
-  named = foundPX (stateAt mode t) (channelNumber e) pair row column
+  named = foundPX (stateAt mode z t) (channelNumber e) pair row column
 
-  at : ((r : Answer) → named ≡ Refused r → ⊥) → Inside (stateAt mode t) (kindOf mode e) (channelNumber e) pair row column
-  at = inside (stateAt mode t) (valid-at mode (covered-of mode a) t) (channelNumber e) (kindOf mode e) (number-is mode is e) pair row column
+  at : ((r : Answer) → named ≡ Refused r → ⊥) → Inside (stateAt mode z t) (kindOf mode e) (channelNumber e) pair row column
+  at = inside (stateAt mode z t) (valid-at mode (covered-of mode a) z lz t) (channelNumber e) (kindOf mode e) (number-is mode is e) pair row column
 
   coded-in : (n frame bit : ℕ) → named ≡ Coded n frame bit
       → (n ≤ t)
@@ -156,6 +156,6 @@ sheets mode is a t h =
     record {
       p1-cell = p1-in mode is a t h;
       pids-cell = pids-in mode is a t h;
-      coded-cell = coded-in mode is a t h;
-      fill-cell = fill-in mode is a t h;
+      coded-cell = λ e z pair row column n frame bit lz. coded-in mode is a t h e z pair row column lz n frame bit;
+      fill-cell = λ e z pair row column lz. fill-in mode is a t h e z pair row column lz;
     }

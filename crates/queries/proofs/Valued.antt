@@ -60,9 +60,9 @@ module _ (s : State) (channel pair row column : ℕ) where
       pub column-past-the-row : pair < 8 → row < 64 → columnsOf k ≤ column → gives 3 3
       column-past-the-row lp lr h = ap finderPX.values (sym (column-refused s channel pair row column v k refl _ refl sent lp lr h))
 
--- and the lookup mode and count 0
+-- and the lookup mode, count and number 0
 abbrev noBlock : (number place : ℕ) → lookup.Values
-noBlock number place = record { number = number; place = place; mode = 0; count = 0 }
+noBlock number place = record { number = number; place = place; mode = 0; count = 0; reserved = 0 }
 
 pub of-another-length : (block : List ℕ) → (length block ≡ 256 → ⊥) → lookup.values (lookupOf block) ≡ noBlock 3 0
 unfolding lookupOf

@@ -1,4 +1,4 @@
--- Document 01: what a control block alone is looked up as; refused, it gives mode and count 0.
+-- Document 01 with S-2: what a control block alone is looked up as; refused, it gives mode, count and number 0.
 use Prim.Native.Nat.{ℕ}
 use mathlib.Core.Bool.{cond}
 use mathlib.Core.List.{List}
@@ -13,19 +13,20 @@ use Rattle.queries.specs.declared.blocks.LookedUp.{LookedUp}
 use Rattle.queries.specs.declared.blocks.LookedUp.the-variants.{Found, Refused}
 
 abbrev pub told : Looked → LookedUp
-told (block-of mode count) = Found mode count
+told (block-of mode count reserved) = Found mode count reserved
 told NotABlock = Refused (WrongControl 0)
 
 unfoldable pub lookupOf : List ℕ → LookedUp
 lookupOf block = cond (eqb (length block) 256) (told (lookedUp block)) (Refused (WrongLength 0))
 
--- document 01's values for each case: number and place of the table of causes, mode and count
+-- the values for each case: number and place of the table of causes, mode, count and reserved number
 pub record Values : Type 0 where
   pub number : ℕ
   pub place : ℕ
   pub mode : ℕ
   pub count : ℕ
+  pub reserved : ℕ
 
 abbrev pub values : LookedUp → Values
-values (Found mode count) = record { number = 0; place = 0; mode = mode; count = count }
-values (Refused answer) = record { number = numberOf answer; place = placeOf answer; mode = 0; count = 0 }
+values (Found mode count reserved) = record { number = 0; place = 0; mode = mode; count = count; reserved = reserved }
+values (Refused answer) = record { number = numberOf answer; place = placeOf answer; mode = 0; count = 0; reserved = 0 }

@@ -1,4 +1,4 @@
-// reader MODE COUNT [on]: reads COUNT L1 frames, each PM, PX1, PX2, control, and writes for each what its reading returns: P1, in MP5 and MP6 from the fourth on that
+// reader MODE COUNT [on]: reads COUNT L1 frames, each PM, PX1, PX2, control, and writes for each what its reading returns: its reserved number, one byte; P1, in MP5 and MP6 from the fourth on that
 // of the one three earlier; PIDS; P2; and from the third on P3 and P4 of the one two earlier. With `on` it goes on after an L1 frame that is refused.
 use libc::STDIN_FILENO;
 use programs::Arguments;
@@ -16,6 +16,7 @@ fn write_first(waits: bool, p1: &[u8], pids: &[u8]) -> bool {
 // Writes what a reading in this state returns. P1 waits where there is a delay memory.
 fn write_returned(
     age: u8,
+    reserved: u8,
     p1: &[u8],
     pids: &[u8],
     p2: &[u8],
@@ -23,6 +24,9 @@ fn write_returned(
     p4: &[u8],
     delay: &[u8],
 ) -> bool {
+    if !programs::write_two(&[reserved; 1], b"") {
+        return false;
+    }
     if !write_first(age < 3 && delay.len() > 0, p1, pids) {
         return false;
     }
@@ -71,6 +75,7 @@ fn turn(
     );
     let answer = read.answer;
     let next = read.state;
+    let reserved = read.reserved;
     let number = layer1::number(answer);
     if number != 0 {
         programs::refuse(number, layer1::place(answer), frame);
@@ -79,7 +84,7 @@ fn turn(
             go_on: goes_on(on, number),
         };
     }
-    let go_on = write_returned(age, p1, pids, p2, p3, p4, delay);
+    let go_on = write_returned(age, reserved, p1, pids, p2, p3, p4, delay);
     Step { state: next, go_on }
 }
 

@@ -1,14 +1,14 @@
 // Documents 01 and 02: reading an L1 frame.
-use calls::Outcome;
+use calls::ReadOutcome;
 use calls::admit;
 use calls::number;
 use calls::reader_lengths;
 use runs::State;
 ghost use mathlib.Core.Path.{_≡_};
 ghost use Rattle.runs.specs.Reading.{readStep};
-ghost use Rattle.calls.specs.Called.{gave, lent, memory};
+ghost use Rattle.calls.specs.Called.{lent, memory, readGave};
 
-// Reads an L1 frame: returns its PIDS and P2 frames; its P1 frame, in MP5 and MP6 from the fourth on the P1 frames of the one three earlier; and from the third on the P3 and P4 frames of the one two earlier.
+// Reads an L1 frame: returns its reserved number, its PIDS and P2 frames; its P1 frame, in MP5 and MP6 from the fourth on the P1 frames of the one three earlier; and from the third on the P3 and P4 frames of the one two earlier.
 pub fn read(
     state: State,
     p1: &mut [u8],
@@ -23,11 +23,11 @@ pub fn read(
     memory3: &mut [u8],
     memory4: &mut [u8],
     delay: &mut [u8],
-) -> Outcome
-    ensures { λ r. ⌜ gave r (memory (now (memory3 .exit)) (now (memory4 .exit)) (now (delay .exit)))
-        (lent (now (p1 .exit)) (now (pids .exit)) (now (p2 .exit)) (now (p3 .exit)) (now (p4 .exit)) (now (pm .entry)) (now (px1 .entry)) (now (px2 .entry)) (now (control .entry)))
+) -> ReadOutcome
+    ensures { λ r. ⌜ readGave r (memory (now (memory3 .exit)) (now (memory4 .exit)) (now (delay .exit)))
+        (lent (r .reserved) (now (p1 .exit)) (now (pids .exit)) (now (p2 .exit)) (now (p3 .exit)) (now (p4 .exit)) (now (pm .entry)) (now (px1 .entry)) (now (px2 .entry)) (now (control .entry)))
         ≡ readStep state (memory (now (memory3 .entry)) (now (memory4 .entry)) (now (delay .entry)))
-        (lent (now (p1 .entry)) (now (pids .entry)) (now (p2 .entry)) (now (p3 .entry)) (now (p4 .entry)) (now (pm .entry)) (now (px1 .entry)) (now (px2 .entry)) (now (control .entry))) ⌝ }
+        (lent 0 (now (p1 .entry)) (now (pids .entry)) (now (p2 .entry)) (now (p3 .entry)) (now (p4 .entry)) (now (pm .entry)) (now (px1 .entry)) (now (px2 .entry)) (now (control .entry))) ⌝ }
 {
     let have = [
         p1.len(),
@@ -44,9 +44,13 @@ pub fn read(
         delay.len(),
     ];
     let want = reader_lengths(state.mode);
-    let answer = admit(state, &have, &want);
+    let answer = admit(state, 0, &have, &want);
     if number(answer) != 0 {
-        return Outcome { answer, state };
+        return ReadOutcome {
+            answer,
+            state,
+            reserved: 0,
+        };
     }
     let n1 = p1.len();
     let n2 = p2.len();

@@ -1,5 +1,5 @@
 // Reading an L1 frame whose state and lengths are right: it is judged, and the frames that it returns and the reader's memory are written.
-use calls::Outcome;
+use calls::ReadOutcome;
 use calls::kind_of;
 use calls::main_of;
 use calls::matrix_len;
@@ -18,7 +18,7 @@ ghost use Rattle.runs.specs.MainChannels.{mainOf, delayFrames, delayLen, p1Len}
 ghost use Rattle.runs.specs.Lengths.{kindOf, matrixLen, px2Len, readerLen};
 ghost use Rattle.runs.specs.Paths.{oldest, scrambledOf, waiting};
 ghost use Rattle.runs.specs.Reading.{push};
-ghost use Rattle.calls.specs.Called.{gave, lent, memory};
+ghost use Rattle.calls.specs.Called.{lent, memory, readGave};
 ghost use Rattle.calls.specs.Fits.{Fits};
 ghost use Rattle.judging.specs.Stages.{fourth};
 ghost use Rattle.receiving.specs.Received.{receiveStep};
@@ -103,13 +103,13 @@ pub fn receive(
     own2: &mut [u8],
     own3: &mut [u8],
     own4: &mut [u8],
-) -> Outcome
-    requires { ⌜ Fits readerLen state (memory (now memory3) (now memory4) (now delay)) (lent (now p1) (now pids) (now p2) (now p3) (now p4) (now pm) (now px1) (now px2) (now control))
-        × Fits readerLen state (memory (now memory3) (now memory4) (now delay)) (lent (now own1) (now own16) (now own2) (now own3) (now own4) (now pm) (now px1) (now px2) (now control)) ⌝ }
-    ensures { λ r. ⌜ gave r (memory (now (memory3 .exit)) (now (memory4 .exit)) (now (delay .exit)))
-        (lent (now (p1 .exit)) (now (pids .exit)) (now (p2 .exit)) (now (p3 .exit)) (now (p4 .exit)) (now (pm .entry)) (now (px1 .entry)) (now (px2 .entry)) (now (control .entry)))
+) -> ReadOutcome
+    requires { ⌜ Fits readerLen state (memory (now memory3) (now memory4) (now delay)) (lent 0 (now p1) (now pids) (now p2) (now p3) (now p4) (now pm) (now px1) (now px2) (now control))
+        × Fits readerLen state (memory (now memory3) (now memory4) (now delay)) (lent 0 (now own1) (now own16) (now own2) (now own3) (now own4) (now pm) (now px1) (now px2) (now control)) ⌝ }
+    ensures { λ r. ⌜ readGave r (memory (now (memory3 .exit)) (now (memory4 .exit)) (now (delay .exit)))
+        (lent (r .reserved) (now (p1 .exit)) (now (pids .exit)) (now (p2 .exit)) (now (p3 .exit)) (now (p4 .exit)) (now (pm .entry)) (now (px1 .entry)) (now (px2 .entry)) (now (control .entry)))
         ≡ receiveStep state (memory (now (memory3 .entry)) (now (memory4 .entry)) (now (delay .entry)))
-        (lent (now (p1 .entry)) (now (pids .entry)) (now (p2 .entry)) (now (p3 .entry)) (now (p4 .entry)) (now (pm .entry)) (now (px1 .entry)) (now (px2 .entry)) (now (control .entry))) ⌝ }
+        (lent 0 (now (p1 .entry)) (now (pids .entry)) (now (p2 .entry)) (now (p3 .entry)) (now (p4 .entry)) (now (pm .entry)) (now (px1 .entry)) (now (px2 .entry)) (now (control .entry))) ⌝ }
 {
     let answer = judging::judge_signal(
         state,
@@ -126,16 +126,22 @@ pub fn receive(
         own3,
         own4,
     );
-    let next = next_of(state);
+    let reserved = control::number_in(state.mode, control);
+    let next = next_of(state, reserved);
     if number(answer) != 0 {
-        return Outcome { answer, state };
+        return ReadOutcome {
+            answer,
+            state,
+            reserved: 0,
+        };
     }
     let age = state.age;
     return_p1(main_of(state.mode), age, delay, own1, p1);
     hand_out(age, own16, own2, own3, own4, pids, p2, p3, p4);
     keep(state, px1, px2, own1, memory3, memory4, delay);
-    Outcome {
+    ReadOutcome {
         answer,
         state: next,
+        reserved,
     }
 }

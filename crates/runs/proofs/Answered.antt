@@ -3,7 +3,7 @@ use mathlib.Core.Path.{_≡_, refl, ap, _∙_}
 use mathlib.Core.Logic.{_⊎_, inl, inr, _≢_}
 use native.Mathlib.Omega.{arith}
 use Rattle.runs.specs.declared.Answer.{Answer}
-use Rattle.runs.specs.declared.Answer.the-variants.{Success, ModeNotCovered, StateNotValid, WrongLength, WrongControl, MainNotCoded, PidsNotCoded, FillNotZero, ExtendedNotCoded, SharesTooMany, SymbolTooHigh, ScaleNotUsable, NoFrameFits, SeveralFit, WrongBudget}
+use Rattle.runs.specs.declared.Answer.the-variants.{Success, ModeNotCovered, StateNotValid, WrongLength, WrongControl, MainNotCoded, PidsNotCoded, FillNotZero, ExtendedNotCoded, ReservedTooHigh, SharesTooMany, SymbolTooHigh, ScaleNotUsable, NoFrameFits, SeveralFit, WrongBudget}
 use Rattle.runs.specs.Answers.{numberOf, onSuccess}
 use Rattle.runs.specs.Lent.{Result}
 
@@ -18,6 +18,7 @@ either (MainNotCoded k) = inr (λ x y. refl)
 either (PidsNotCoded k) = inr (λ x y. refl)
 either (FillNotZero k) = inr (λ x y. refl)
 either (ExtendedNotCoded k) = inr (λ x y. refl)
+either ReservedTooHigh = inr (λ x y. refl)
 either SharesTooMany = inr (λ x y. refl)
 either SymbolTooHigh = inr (λ x y. refl)
 either (ScaleNotUsable k) = inr (λ x y. refl)
@@ -57,6 +58,7 @@ success-is (MainNotCoded k) e = absurd (omega arith)
 success-is (PidsNotCoded k) e = absurd (omega arith)
 success-is (FillNotZero k) e = absurd (omega arith)
 success-is (ExtendedNotCoded k) e = absurd (omega arith)
+success-is ReservedTooHigh e = absurd (omega arith)
 success-is SharesTooMany e = absurd (omega arith)
 success-is SymbolTooHigh e = absurd (omega arith)
 success-is (ScaleNotUsable k) e = absurd (omega arith)

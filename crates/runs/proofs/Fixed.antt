@@ -9,6 +9,8 @@ use native.Mathlib.Decide.{ℕ-discrete}
 use lib.ListN.{length}
 use lib.Seq.{take-at}
 use Rattle.control.specs.Modes.{covered}
+use Rattle.control.proofs.Covered.{covered-lt}
+use Rattle.control.proofs.Numbers.{control-determines}
 use Rattle.runs.specs.declared.Extended.{Extended}
 use Rattle.runs.specs.declared.Extended.the-variants.{P3, P4}
 use Rattle.runs.specs.MainChannels.{mainOf}
@@ -16,13 +18,13 @@ use Rattle.runs.specs.Lengths.{kindOf, matrixLen, senderLen}
 use Rattle.runs.specs.Chain.{Buffer, pmOf, p1Of, p2Of, pidsOf, pxOf, memOf, framesOf, frameBad}
 use Rattle.runs.specs.Paths.{scrambledOf}
 use Rattle.runs.specs.Lent.{Frames, Matrices, Memory, frameOf, matrixOf, memoryOf, signalOf, memoryNext}
-use Rattle.runs.specs.Runs.{Fitting, SenderRun, count, frameAt, matricesAt}
+use Rattle.runs.specs.Runs.{Fitting, SenderRun, count, frameAt, matricesAt, controlAt}
 use Rattle.runs.specs.Defined.{memoryBefore, defined, eighth}
 use Rattle.runs.specs.WholeRuns.{SameMain, SameMatrices}
 use Rattle.runs.proofs.Rows.{window}
 use Rattle.runs.proofs.PX.{matrix-length, frames-back, frames-good}
 use Rattle.runs.proofs.PM.{p1-back, p2-back, pids-back, scrambled-again}
-use Rattle.runs.proofs.Sender.{MemoryRight, covered-of, matrices-at, memory-right, right-at, zeros-right}
+use Rattle.runs.proofs.Sender.{MemoryRight, control-at, covered-of, matrices-at, memory-right, right-at, zeros-right}
 
 -- ---- what the matrices of n L1 frames of right lengths say
 
@@ -125,6 +127,15 @@ module _ (mode : ℕ) where
     sym (pids-from a t ha) ∙ ap pidsOf e ∙ pids-from b t hb,
     sym (p2-from a t ha) ∙ ap (p2Of (mainOf mode)) e ∙ p2-from b t hb,
   )
+
+  -- equal control sequences, equal numbers
+  pub number-fixed : (a b : SenderRun mode) (t : ℕ) → t < count mode a → t < count mode b → controlAt mode a t ≡ controlAt mode b t
+      → frameAt mode a t .reserved ≡ frameAt mode b t .reserved
+  unfolding defined signalOf
+  number-fixed a b t ha hb e =
+      let low = covered-lt mode (covered-of mode a) in
+      control-determines mode _ mode _ low (right-at mode a t ha .reserved-right) low (right-at mode b t hb .reserved-right)
+      (sym (control-at mode a t ha) ∙ e ∙ control-at mode b t hb) .1
 
   extended-fixed : (a b : SenderRun mode) (e : Extended) (t : ℕ) → suc (suc t) < count mode a → suc (suc t) < count mode b
       → matrixOf mode (matricesAt mode a t) e ≡ matrixOf mode (matricesAt mode b t) e

@@ -1,6 +1,6 @@
 -- The reader's memory holds the matrices of the last three L1 frames. Assumes nothing.
 use Prim.Native.Nat.{ℕ, zero, suc, _*_, _≤_}
-use mathlib.Core.Path.{_≡_, refl}
+use mathlib.Core.Path.{_≡_, refl, ap}
 use mathlib.Core.Logic.{_≢_}
 use mathlib.Core.List.{[], _++_}
 use native.Mathlib.Omega.{arith}
@@ -11,11 +11,11 @@ use Rattle.runs.specs.declared.Extended.{Extended}
 use Rattle.runs.specs.declared.Extended.the-variants.{P3, P4}
 use Rattle.runs.specs.Lengths.{readerLen}
 use Rattle.runs.specs.Chain.{Buffer}
-use Rattle.runs.specs.Lent.{Matrices, Signal, Lent, Memory, matrixOf, memoryOf}
+use Rattle.runs.specs.Lent.{Matrices, Signal, Lent, Memory, Result, matrixOf, memoryOf}
 use Rattle.runs.specs.Answers.{numberOf}
 use Rattle.runs.specs.Starting.{zeros}
 use Rattle.runs.specs.Sending.{refused}
-use Rattle.runs.specs.Reading.{push, pushed, readAnswer, readStep, received}
+use Rattle.runs.specs.Reading.{push, pushed, readAnswer, readStep, received, unnumbered}
 use Rattle.runs.proofs.Answered.{refused-is}
 
 -- the reader's memory before L1 frame t of the signals S
@@ -23,11 +23,14 @@ unfoldable pub readMemory : ℕ → (ℕ → Signal) → ℕ → Memory
 readMemory mode S zero = zeros readerLen mode
 readMemory mode S (suc t) = pushed mode (readMemory mode S t) (S t .matrices)
 
--- a reading that is not answered by 0 changes nothing
+-- a reading that is not answered by 0 changes nothing, and returns the number 0
 pub read-refused : (s : State) (m : Memory) (l : Lent) → numberOf (readStep s m l .answer) ≢ 0
-    → readStep s m l ≡ refused s m l (readAnswer s m l)
+    → readStep s m l ≡ refused s m (unnumbered l) (readAnswer s m l)
 unfolding readStep received
-read-refused s m l = refused-is (readAnswer s m l) (received s m l) (refused s m l (readAnswer s m l)) refl
+read-refused s m l = refused-is (readAnswer s m l) (received s m l) (refused s m (unnumbered l) (readAnswer s m l)) refl
+
+pub number-refused : (s : State) (m : Memory) (l : Lent) → numberOf (readStep s m l .answer) ≢ 0 → readStep s m l .lent .frames .reserved ≡ 0
+number-refused s m l ne = ap (λ (r : Result). r .lent .frames .reserved) (read-refused s m l ne)
 
 pub pushed-of : (mode : ℕ) (m : Memory) (x : Matrices) (e : Extended) → memoryOf (pushed mode m x) e ≡ push (memoryOf m e) (matrixOf mode x e)
 unfolding pushed

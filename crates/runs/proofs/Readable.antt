@@ -23,7 +23,7 @@ use Rattle.runs.specs.Starting.{Started, memorySizes, zeros, start}
 use Rattle.runs.specs.Sending.{lentSizes}
 use Rattle.runs.specs.Reading.{readStep}
 use Rattle.runs.specs.Runs.{Call, calls, Fitting, SenderRun, ReaderRun, readings, signalsSent, count, frameAt}
-use Rattle.runs.specs.Defined.{memoryBefore, defined, table}
+use Rattle.runs.specs.Defined.{memoryBefore, defined, numberBefore, table}
 use Rattle.runs.specs.Handed.{Handed, done, given}
 use Rattle.runs.proofs.PM.{pm-length}
 use Rattle.runs.proofs.PX.{matrix-length}
@@ -46,6 +46,7 @@ start-clear len mode cov =
 blank : ℕ → Frames
 blank mode =
     record {
+      reserved = 0;
       p1 = replicate (p1Len (mainOf mode)) 0;
       pids = replicate pidsLen 0;
       p2 = replicate (p2Len (mainOf mode)) 0;
@@ -79,7 +80,7 @@ module _ (mode : ℕ) (cov : covered mode ≡ true) (F : ℕ → Frames) (n : �
       (wrong-cons _ _ _ _ (length-replicate {A = ℕ} (frameLen (kindOf mode P4)) 0)
       (wrong-cons _ _ _ _ (pm-length (mainOf mode) (F t .p1) (F t .p2) (F t .pids))
       (wrong-cons _ _ _ _ (in-length mode cov F n right P3 t h)
-      (wrong-cons _ _ _ _ (px2-length t) (wrong-cons _ _ _ _ (control.control-length mode 0) (wrong-nil _)))))))))
+      (wrong-cons _ _ _ _ (px2-length t) (wrong-cons _ _ _ _ (control.control-length mode (F t .reserved)) (wrong-nil _)))))))))
 
   straight : (k T : ℕ) → T + k ≤ n → (r : State) (m : Memory)
       → (gs : List Call) × Handed mode (table T k (defined mode F)) (calls readStep r m (table T k handing)) gs
@@ -107,7 +108,7 @@ can-read mode a =
 pub read-all : (mode : ℕ) (a : SenderRun mode) (b : ReaderRun mode) (gs : List Call)
     → Handed mode (signalsSent mode a) (readings mode b) gs
     → Got mode (covered-of mode a) (frameAt mode a) (count mode a) (right-at mode a) 0 (count mode a) gs
-unfolding readings readMemory
+unfolding readings readMemory numberBefore
 read-all mode a b gs h =
     read-run mode (covered-of mode a) (frameAt mode a) (count mode a) (right-at mode a) h
     (count mode a) 0 (zero-add (count mode a)) (as-defined-is mode a) (b .lents)

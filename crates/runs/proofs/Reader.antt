@@ -11,7 +11,9 @@ use lib.Dec.{ltb}
 use Rattle.bits.specs.Bits.{bitAt}
 use Rattle.bits.proofs.Parts.{bitAt-zeros}
 use Rattle.control.specs.Modes.{covered}
-use Rattle.control.proofs.Sent as control
+use Rattle.control.proofs.Covered.{covered-lt}
+use Rattle.control.proofs.Numbers.{number-sent, sent-good}
+use Rattle.runs.specs.declared.State.{State}
 use Rattle.runs.specs.declared.Extended.{Extended}
 use Rattle.runs.specs.declared.Extended.the-variants.{P3, P4}
 use Rattle.runs.specs.declared.Main.{Main}
@@ -21,12 +23,12 @@ use Rattle.runs.specs.Chain.{Buffer, p1Of, pxOf, memOf, fillBad}
 use Rattle.runs.specs.Paths.{scrambledOf, oldest, waiting, p1′Of, p1′Bad, delayBad}
 use Rattle.runs.specs.Lent.{Frames, Signal, Lent, Memory, frameOf, matrixOf, p1′In, memoryOf, signalOf, memoryNext}
 use Rattle.runs.specs.Causes.{wrong}
-use Rattle.runs.specs.Starting.{stateAt, memorySizes}
+use Rattle.runs.specs.Starting.{stateAt, next, memorySizes}
 use Rattle.runs.specs.Sending.{lentSizes}
 use Rattle.runs.specs.Judged.{due, mainBad, mainPlace, fillPlace, framePlace}
 use Rattle.runs.specs.Reading.{pushed, readStep, received}
 use Rattle.runs.specs.Runs.{Fitting}
-use Rattle.runs.specs.Defined.{memoryBefore, defined}
+use Rattle.runs.specs.Defined.{memoryBefore, defined, numberBefore}
 use Rattle.runs.specs.Handed.{Given}
 use Rattle.runs.specs.WholeRuns.{Returned}
 use Rattle.runs.proofs.PX.{fill-first, fill-second}
@@ -44,6 +46,10 @@ module _ (mode : ℕ) (cov : covered mode ≡ true) (F : ℕ → Frames) (n : �
     (right : (t : ℕ) → t < n → Fitting mode (F t)) where
   abbrev S : ℕ → Signal
   S t = defined mode F t
+
+  -- the state before L1 frame t
+  abbrev state : ℕ → State
+  state t = stateAt mode (numberBefore F t) t
 
   -- how the mode fills PM
   abbrev k : Main
@@ -89,7 +95,7 @@ module _ (mode : ℕ) (cov : covered mode ≡ true) (F : ℕ → Frames) (n : �
   both-good a true c p q = rw (p, q)
   both-good a false c p q = rw p
 
-  main-clear : (t : ℕ) → mainPlace (stateAt mode t) (readMemory mode S t) (S t .matrices) ≡ none
+  main-clear : (t : ℕ) → mainPlace (state t) (readMemory mode S t) (S t .matrices) ≡ none
   unfolding mainPlace mainBad defined signalOf
   main-clear t =
       first-none _ _ (beside-good (p1Frames k) 1 _ _
@@ -137,14 +143,14 @@ module _ (mode : ℕ) (cov : covered mode ≡ true) (F : ℕ → Frames) (n : �
           ap (λ (x : Buffer). bitAt x c) (second-is mode F t)
           ∙ p1′-zero k (delayed-path mode F t) (λ i. ap (λ (x : Buffer). bitAt x i) (goes-zero k (s mode F) (s-fits mode F) t l) ∙ bitAt-zeros (p1Len k) i) c h
 
-  fill-clear : (t : ℕ) → fillPlace (stateAt mode t) (S t .matrices) ≡ none
+  fill-clear : (t : ℕ) → fillPlace (state t) (S t .matrices) ≡ none
   unfolding fillPlace
   fill-clear t = first-none _ _ (beside-good _ _ _ _ (fill-good P3 t) (beside-good _ _ _ _ (fill-good P4 t) (delay-good t)))
 
   two-on : (t : ℕ) → suc (suc t) % 2 ≡ t % 2
   two-on t = omega arith
 
-  frames-clear : (t : ℕ) → t < n → cond (ltb (min (lastAge k) t) 2) none (framePlace (stateAt mode t) (readMemory mode S (suc t))) ≡ none
+  frames-clear : (t : ℕ) → t < n → cond (ltb (min (lastAge k) t) 2) none (framePlace (state t) (readMemory mode S (suc t))) ≡ none
   unfolding framePlace
   frames-clear zero h = rw (not-yet (lastAge k))
   frames-clear (suc zero) h = rw one-yet
@@ -152,14 +158,19 @@ module _ (mode : ℕ) (cov : covered mode ≡ true) (F : ℕ → Frames) (n : �
       rw (old k t, two-on t, read-three t h P3, read-three t h P4)
       (first-none 16 _ (beside-good 8 8 _ _ (extended-good mode cov F n right P3 t h) (extended-good mode cov F n right P4 t h)))
 
+  before-low : (t : ℕ) → t ≤ n → numberBefore F t < 8
+  unfolding numberBefore
+  before-low zero h = omega arith
+  before-low (suc t) h = right t h .reserved-right
+
   read-clear : (t : ℕ) → t < n → (f : Frames) → wrong 0 (lentSizes mode (handed t f)) ≡ none
-      → Clear (stateAt mode t) (readMemory mode S t) (handed t f)
+      → Clear (state t) (readMemory mode S t) (handed t f)
   unfolding readMemory defined signalOf
   read-clear t h f lens =
       record {
-        state = valid-at mode cov t;
+        state = valid-at mode cov (numberBefore F t) (before-low t (omega arith)) t;
         lengths = wrong-append 0 _ _ lens (sizes-right t (omega arith));
-        control = first-none 16 _ (control.control-good mode 0);
+        control = first-none 16 _ (sent-good mode (F t .reserved) (covered-lt mode cov) (right t h .reserved-right));
         main = main-clear t;
         pids = first-none 16 _ (pids-good k _ _ _);
         fill = fill-clear t;
@@ -170,7 +181,7 @@ module _ (mode : ℕ) (cov : covered mode ≡ true) (F : ℕ → Frames) (n : �
 
   -- at L1 frame s + 2 the frames of L1 frame s
   read-extended : (s : ℕ) → suc (suc s) < n → (f : Frames) (e : Extended)
-      → frameOf (received (stateAt mode (suc (suc s))) (readMemory mode S (suc (suc s))) (handed (suc (suc s)) f) .lent .frames) e
+      → frameOf (received (state (suc (suc s))) (readMemory mode S (suc (suc s))) (handed (suc (suc s)) f) .lent .frames) e
       ≡ frameOf (F s) e
   unfolding received readMemory
   read-extended s h f P3 = rw (old k s, two-on s, read-three s h P3) (extended-back mode cov F n right P3 s h)
@@ -178,7 +189,7 @@ module _ (mode : ℕ) (cov : covered mode ≡ true) (F : ℕ → Frames) (n : �
 
   -- when P1' has come, the P1 frames of the L1 frame so much earlier
   read-p1 : (t u : ℕ) → t < n → t ≡ u + delayFrames k → (f : Frames)
-      → received (stateAt mode t) (readMemory mode S t) (handed t f) .lent .frames .p1 ≡ F u .p1
+      → received (state t) (readMemory mode S t) (handed t f) .lent .frames .p1 ≡ F u .p1
   unfolding received s
   read-p1 t u h e f =
       let r = right u (omega arith) in
@@ -187,21 +198,23 @@ module _ (mode : ℕ) (cov : covered mode ≡ true) (F : ℕ → Frames) (n : �
       ∙ scrambled-again k (F u .p1) (r .p1-right) (r .bytes .p1-bytes))
 
   -- the reading of L1 frame t gives the frames
-  pub read-gives : (t : ℕ) → t < n → (f : Frames) → Returned mode F t f (received (stateAt mode t) (readMemory mode S t) (handed t f))
-  unfolding received defined signalOf
+  pub read-gives : (t : ℕ) → t < n → (f : Frames) → Returned mode F t f (received (state t) (readMemory mode S t) (handed t f))
+  unfolding received defined signalOf next
   read-gives t h f =
       let r = right t h in
       record {
         number-zero = refl;
         place-zero = refl;
-        p1-early = λ l. late-kept (stateAt mode t) (readMemory mode S t) (handed t f) (omega arith);
+        reserved-is = number-sent mode (F t .reserved) (covered-lt mode cov) (r .reserved-right);
+        reserved-kept = number-sent mode (F t .reserved) (covered-lt mode cov) (r .reserved-right);
+        p1-early = λ l. late-kept (state t) (readMemory mode S t) (handed t f) (omega arith);
         p1-is = λ u e. read-p1 t u h e f;
         pids-is = pids-back k _ _ _ (r .pids-right) (r .bytes .pids-bytes);
         p2-is = p2-back k _ _ _ (r .p2-right) (r .bytes .p2-bytes);
-        extended-early = λ e l. early-kept (stateAt mode t) (readMemory mode S t) (handed t f) (omega arith) e;
+        extended-early = λ e l. early-kept (state t) (readMemory mode S t) (handed t f) (omega arith) e;
         extended-is = λ e s q.
             subst
-            (λ (k : ℕ). k < n → frameOf (received (stateAt mode k) (readMemory mode S k) (handed k f) .lent .frames) e ≡ frameOf (F s) e)
+            (λ (k : ℕ). k < n → frameOf (received (state k) (readMemory mode S k) (handed k f) .lent .frames) e ≡ frameOf (F s) e)
             (two s t q) (λ b. read-extended s b f e) h;
       }
     where
@@ -210,10 +223,10 @@ module _ (mode : ℕ) (cov : covered mode ≡ true) (F : ℕ → Frames) (n : �
 
   -- a reading that is handed L1 frame t
   pub read-given : (t : ℕ) → t < n → (l : Lent) → Given mode (S t) l
-      → readStep (stateAt mode t) (readMemory mode S t) l ≡ received (stateAt mode t) (readMemory mode S t) (handed t (l .frames))
+      → readStep (state t) (readMemory mode S t) l ≡ received (state t) (readMemory mode S t) (handed t (l .frames))
   read-given t h l g =
-      ap (readStep (stateAt mode t) (readMemory mode S t)) l≡
-      ∙ read-succeeds (stateAt mode t) (readMemory mode S t) (handed t (l .frames))
+      ap (readStep (state t) (readMemory mode S t)) l≡
+      ∙ read-succeeds (state t) (readMemory mode S t) (handed t (l .frames))
       (read-clear t h (l .frames) (ap (λ (x : Lent). wrong 0 (lentSizes mode x)) (sym l≡) ∙ g .lengths))
     where
       l≡ : l ≡ handed t (l .frames)

@@ -1,9 +1,10 @@
 -- There is a sender's run that sends given frames. Assumes nothing.
-use Prim.Native.Nat.{ℕ, suc, _%_}
+use Prim.Native.Nat.{ℕ, suc, _%_, _<_}
 use mathlib.Core.Path.{_≡_, refl, sym, ap, _∙_}
 use mathlib.Core.Bool.{true}
 use mathlib.Core.Option.{none}
 use mathlib.Core.List.{List, [], _∷_, map}
+use native.Mathlib.Omega.{arith}
 use lib.ListN.{replicate, length-replicate}
 use Rattle.control.specs.Modes.{covered}
 use Rattle.runs.specs.declared.State.{State}
@@ -47,11 +48,11 @@ lending-fits mode f r =
     (wrong-cons _ _ _ _ (length-replicate {A = ℕ} (px2Len mode) 0)
     (wrong-cons _ _ _ _ (length-replicate {A = ℕ} controlLen 0) (wrong-nil _)))))))))
 
-send-sends : (mode : ℕ) → covered mode ≡ true → (T : ℕ) (m : Memory) (f : Frames) → MemoryRight senderLen mode m → Fitting mode f
-    → sendStep (stateAt mode T) m (lending mode f) ≡ sent (stateAt mode T) m (lending mode f)
-unfolding memorySizes
-send-sends mode cov T m f mr fr =
-    send-succeeds (stateAt mode T) m (lending mode f) (valid-at mode cov T)
+send-sends : (mode : ℕ) → covered mode ≡ true → (z : ℕ) → z < 8 → (T : ℕ) (m : Memory) (f : Frames) → MemoryRight senderLen mode m → Fitting mode f
+    → sendStep (stateAt mode z T) m (lending mode f) ≡ sent (stateAt mode z T) m (lending mode f)
+unfolding memorySizes lending
+send-sends mode cov z hz T m f mr fr =
+    send-succeeds (stateAt mode z T) m (lending mode f) (valid-at mode cov z hz T) (fr .reserved-right)
     (wrong-append 0 _ _ (lending-fits mode f fr) (λ j. wrong-cons _ _ _ _ (mr .extended P3) (wrong-cons _ _ _ _ (mr .extended P4) (wrong-cons _ _ _ _ (mr .delay) (wrong-nil _)))))
 
 -- the frames of the calls that succeeded, where the first gave r
@@ -59,15 +60,15 @@ sentAfter : ℕ → Frames → List Frames → Result → List Frames
 sentAfter mode f fs r =
     framesIn (succeeded (record { lent = lending mode f; result = r } ∷ calls sendStep (r .state) (r .memory) (map (lending mode) fs)))
 
-send-each : (mode : ℕ) → covered mode ≡ true → (fs : List Frames) → Every (Fitting mode) fs → (T : ℕ) (m : Memory) → MemoryRight senderLen mode m
-    → framesIn (succeeded (calls sendStep (stateAt mode T) m (map (lending mode) fs))) ≡ fs
+send-each : (mode : ℕ) → covered mode ≡ true → (fs : List Frames) → Every (Fitting mode) fs → (z : ℕ) → z < 8 → (T : ℕ) (m : Memory) → MemoryRight senderLen mode m
+    → framesIn (succeeded (calls sendStep (stateAt mode z T) m (map (lending mode) fs))) ≡ fs
 unfolding calls succeeded sent sentAfter lending
-send-each mode cov [] each T m mr = refl
-send-each mode cov (f ∷ fs) each T m mr =
-    ap (sentAfter mode f fs) (send-sends mode cov T m f mr (each .0))
-    ∙ ap (λ (r : State). f ∷ framesIn (succeeded (calls sendStep r (memoryNext mode (T % 2) m f) (map (lending mode) fs)))) (next-at mode T)
+send-each mode cov [] each z hz T m mr = refl
+send-each mode cov (f ∷ fs) each z hz T m mr =
+    ap (sentAfter mode f fs) (send-sends mode cov z hz T m f mr (each .0))
+    ∙ ap (λ (r : State). f ∷ framesIn (succeeded (calls sendStep r (memoryNext mode (T % 2) m f) (map (lending mode) fs)))) (next-at mode z (f .reserved) T)
     ∙ ap (λ (l : List Frames). f ∷ l)
-    (send-each mode cov fs (each .1) (suc T) (memoryNext mode (T % 2) m f) (memory-right mode cov T m f mr (each .0)))
+    (send-each mode cov fs (each .1) (f .reserved) (each .0 .reserved-right) (suc T) (memoryNext mode (T % 2) m f) (memory-right mode cov T m f mr (each .0)))
 
 all-bytes : (mode : ℕ) (fs : List Frames) → Every (Fitting mode) fs → Every (λ (l : Lent). ByteFrames (l .frames)) (map (lending mode) fs)
 unfolding lending
@@ -81,5 +82,5 @@ can-send mode cov fs each =
       record { upon = zeros senderLen mode; started = go; lents = map (lending mode) fs; bytes = all-bytes mode fs each },
       ap (λ (s : Started). framesIn (succeeded (calls sendStep (s .state) (s .memory) (map (lending mode) fs)))) (start-ok senderLen mode (zeros senderLen mode) go .1)
           ∙ ap (λ (s : State). framesIn (succeeded (calls sendStep s (zeros senderLen mode) (map (lending mode) fs)))) (sym (fresh-at mode))
-          ∙ send-each mode cov fs each 0 (zeros senderLen mode) (zeros-right senderLen mode),
+          ∙ send-each mode cov fs each 0 (omega arith) 0 (zeros senderLen mode) (zeros-right senderLen mode),
     )

@@ -1,15 +1,17 @@
 -- A run of a sender, call by call: what it has sent is the definition of what is sent. Assumes nothing.
 use Prim.Native.Nat.{ℕ, zero, suc, _+_, _%_, _<_}
 use mathlib.Core.Path.{_≡_, refl, sym, ap, ap₂, _∙_, subst, fun-ext}
-use mathlib.Core.Bool.{true, cond}
+use mathlib.Core.Bool.{Bool, true, false, cond, not}
 use mathlib.Core.Option.{Option, none, some}
 use mathlib.Core.List.{List, [], _∷_, _++_, map}
 use native.Mathlib.Nat.{add-zero, add-suc, suc-add, zero-add, not-suc-le-zero, le-of-suc-le-suc}
+use native.Mathlib.Omega.{arith}
 use lib.ListN.{length, getD, length-replicate}
-use lib.Dec.{eqb}
+use lib.Dec.{eqb, ltb}
+use borrow.Author.Tests.{ltb-true}
 use Rattle.control.specs.Modes.{covered}
 use Rattle.runs.specs.declared.Answer.{Answer}
-use Rattle.runs.specs.declared.Answer.the-variants.{WrongLength}
+use Rattle.runs.specs.declared.Answer.the-variants.{ReservedTooHigh, WrongLength}
 use Rattle.runs.specs.declared.State.{State}
 use Rattle.runs.specs.declared.Extended.{Extended}
 use Rattle.runs.specs.declared.Extended.the-variants.{P3, P4}
@@ -18,10 +20,10 @@ use Rattle.runs.specs.MainChannels.{mainOf, delayLen}
 use Rattle.runs.specs.Lengths.{kindOf, senderLen}
 use Rattle.runs.specs.Lent.{Frames, Signal, Lent, Memory, Result, memoryOf, ByteFrames, signalOf, memoryNext}
 use Rattle.runs.specs.Answers.{numberOf, onSuccess}
-use Rattle.runs.specs.Causes.{Size, at, judge, wrong}
+use Rattle.runs.specs.Causes.{Size, at, judge, when, wrong}
 use Rattle.runs.specs.Starting.{fresh, stateAt, memorySizes, zeros}
 use Rattle.runs.specs.Sending.{lentSizes, refused, sendAnswer, sendStep, sent}
-use Rattle.runs.specs.Runs.{Call, calls, succeeded, Every, Fitting, SenderRun, sendings, framesSent, signalsSent, noFrames, noSignal, count, frameAt, matricesAt}
+use Rattle.runs.specs.Runs.{Call, calls, succeeded, Every, Fitting, SenderRun, sendings, framesSent, signalsSent, noFrames, noSignal, count, frameAt, matricesAt, controlAt}
 use Rattle.runs.specs.Defined.{defined, table}
 use Rattle.runs.proofs.PX.{memory-length}
 use Rattle.runs.proofs.PM.{scrambled-length}
@@ -30,15 +32,15 @@ use Rattle.runs.proofs.Lists.{length-map, table-at, table-shift}
 use Rattle.runs.proofs.Passing.{wrong-head}
 use Rattle.runs.proofs.States.{defined-shift, defined-start, definedFrom, fresh-at, memoryFrom, next-at, start-ok, valid-at}
 
-lent-right : (mode : ℕ) (l : Lent) (rest : List Size) → ByteFrames (l .frames) → wrong 0 (lentSizes mode l ++ rest) ≡ none → Fitting mode (l .frames)
+lent-right : (mode : ℕ) (l : Lent) (rest : List Size) → l .frames .reserved < 8 → ByteFrames (l .frames) → wrong 0 (lentSizes mode l ++ rest) ≡ none → Fitting mode (l .frames)
 unfolding lentSizes
-lent-right mode l rest bytes h =
+lent-right mode l rest low bytes h =
     let (a, e₁) = wrong-head _ _ _ _ h in
     let (b, e₂) = wrong-head _ _ _ _ e₁ in
     let (c, e₃) = wrong-head _ _ _ _ e₂ in
     let (d, e₄) = wrong-head _ _ _ _ e₃ in
     let (e, e₅) = wrong-head _ _ _ _ e₄ in
-    record { p1-right = a; pids-right = b; p2-right = c; extended-right = λ x. elim x [ P3 ↦ d | P4 ↦ e ]; bytes = bytes }
+    record { reserved-right = low; p1-right = a; pids-right = b; p2-right = c; extended-right = λ x. elim x [ P3 ↦ d | P4 ↦ e ]; bytes = bytes }
 
 pub record MemoryRight (len : Kind → ℕ) (mode : ℕ) (m : Memory) : Type 0 where
   pub extended : (e : Extended) → length (memoryOf m e) ≡ len (kindOf mode e)
@@ -60,20 +62,20 @@ statesIn ss = map (λ (c : Call). c .result .state) ss
 record Ran (mode T : ℕ) (m : Memory) (ss : List Call) : Type 0 where
   signals : signalsIn ss ≡ table 0 (length ss) (definedFrom mode T m (λ t. getD (framesIn ss) t noFrames))
   rights : (t : ℕ) → t < length ss → Fitting mode (getD (framesIn ss) t noFrames)
-  states : (t : ℕ) → t < length ss → getD (statesIn ss) t (fresh mode) ≡ stateAt mode (suc (T + t))
+  states : (t : ℕ) → t < length ss → getD (statesIn ss) t (fresh mode) ≡ stateAt mode (getD (framesIn ss) t noFrames .reserved) (suc (T + t))
 
 -- one more call that succeeded, in front
-ran-cons : (mode T : ℕ) (m : Memory) (l : Lent) (ss : List Call) → Fitting mode (l .frames)
+ran-cons : (mode z T : ℕ) (m : Memory) (l : Lent) (ss : List Call) → Fitting mode (l .frames)
     → Ran mode (suc T) (memoryNext mode (T % 2) m (l .frames)) ss
-    → Ran mode T m (record { lent = l; result = sent (stateAt mode T) m l } ∷ ss)
+    → Ran mode T m (record { lent = l; result = sent (stateAt mode z T) m l } ∷ ss)
 unfolding table sent definedFrom memoryFrom
-ran-cons mode T m l ss right ih =
+ran-cons mode z T m l ss right ih =
     record {
       signals = ap₂ (λ (x : Signal) (xs : List Signal). x ∷ xs) here (ih .signals ∙ rest);
       rights = λ t. elim t [ zero ↦ λ h. right | suc k ↦ λ h. ih .rights k (le-of-suc-le-suc h) ];
       states = λ t. elim t [
-        | zero ↦ λ h. next-at mode T ∙ ap (λ (k : ℕ). stateAt mode (suc k)) (sym (add-zero T))
-        | suc k ↦ λ h. ih .states k (le-of-suc-le-suc h) ∙ ap (λ (k : ℕ). stateAt mode (suc k)) (suc-add T k ∙ sym (add-suc T k))
+        | zero ↦ λ h. next-at mode z (l .frames .reserved) T ∙ ap (λ (k : ℕ). stateAt mode (l .frames .reserved) (suc k)) (sym (add-zero T))
+        | suc k ↦ λ h. ih .states k (le-of-suc-le-suc h) ∙ ap (λ (j : ℕ). stateAt mode (F (suc k) .reserved) (suc j)) (suc-add T k ∙ sym (add-suc T k))
       ];
     }
   where
@@ -99,36 +101,40 @@ memory-right mode cov t m f mr fr =
       delay = waiting-length (mainOf mode) (m .delayed) _ (mr .delay) (scrambled-length (mainOf mode) (f .p1));
     }
 
--- a sending in L1 frame T's state is refused for a length, and then changes nothing, or it succeeds with right lengths
-send-cases : (mode : ℕ) → covered mode ≡ true → (T : ℕ) (m : Memory) (l : Lent) → ByteFrames (l .frames) → (A : Result → Type 0)
-    → ((k : ℕ) → A (refused (stateAt mode T) m l (WrongLength k)))
-    → (Fitting mode (l .frames) → A (sent (stateAt mode T) m l))
-    → A (sendStep (stateAt mode T) m l)
+-- a sending in L1 frame T's state is refused for its number or a length, and then changes nothing, or it succeeds with right ones
+send-cases : (mode : ℕ) → covered mode ≡ true → (z : ℕ) → z < 8 → (T : ℕ) (m : Memory) (l : Lent) → ByteFrames (l .frames) → (A : Result → Type 0)
+    → A (refused (stateAt mode z T) m l ReservedTooHigh)
+    → ((k : ℕ) → A (refused (stateAt mode z T) m l (WrongLength k)))
+    → (Fitting mode (l .frames) → A (sent (stateAt mode z T) m l))
+    → A (sendStep (stateAt mode z T) m l)
 unfolding sendStep sendAnswer judge onSuccess
-send-cases mode cov T m l bytes A bad good = rw (valid-at mode cov T) (go (wrong 0 sizes) refl)
+send-cases mode cov z hz T m l bytes A high bad good = rw (valid-at mode cov z hz T) (go (ltb (l .frames .reserved) 8) refl (wrong 0 sizes) refl)
   where
     sizes : List Size
     sizes = lentSizes mode l ++ memorySizes senderLen mode m
 
     gives : Answer → Result
-    gives a = onSuccess a (sent (stateAt mode T) m l) (refused (stateAt mode T) m l a)
+    gives a = onSuccess a (sent (stateAt mode z T) m l) (refused (stateAt mode z T) m l a)
 
-    go : (o : Option ℕ) → wrong 0 sizes ≡ o → A (gives (judge (none ∷ at WrongLength o ∷ [])))
-    go none e = good (lent-right mode l _ bytes e)
-    go (some k) e = bad k
+    go : (b : Bool) → ltb (l .frames .reserved) 8 ≡ b → (o : Option ℕ) → wrong 0 sizes ≡ o
+        → A (gives (judge (none ∷ when (not b) ReservedTooHigh ∷ at WrongLength o ∷ [])))
+    go false low o e = high
+    go true low none e = good (lent-right mode l _ (ltb-true _ 8 low) bytes e)
+    go true low (some k) e = bad k
 
 send-run : (mode : ℕ) → covered mode ≡ true → (ls : List Lent) → Every (λ (l : Lent). ByteFrames (l .frames)) ls
-    → (T : ℕ) (m : Memory) → MemoryRight senderLen mode m → Ran mode T m (succeeded (calls sendStep (stateAt mode T) m ls))
+    → (z : ℕ) → z < 8 → (T : ℕ) (m : Memory) → MemoryRight senderLen mode m → Ran mode T m (succeeded (calls sendStep (stateAt mode z T) m ls))
 unfolding calls succeeded table sent
-send-run mode cov [] s T m right = record { signals = refl; rights = λ t h. absurd (not-suc-le-zero h); states = λ t h. absurd (not-suc-le-zero h) }
-send-run mode cov (l ∷ ls) s T m right =
-    send-cases mode cov T m l (s .0)
+send-run mode cov [] s z hz T m right = record { signals = refl; rights = λ t h. absurd (not-suc-le-zero h); states = λ t h. absurd (not-suc-le-zero h) }
+send-run mode cov (l ∷ ls) s z hz T m right =
+    send-cases mode cov z hz T m l (s .0)
     (λ r. Ran mode T m
     (cond (eqb (numberOf (r .answer)) 0) (record { lent = l; result = r } ∷ succeeded (calls sendStep (r .state) (r .memory) ls))
     (succeeded (calls sendStep (r .state) (r .memory) ls))))
-    (λ k. send-run mode cov ls (s .1) T m right)
-    (λ fr. ran-cons mode T m l _ fr
-    (rw (next-at mode T) (send-run mode cov ls (s .1) (suc T) (memoryNext mode (T % 2) m (l .frames)) (memory-right mode cov T m (l .frames) right fr))))
+    (send-run mode cov ls (s .1) z hz T m right)
+    (λ k. send-run mode cov ls (s .1) z hz T m right)
+    (λ fr. ran-cons mode z T m l _ fr
+    (rw (next-at mode z (l .frames .reserved) T) (send-run mode cov ls (s .1) (l .frames .reserved) (fr .reserved-right) (suc T) (memoryNext mode (T % 2) m (l .frames)) (memory-right mode cov T m (l .frames) right fr))))
 
 -- ---- what a sender's run has sent
 
@@ -138,7 +144,7 @@ sent-facts mode a =
     let (cov, e) = start-ok senderLen mode (a .upon) (a .started) in
     rw e
     (subst (λ (s : State). Ran mode 0 (zeros senderLen mode) (succeeded (calls sendStep s (zeros senderLen mode) (a .lents)))) (fresh-at mode)
-    (send-run mode cov (a .lents) (a .bytes) 0 (zeros senderLen mode) (zeros-right senderLen mode)))
+    (send-run mode cov (a .lents) (a .bytes) 0 (omega arith) 0 (zeros senderLen mode) (zeros-right senderLen mode)))
 
 count-is : (mode : ℕ) (a : SenderRun mode) → count mode a ≡ length (succeeded (sendings mode a))
 unfolding count framesSent
@@ -156,15 +162,27 @@ unfolding frameAt framesSent
 right-at mode a t h = sent-facts mode a .rights t (rw (count-is mode a) at h)
 
 -- the state that the sending of L1 frame t returned is the one before L1 frame t + 1
-pub state-after : (mode : ℕ) (a : SenderRun mode) (t : ℕ) → t < count mode a → getD (statesIn (succeeded (sendings mode a))) t (fresh mode) ≡ stateAt mode (suc t)
-state-after mode a t h = sent-facts mode a .states t (rw (count-is mode a) at h) ∙ ap (λ (k : ℕ). stateAt mode (suc k)) (zero-add t)
+pub state-after : (mode : ℕ) (a : SenderRun mode) (t : ℕ) → t < count mode a → getD (statesIn (succeeded (sendings mode a))) t (fresh mode)
+    ≡ stateAt mode (frameAt mode a t .reserved) (suc t)
+unfolding frameAt framesSent
+state-after mode a t h =
+    sent-facts mode a .states t (rw (count-is mode a) at h)
+    ∙ ap (λ (k : ℕ). stateAt mode (frameAt mode a t .reserved) (suc k)) (zero-add t)
+
+signal-at : (mode : ℕ) (a : SenderRun mode) (t : ℕ) → t < count mode a
+    → getD (signalsSent mode a) t noSignal ≡ defined mode (frameAt mode a) t
+signal-at mode a t h =
+    ap (λ (xs : List Signal). getD xs t noSignal) (as-defined-is mode a) ∙ table-at (count mode a) (defined mode (frameAt mode a)) noSignal t h
 
 pub matrices-at : (mode : ℕ) (a : SenderRun mode) (t : ℕ) → t < count mode a
     → matricesAt mode a t ≡ defined mode (frameAt mode a) t .matrices
 unfolding matricesAt
-matrices-at mode a t h =
-    ap (λ (x : Signal). x .matrices)
-    (ap (λ (xs : List Signal). getD xs t noSignal) (as-defined-is mode a) ∙ table-at (count mode a) (defined mode (frameAt mode a)) noSignal t h)
+matrices-at mode a t h = ap (λ (x : Signal). x .matrices) (signal-at mode a t h)
+
+pub control-at : (mode : ℕ) (a : SenderRun mode) (t : ℕ) → t < count mode a
+    → controlAt mode a t ≡ defined mode (frameAt mode a) t .control
+unfolding controlAt
+control-at mode a t h = ap (λ (x : Signal). x .control) (signal-at mode a t h)
 
 pub covered-of : (mode : ℕ) → SenderRun mode → covered mode ≡ true
 covered-of mode a = start-ok senderLen mode (a .upon) (a .started) .0

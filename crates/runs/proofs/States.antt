@@ -1,5 +1,5 @@
 -- A start that succeeded, the states of a run, and the definition of what is sent from any L1 frame on. Assumes nothing.
-use Prim.Native.Nat.{ℕ, zero, suc, _+_, _%_, _≤_, min}
+use Prim.Native.Nat.{ℕ, zero, suc, _+_, _%_, _≤_, _<_, min}
 use mathlib.Core.Path.{_≡_, refl, sym, ap, ap₂, _∙_}
 use mathlib.Core.Bool.{Bool, true, false, not}
 use mathlib.Core.Option.{Option, none, some}
@@ -70,19 +70,20 @@ aged-at last t =
           rw (e, le-ltb last last (omega arith), eq-eqb last last refl, lt-ltb (t % 2) 2 (omega arith))
     ]
 
-pub valid-at : (mode : ℕ) → covered mode ≡ true → (t : ℕ) → valid (stateAt mode t) ≡ true
+pub valid-at : (mode : ℕ) → covered mode ≡ true → (z : ℕ) → z < 8 → (t : ℕ) → valid (stateAt mode z t) ≡ true
 unfolding valid
-valid-at mode cov t = rw (cov, aged-at (lastAge (mainOf mode)) t)
+valid-at mode cov z h t = rw (cov, aged-at (lastAge (mainOf mode)) t, lt-ltb z 8 h)
 
-pub fresh-at : (mode : ℕ) → stateAt mode 0 ≡ fresh mode
-fresh-at mode = λ i. record { mode = mode; half = 0; age = none-yet i }
+pub fresh-at : (mode : ℕ) → stateAt mode 0 0 ≡ fresh mode
+fresh-at mode = λ i. record { mode = mode; half = 0; age = none-yet i; reserved = 0 }
   where
     none-yet : min (lastAge (mainOf mode)) 0 ≡ 0
     none-yet = omega arith
 
-pub next-at : (mode t : ℕ) → next (stateAt mode t) ≡ stateAt mode (suc t)
+-- after an L1 frame of the number w
+pub next-at : (mode z w t : ℕ) → next w (stateAt mode z t) ≡ stateAt mode w (suc t)
 unfolding next
-next-at mode t = λ i. record { mode = mode; half = halves i; age = ages i }
+next-at mode z w t = λ i. record { mode = mode; half = halves i; age = ages i; reserved = w }
   where
     halves : (t % 2 + 1) % 2 ≡ suc t % 2
     halves = omega arith

@@ -8,7 +8,7 @@ use native.Mathlib.Omega.{arith}
 use lib.Dec.{ltb}
 use borrow.Author.Tests.{lt-ltb}
 use Rattle.control.specs.Modes.{covered}
-use Rattle.control.specs.Departs.{departs}
+use Rattle.control.specs.Departs.{strays}
 use Rattle.runs.specs.declared.State.{State}
 use Rattle.runs.specs.declared.Extended.{Extended}
 use Rattle.runs.specs.declared.Extended.the-variants.{P3, P4}
@@ -30,17 +30,17 @@ pub start-succeeds : (len : Kind → ℕ) (mode : ℕ) (m : Memory) → covered 
 unfolding start startAnswer judge onSuccess
 start-succeeds len mode m cov lengths = rw (cov, lengths)
 
--- a sending with a valid state and the right lengths
-pub send-succeeds : (s : State) (m : Memory) (l : Lent) → valid s ≡ true
+-- a sending with a valid state, a number up to 7 and the right lengths
+pub send-succeeds : (s : State) (m : Memory) (l : Lent) → valid s ≡ true → l .frames .reserved < 8
     → wrong 0 (lentSizes (s .mode) l ++ memorySizes senderLen (s .mode) m) ≡ none → sendStep s m l ≡ sent s m l
 unfolding sendStep sendAnswer judge onSuccess
-send-succeeds s m l state lengths = rw (state, lengths)
+send-succeeds s m l state number lengths = rw (state, lt-ltb (l .frames .reserved) 8 number, lengths)
 
 -- a reading that meets none of 2 to 8
 pub record Clear (s : State) (m : Memory) (l : Lent) : Type 0 where
   pub state : valid s ≡ true
   pub lengths : wrong 0 (lentSizes (s .mode) l ++ memorySizes readerLen (s .mode) m) ≡ none
-  pub control : first 16 (departs (s .mode) 0 (l .signal .control)) ≡ none
+  pub control : first 16 (strays (s .mode) (l .signal .control)) ≡ none
   pub main : mainPlace s m (l .signal .matrices) ≡ none
   pub pids : first 16 (pidsBad (l .signal .matrices .pm)) ≡ none
   pub fill : fillPlace s (l .signal .matrices) ≡ none

@@ -1,7 +1,7 @@
 -- Documents 01 and 02, the table of causes: the number and the place that each answer stands for.
 use Prim.Native.Nat.{ℕ}
 use Rattle.runs.specs.declared.Answer.{Answer}
-use Rattle.runs.specs.declared.Answer.the-variants.{Success, ModeNotCovered, StateNotValid, WrongLength, WrongControl, MainNotCoded, PidsNotCoded, FillNotZero, ExtendedNotCoded, SharesTooMany, SymbolTooHigh, ScaleNotUsable, NoFrameFits, SeveralFit, WrongBudget}
+use Rattle.runs.specs.declared.Answer.the-variants.{Success, ModeNotCovered, StateNotValid, WrongLength, WrongControl, MainNotCoded, PidsNotCoded, FillNotZero, ExtendedNotCoded, ReservedTooHigh, SharesTooMany, SymbolTooHigh, ScaleNotUsable, NoFrameFits, SeveralFit, WrongBudget}
 
 abbrev pub numberOf : Answer → ℕ
 numberOf Success = 0
@@ -13,6 +13,7 @@ numberOf (MainNotCoded frame) = 5
 numberOf (PidsNotCoded frame) = 6
 numberOf (FillNotZero cell) = 7
 numberOf (ExtendedNotCoded frame) = 8
+numberOf ReservedTooHigh = 9
 numberOf SharesTooMany = 10
 numberOf SymbolTooHigh = 11
 numberOf (ScaleNotUsable place) = 12
@@ -30,6 +31,7 @@ placeOf (MainNotCoded frame) = frame
 placeOf (PidsNotCoded frame) = frame
 placeOf (FillNotZero cell) = cell
 placeOf (ExtendedNotCoded frame) = frame
+placeOf ReservedTooHigh = 0
 placeOf SharesTooMany = 0
 placeOf SymbolTooHigh = 0
 placeOf (ScaleNotUsable place) = place
@@ -48,6 +50,7 @@ onSuccess (MainNotCoded frame) done refused = refused
 onSuccess (PidsNotCoded frame) done refused = refused
 onSuccess (FillNotZero cell) done refused = refused
 onSuccess (ExtendedNotCoded frame) done refused = refused
+onSuccess ReservedTooHigh done refused = refused
 onSuccess SharesTooMany done refused = refused
 onSuccess SymbolTooHigh done refused = refused
 onSuccess (ScaleNotUsable place) done refused = refused

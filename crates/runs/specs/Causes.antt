@@ -1,4 +1,4 @@
--- Document 01, the table of causes: the lowest number wins, then the lowest place.
+-- Documents 01 and 02, the table of causes: the first in the order said wins, then the lowest place. The order is that of the numbers, except that S-2 puts 9 between 2 and 3.
 use Prim.Native.Nat.{ℕ, suc}
 use mathlib.Core.Bool.{Bool, cond}
 use mathlib.Core.Option.{Option, none, some}
@@ -8,7 +8,7 @@ use Rattle.bits.specs.Tests.{lowest}
 use Rattle.runs.specs.declared.Answer.{Answer}
 use Rattle.runs.specs.declared.Answer.the-variants.{Success}
 
--- the answer from the list of causes, each met or not, in the order of their numbers: the first that is met
+-- the answer from the list of causes, each met or not, in that order: the first that is met
 unfoldable pub judge : List (Option Answer) → Answer
 judge [] = Success
 judge (none ∷ rest) = judge rest

@@ -16,6 +16,11 @@ memoryBefore mode F (suc t) = memoryNext mode (t % 2) (memoryBefore mode F t) (F
 unfoldable pub defined : ℕ → (ℕ → Frames) → ℕ → Signal
 defined mode F t = signalOf mode (t % 2) (memoryBefore mode F t) (F t)
 
+-- the number that the state holds before L1 frame t: that of the L1 frame before, and 0 at a start
+unfoldable pub numberBefore : (ℕ → Frames) → ℕ → ℕ
+numberBefore F zero = 0
+numberBefore F (suc t) = F t .reserved
+
 -- f t, f (t + 1), .. : n of them
 unfoldable pub table {ℓ} : {A : Type ℓ} → ℕ → ℕ → (ℕ → A) → List A
 table t zero f = []

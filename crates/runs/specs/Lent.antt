@@ -13,8 +13,10 @@ use Rattle.runs.specs.Lengths.{kindOf, matrixLen}
 use Rattle.runs.specs.Chain.{Buffer, pmOf, pxOf, memOf}
 use Rattle.runs.specs.Paths.{scrambledOf, oldest, waiting, p1′Of}
 
--- the transfer frames of an L1 frame: 1 or 8 of P1, 16 of PIDS, 1 of P2, 8 of P3, 8 of P4
+-- what a sending is handed for an L1 frame, and a reading returns: its reserved number (S-2), and its transfer frames, 1 or 8 of P1, 16 of PIDS, 1 of P2, 8 of P3, 8 of
+-- P4
 pub record Frames : Type 0 where
+  pub reserved : ℕ
   pub p1 : Buffer
   pub pids : Buffer
   pub p2 : Buffer
@@ -32,7 +34,7 @@ pub record Signal : Type 0 where
   pub matrices : Matrices
   pub control : Buffer
 
--- the nine buffers lent to a sending or a reading
+-- the nine buffers lent to a sending or a reading, with the number handed to a sending
 pub record Lent : Type 0 where
   pub frames : Frames
   pub signal : Signal
@@ -84,7 +86,7 @@ signalOf mode half m f =
         px1 = pxOf (kindOf mode P3) half (m .for3) (f .p3);
         px2 = pxOf (kindOf mode P4) half (m .for4) (f .p4) ++ p1′Of k (oldest k (m .delayed) (scrambledOf k (f .p1)));
       };
-      control = controlOf mode 0;
+      control = controlOf mode (f .reserved);
     }
 
 unfoldable pub memoryNext : ℕ → ℕ → Memory → Frames → Memory

@@ -5,7 +5,7 @@ use mathlib.Core.Option.{none}
 use mathlib.Core.List.{[], _∷_, _++_}
 use lib.ListN.{length, drop}
 use lib.Dec.{ltb}
-use Rattle.control.specs.Departs.{departs}
+use Rattle.control.specs.Departs.{numberIn, strays}
 use Rattle.runs.specs.declared.Answer.{Answer}
 use Rattle.runs.specs.declared.Answer.the-variants.{Success, StateNotValid, WrongLength, WrongControl, MainNotCoded, PidsNotCoded, FillNotZero, ExtendedNotCoded}
 use Rattle.runs.specs.declared.State.{State}
@@ -35,6 +35,15 @@ pushed mode m x =
       delayed = waiting k (m .delayed) (p1Of k (x .pm));
     }
 
+-- the buffers lent, with the number 0
+abbrev pub unnumbered : Lent → Lent
+unnumbered l =
+    let f = l .frames in
+    record {
+      frames = record { reserved = 0; p1 = f .p1; pids = f .pids; p2 = f .p2; p3 = f .p3; p4 = f .p4 };
+      signal = l .signal;
+    }
+
 -- reading meets 2 to 8: 8 from age 2 on, when all bits of that L1 frame have arrived
 unfoldable pub readAnswer : State → Memory → Lent → Answer
 readAnswer s m l =
@@ -42,26 +51,28 @@ readAnswer s m l =
     judge
     (when (not (valid s)) StateNotValid
     ∷ at WrongLength (wrong 0 (lentSizes (s .mode) l ++ memorySizes readerLen (s .mode) m))
-    ∷ at WrongControl (first 16 (departs (s .mode) 0 (l .signal .control)))
+    ∷ at WrongControl (first 16 (strays (s .mode) (l .signal .control)))
     ∷ at MainNotCoded (mainPlace s m x)
     ∷ at PidsNotCoded (first 16 (pidsBad (x .pm)))
     ∷ at (λ c. FillNotZero (countedFirst (mainOf (s .mode)) + c)) (fillPlace s x)
     ∷ at ExtendedNotCoded (cond (ltb (s .age) 2) none (framePlace s (pushed (s .mode) m x)))
     ∷ [])
 
--- a success returns PIDS and P2; once their second path has come, P1 frames, in MP5 and MP6 those of the L1 frame three earlier; and from age 2 on the P3
+-- a success returns the number, which the state holds then, PIDS and P2; once their second path has come, P1 frames, in MP5 and MP6 those of the L1 frame three earlier; and from age 2 on the P3
 -- and P4 of the L1 frame two earlier
 unfoldable pub received : State → Memory → Lent → Result
 received s m l =
     let x = l .signal .matrices in
     let k = mainOf (s .mode) in
     let after = pushed (s .mode) m x in
+    let z = numberIn (s .mode) (l .signal .control) in
     record {
       answer = Success;
-      state = next s;
+      state = next z s;
       memory = after;
       lent = record {
         frames = record {
+          reserved = z;
           p1 = cond (ltb (s .age) (delayFrames k)) (l .frames .p1) (scrambledOf k (due (s .mode) m x));
           pids = pidsOf (x .pm);
           p2 = p2Of k (x .pm);
@@ -72,5 +83,6 @@ received s m l =
       };
     }
 
+-- a refusal returns the number 0, and leaves everything as it was
 unfoldable pub readStep : State → Memory → Lent → Result
-readStep s m l = onSuccess (readAnswer s m l) (received s m l) (refused s m l (readAnswer s m l))
+readStep s m l = onSuccess (readAnswer s m l) (received s m l) (refused s m (unnumbered l) (readAnswer s m l))

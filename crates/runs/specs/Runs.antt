@@ -1,5 +1,5 @@
 -- Document 01, "Operations of a run" and "Sheet guarantees": runs of a sender and of a reader, and what was sent.
-use Prim.Native.Nat.{ℕ}
+use Prim.Native.Nat.{ℕ, _<_}
 use mathlib.Core.Path.{_≡_}
 use mathlib.Core.Bool.{cond}
 use mathlib.Core.List.{List, [], _∷_, map}
@@ -9,6 +9,7 @@ use Rattle.runs.specs.declared.State.{State}
 use Rattle.runs.specs.declared.Extended.{Extended}
 use Rattle.runs.specs.MainChannels.{mainOf, p1Len, p2Len}
 use Rattle.runs.specs.Lengths.{kindOf, frameLen, senderLen, readerLen, pidsLen}
+use Rattle.runs.specs.Chain.{Buffer}
 use Rattle.runs.specs.Answers.{numberOf}
 use Rattle.runs.specs.Lent.{Frames, Matrices, Signal, Lent, Memory, Result, frameOf, ByteFrames}
 use Rattle.runs.specs.Sending.{sendStep}
@@ -36,8 +37,9 @@ abbrev pub Every : {A : Type 0} → (A → Type 0) → List A → Type 0
 Every P [] = Unit {0}
 Every P (x ∷ xs) = P x × Every P xs
 
--- frames of the right lengths
+-- frames of the right lengths, and a number up to 7
 pub record Fitting (mode : ℕ) (f : Frames) : Type 0 where
+  pub reserved-right : f .reserved < 8
   pub p1-right : length (f .p1) ≡ p1Len (mainOf mode)
   pub pids-right : length (f .pids) ≡ pidsLen
   pub p2-right : length (f .p2) ≡ p2Len (mainOf mode)
@@ -65,7 +67,7 @@ unfoldable pub readings : (mode : ℕ) → ReaderRun mode → List Call
 readings mode b =
     calls readStep (start readerLen mode (b .upon) .state) (start readerLen mode (b .upon) .memory) (b .lents)
 
--- the frames lent to the successful sendings, and the matrices and control sequences that they wrote
+-- the frames and numbers handed to the successful sendings, and the matrices and control sequences that they wrote
 unfoldable pub framesSent : (mode : ℕ) → SenderRun mode → List Frames
 framesSent mode a = map (λ (c : Call). c .lent .frames) (succeeded (sendings mode a))
 
@@ -73,12 +75,12 @@ unfoldable pub signalsSent : (mode : ℕ) → SenderRun mode → List Signal
 signalsSent mode a = map (λ (c : Call). c .result .lent .signal) (succeeded (sendings mode a))
 
 abbrev pub noFrames : Frames
-noFrames = record { p1 = []; pids = []; p2 = []; p3 = []; p4 = [] }
+noFrames = record { reserved = 0; p1 = []; pids = []; p2 = []; p3 = []; p4 = [] }
 
 abbrev pub noSignal : Signal
 noSignal = record { matrices = record { pm = []; px1 = []; px2 = [] }; control = [] }
 
--- the run's length, L1 frame t of it, and that frame's matrices
+-- the run's length, L1 frame t of it, and that frame's matrices and control sequences
 unfoldable pub count : (mode : ℕ) → SenderRun mode → ℕ
 count mode a = length (framesSent mode a)
 
@@ -87,3 +89,6 @@ frameAt mode a t = getD (framesSent mode a) t noFrames
 
 unfoldable pub matricesAt : (mode : ℕ) → SenderRun mode → ℕ → Matrices
 matricesAt mode a t = getD (signalsSent mode a) t noSignal .matrices
+
+unfoldable pub controlAt : (mode : ℕ) → SenderRun mode → ℕ → Buffer
+controlAt mode a t = getD (signalsSent mode a) t noSignal .control

@@ -1,10 +1,11 @@
--- Document 01, "Operations of a run": what a sending does.
+-- Documents 01 and 02, "Operations of a run": what a sending does.
 use Prim.Native.Nat.{ℕ}
 use mathlib.Core.Bool.{not}
 use mathlib.Core.List.{List, [], _∷_, _++_}
+use lib.Dec.{ltb}
 use lib.ListN.{length}
 use Rattle.runs.specs.declared.Answer.{Answer}
-use Rattle.runs.specs.declared.Answer.the-variants.{Success, StateNotValid, WrongLength}
+use Rattle.runs.specs.declared.Answer.the-variants.{Success, StateNotValid, ReservedTooHigh, WrongLength}
 use Rattle.runs.specs.declared.State.{State}
 use Rattle.runs.specs.declared.Extended.the-variants.{P3, P4}
 use Rattle.runs.specs.MainChannels.{mainOf, p1Len, p2Len}
@@ -28,20 +29,21 @@ lentSizes mode l =
     ∷ size (length (l .signal .control)) controlLen
     ∷ []
 
--- sending meets only 2 and 3
+-- sending meets only 2, 9 and 3, in this order (S-2)
 unfoldable pub sendAnswer : State → Memory → Lent → Answer
 sendAnswer s m l =
     judge
     (when (not (valid s)) StateNotValid
+    ∷ when (not (ltb (l .frames .reserved) 8)) ReservedTooHigh
     ∷ at WrongLength (wrong 0 (lentSizes (s .mode) l ++ memorySizes senderLen (s .mode) m))
     ∷ [])
 
--- a success writes the matrices and the control sequences, and the memory
+-- a success writes the matrices and the control sequences, and the memory; the state holds the number sent
 unfoldable pub sent : State → Memory → Lent → Result
 sent s m l =
     record {
       answer = Success;
-      state = next s;
+      state = next (l .frames .reserved) s;
       memory = memoryNext (s .mode) (s .half) m (l .frames);
       lent = record { frames = l .frames; signal = signalOf (s .mode) (s .half) m (l .frames) };
     }

@@ -20,21 +20,27 @@ use Rattle.runs.specs.Lent.{Memory}
 unfoldable pub aged : (last half age : ℕ) → Bool
 aged last half age = cond (ltb age last) (eqb half (age % 2)) (eqb age last && ltb half 2)
 
--- and a covered mode
+-- and a covered mode, and a number up to 7
 unfoldable pub valid : State → Bool
-valid s = covered (s .mode) && aged (lastAge (mainOf (s .mode))) (s .half) (s .age)
+valid s = covered (s .mode) && aged (lastAge (mainOf (s .mode))) (s .half) (s .age) && ltb (s .reserved) 8
 
--- the state after one more L1 frame
-unfoldable pub next : State → State
-next s = record { mode = s .mode; half = (s .half + 1) % 2; age = min (lastAge (mainOf (s .mode))) (s .age + 1) }
+-- the state after one more L1 frame, of this number
+unfoldable pub next : ℕ → State → State
+next reserved s =
+    record {
+      mode = s .mode;
+      half = (s .half + 1) % 2;
+      age = min (lastAge (mainOf (s .mode))) (s .age + 1);
+      reserved = reserved;
+    }
 
 -- the state before the first
 abbrev pub fresh : ℕ → State
-fresh mode = record { mode = mode; half = 0; age = 0 }
+fresh mode = record { mode = mode; half = 0; age = 0; reserved = 0 }
 
--- the state before L1 frame t of a run
-abbrev pub stateAt : (mode t : ℕ) → State
-stateAt mode t = record { mode = mode; half = t % 2; age = min (lastAge (mainOf mode)) t }
+-- the state before L1 frame t of a run, with the number of the L1 frame before
+abbrev pub stateAt : (mode reserved t : ℕ) → State
+stateAt mode reserved t = record { mode = mode; half = t % 2; age = min (lastAge (mainOf mode)) t; reserved = reserved }
 
 -- ---- a start, of a sender with the lengths `senderLen`, of a reader with `readerLen`
 

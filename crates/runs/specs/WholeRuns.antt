@@ -13,7 +13,7 @@ use Rattle.runs.specs.Answers.{numberOf, placeOf}
 use Rattle.runs.specs.Lent.{Frames, Lent, Result, frameOf, matrixOf}
 use Rattle.runs.specs.Starting.{fresh}
 use Rattle.runs.specs.Sending.{refused}
-use Rattle.runs.specs.Runs.{Call, Every, Fitting, SenderRun, ReaderRun, readings, framesSent, signalsSent, count, frameAt, matricesAt, noFrames, noSignal}
+use Rattle.runs.specs.Runs.{Call, Every, Fitting, SenderRun, ReaderRun, readings, framesSent, signalsSent, count, frameAt, matricesAt, controlAt, noFrames, noSignal}
 use Rattle.runs.specs.Defined.{defined, table, eighth}
 use Rattle.runs.specs.Handed.{Handed}
 
@@ -25,11 +25,13 @@ SameMatrices mode n a b = (k : ℕ) → k < n → matricesAt mode a k ≡ matric
 abbrev pub SameMain : Frames → Frames → Type 0
 SameMain f g = (f .p1 ≡ g .p1) × (f .pids ≡ g .pids) × (f .p2 ≡ g .p2)
 
--- what the reading of L1 frame t of the frames F gives, where it was lent the frame buffers `lent`. What comes late leaves its buffer till then: P1 by the
--- diversity delay, P3 and P4 by two L1 frames
+-- what the reading of L1 frame t of the frames F gives, where it was lent the frame buffers `lent`: its number, which the state holds then, and frames. What
+-- comes late leaves its buffer till then: P1 by the diversity delay, P3 and P4 by two L1 frames
 pub record Returned (mode : ℕ) (F : ℕ → Frames) (t : ℕ) (lent : Frames) (g : Result) : Type 0 where
   pub number-zero : numberOf (g .answer) ≡ 0
   pub place-zero : placeOf (g .answer) ≡ 0
+  pub reserved-is : g .lent .frames .reserved ≡ F t .reserved
+  pub reserved-kept : g .state .reserved ≡ F t .reserved
   pub p1-early : t < delayFrames (mainOf mode) → g .lent .frames .p1 ≡ lent .p1
   pub p1-is : (s : ℕ) → t ≡ s + delayFrames (mainOf mode) → g .lent .frames .p1 ≡ F s .p1
   pub pids-is : g .lent .frames .pids ≡ F t .pids
@@ -62,10 +64,14 @@ pub record WholeRuns (mode : ℕ) : Type 0 where
       → 8 * t + f + 16 < 8 * count mode a → 8 * t + f + 16 < 8 * count mode b
       → eighth f (frameOf (frameAt mode a t) e) ≢ eighth f (frameOf (frameAt mode b t) e)
       → (k : ℕ) × (t ≤ k) × (k ≤ t + 2) × (matrixOf mode (matricesAt mode a k) e ≢ matrixOf mode (matricesAt mode b k) e)
-  -- a reader accepts each L1 frame sent, and returns the frames
+  -- and runs that differ in a number, different control sequences in that L1 frame
+  pub differ-number : (a b : SenderRun mode) (t : ℕ) → t < count mode a → t < count mode b
+      → frameAt mode a t .reserved ≢ frameAt mode b t .reserved
+      → controlAt mode a t ≢ controlAt mode b t
+  -- a reader accepts each L1 frame sent, and returns its number and the frames
   pub read-back : (a : SenderRun mode) (b : ReaderRun mode) (gs : List Call) → Handed mode (signalsSent mode a) (readings mode b) gs
       → (length gs ≡ count mode a) × ((t : ℕ) → t < count mode a → Returned mode (frameAt mode a) t (getD gs t noCall .lent .frames) (getD gs t noCall .result))
   -- and there is such a reader's run
   pub readable : (a : SenderRun mode) → (b : ReaderRun mode) × (gs : List Call) × Handed mode (signalsSent mode a) (readings mode b) gs
-  -- and in a covered mode any frames of the right lengths can be sent
+  -- and in a covered mode any frames of the right lengths and any numbers up to 7 can be sent
   pub sendable : covered mode ≡ true → (fs : List Frames) → Every (Fitting mode) fs → (a : SenderRun mode) × (framesSent mode a ≡ fs)

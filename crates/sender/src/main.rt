@@ -1,4 +1,4 @@
-// sender MODE COUNT: reads the transfer frames of COUNT L1 frames, each P1, PIDS, P2, P3, P4, and writes for each its PM, PX1, PX2 and control.
+// sender MODE COUNT: reads COUNT L1 frames, each its reserved number, one byte, and its transfer frames, P1, PIDS, P2, P3, P4, and writes for each its PM, PX1, PX2 and control.
 use programs::Arguments;
 use programs::Step;
 use runs::State;
@@ -76,7 +76,7 @@ fn send_all(
 // The buffers of a run in MP1, MP2, MP3 and MP11, each of its length in this mode: no P2, and no delay memory.
 fn run_plain(mode: u8, count: u64) {
     let want = layer1::sender_lengths(mode);
-    let mut input = [0u8; 27648];
+    let mut input = [0u8; 27649];
     let mut pm = [0u8; 46080];
     let mut px1 = [0u8; 9216];
     let mut px2 = [0u8; 9216];
@@ -104,7 +104,7 @@ fn run_plain(mode: u8, count: u64) {
 
 // The buffers of a run in MP5: no P4.
 fn run_mp5(count: u64) {
-    let mut input = [0u8; 23040];
+    let mut input = [0u8; 23041];
     let mut pm = [0u8; 46080];
     let mut px1 = [0u8; 9216];
     let mut px2 = [0u8; 9216];
@@ -127,7 +127,7 @@ fn run_mp5(count: u64) {
 
 // The buffers of a run in MP6: neither P3 nor P4.
 fn run_mp6(count: u64) {
-    let mut input = [0u8; 18432];
+    let mut input = [0u8; 18433];
     let mut pm = [0u8; 46080];
     let mut px2 = [0u8; 18432];
     let mut control = [0u8; 4096];

@@ -23,23 +23,23 @@ use Rattle.runs.specs.Sending.{lentSizes, refused, sendAnswer, sendStep, sent}
 use Rattle.runs.proofs.PM.{scrambled-length}
 use Rattle.runs.proofs.Answered.{not-success, success-is}
 use Rattle.runs.proofs.Succeeds.{send-succeeds}
-use Rattle.calls.specs.Admitted.{admitted}
+use Rattle.calls.specs.Admitted.{admitted, firstCause}
 use Rattle.calls.specs.Called.{Buffer, memory, signal}
 use Rattle.calls.specs.Fits.{Fits}
 use Rattle.calls.specs.Sizes.{lengthsOf, sizes, wanted}
 use Rattle.calls.proofs.Admitted.{clear, compared, fits}
 
 module _ (s : State) (m : Memory) (l : Lent) where
-  -- the answer to the state and the lengths is all of a sending's
-  sending-answer : admitted s (wrong 0 (lentSizes (s .mode) l ++ memorySizes senderLen (s .mode) m)) ≡ sendAnswer s m l
-  unfolding admitted sendAnswer
+  -- the answer to the state, the number and the lengths is all of a sending's
+  sending-answer : admitted s (l .frames .reserved) (wrong 0 (lentSizes (s .mode) l ++ memorySizes senderLen (s .mode) m)) ≡ sendAnswer s m l
+  unfolding firstCause sendAnswer
   sending-answer = refl
 
   module _ (a : Answer) (have want : List ℕ) (h : have ≡ lengthsOf l m)
       (w : want ≡ wanted (s .mode) (senderLen (kindOf (s .mode) P3)) (senderLen (kindOf (s .mode) P4)))
-      (admits : a ≡ admitted s (wrong 0 (sizes have want))) where
-    is : a ≡ admitted s (wrong 0 (lentSizes (s .mode) l ++ memorySizes senderLen (s .mode) m))
-    is = admits ∙ ap (λ sizes. admitted s (wrong 0 sizes)) (compared senderLen s m l have want h w)
+      (admits : a ≡ admitted s (l .frames .reserved) (wrong 0 (sizes have want))) where
+    is : a ≡ admitted s (l .frames .reserved) (wrong 0 (lentSizes (s .mode) l ++ memorySizes senderLen (s .mode) m))
+    is = admits ∙ ap (λ sizes. admitted s (l .frames .reserved) (wrong 0 sizes)) (compared senderLen s m l have want h w)
 
     -- a refusal leaves everything as it was
     pub kept : (numberOf a ≡ 0 → ⊥) → refused s m l a ≡ sendStep s m l
@@ -50,17 +50,17 @@ module _ (s : State) (m : Memory) (l : Lent) where
 
     module _ (zero : numberOf a ≡ 0) where
       pub sendable : Fits senderLen s m l
-      sendable = let (v, e) = clear s _ (ap numberOf (sym is) ∙ zero) in fits senderLen s m l v e
+      sendable = let (v, n, e) = clear s _ _ (ap numberOf (sym is) ∙ zero) in fits senderLen s m l v n e
 
       -- a success leaves what the definition says
-      pub written : (s′ : State) (x : Signal) (m′ : Memory) → s′ ≡ next s
+      pub written : (s′ : State) (x : Signal) (m′ : Memory) → s′ ≡ next (l .frames .reserved) s
           → x ≡ signalOf (s .mode) (s .half) m (l .frames) → m′ ≡ memoryNext (s .mode) (s .half) m (l .frames)
           → record { answer = a; state = s′; memory = m′; lent = record { frames = l .frames; signal = x } } ≡ sendStep s m l
       unfolding sent
       written s′ x m′ es ex em =
-          let (v, w) = clear s _ (ap numberOf (sym is) ∙ zero) in
+          let (v, n, w) = clear s _ _ (ap numberOf (sym is) ∙ zero) in
           (λ i. record { answer = success-is a zero i; state = es i; memory = em i; lent = record { frames = l .frames; signal = ex i } })
-          ∙ sym (send-succeeds s m l v w)
+          ∙ sym (send-succeeds s m l v n w)
 
 -- what the parts of the work leave
 module _ (s : State) (m : Memory) (f : Frames) where
@@ -70,7 +70,7 @@ module _ (s : State) (m : Memory) (f : Frames) where
       → m4 ≡ memOf k4 (s .half) (m .for4) (f .p4)
       → (d ≡ waiting k (m .delayed) (scrambledOf k (f .p1))) × (pm ≡ pmOf k (f .p1) (f .p2) (f .pids))
       → (px1 ≡ pxOf k3 (s .half) (m .for3) (f .p3)) × (m3 ≡ memOf k3 (s .half) (m .for3) (f .p3))
-      → control ≡ controlOf (s .mode) 0
+      → control ≡ controlOf (s .mode) (f .reserved)
       → (signal pm px1 px2 control ≡ signalOf (s .mode) (s .half) m f) × (memory m3 m4 d ≡ memoryNext (s .mode) (s .half) m f)
   unfolding signalOf memoryNext
   worked k k3 k4 pm px1 px2 control m3 m4 d hk h3 h4 e2 e4 (ed, ep) (e1, e3) ec = (

@@ -1,4 +1,4 @@
-// Document 01: sending an L1 frame.
+// Documents 01 and 02: sending an L1 frame.
 use calls::Outcome;
 use calls::admit;
 use calls::kind_of;
@@ -18,6 +18,7 @@ ghost use Rattle.calls.specs.Called.{frames, gave, lent, memory, signal};
 // Writes the matrices and control sequences of an L1 frame, and the sender's memory.
 fn write(
     state: State,
+    reserved: u8,
     p1: &[u8],
     pids: &[u8],
     p2: &[u8],
@@ -31,9 +32,9 @@ fn write(
     memory4: &mut [u8],
     delay: &mut [u8],
 )
-    requires { ⌜ Fits senderLen state (memory (now memory3) (now memory4) (now delay)) (lent (now p1) (now pids) (now p2) (now p3) (now p4) (now pm) (now px1) (now px2) (now control)) ⌝ }
-    ensures { λ _. ⌜ signal (now (pm .exit)) (now (px1 .exit)) (now (px2 .exit)) (now (control .exit)) ≡ signalOf (state .mode) (state .half) (memory (now (memory3 .entry)) (now (memory4 .entry)) (now (delay .entry))) (frames (now (p1 .entry)) (now (pids .entry)) (now (p2 .entry)) (now (p3 .entry)) (now (p4 .entry))) ⌝ }
-    ensures { λ _. ⌜ memory (now (memory3 .exit)) (now (memory4 .exit)) (now (delay .exit)) ≡ memoryNext (state .mode) (state .half) (memory (now (memory3 .entry)) (now (memory4 .entry)) (now (delay .entry))) (frames (now (p1 .entry)) (now (pids .entry)) (now (p2 .entry)) (now (p3 .entry)) (now (p4 .entry))) ⌝ }
+    requires { ⌜ Fits senderLen state (memory (now memory3) (now memory4) (now delay)) (lent reserved (now p1) (now pids) (now p2) (now p3) (now p4) (now pm) (now px1) (now px2) (now control)) ⌝ }
+    ensures { λ _. ⌜ signal (now (pm .exit)) (now (px1 .exit)) (now (px2 .exit)) (now (control .exit)) ≡ signalOf (state .mode) (state .half) (memory (now (memory3 .entry)) (now (memory4 .entry)) (now (delay .entry))) (frames reserved (now (p1 .entry)) (now (pids .entry)) (now (p2 .entry)) (now (p3 .entry)) (now (p4 .entry))) ⌝ }
+    ensures { λ _. ⌜ memory (now (memory3 .exit)) (now (memory4 .exit)) (now (delay .exit)) ≡ memoryNext (state .mode) (state .half) (memory (now (memory3 .entry)) (now (memory4 .entry)) (now (delay .entry))) (frames reserved (now (p1 .entry)) (now (pids .entry)) (now (p2 .entry)) (now (p3 .entry)) (now (p4 .entry))) ⌝ }
 {
     let main = main_of(state.mode);
     let half = state.half;
@@ -48,12 +49,13 @@ fn write(
     );
     chain::write_pm(main, p1, p2, pids, delay, pm);
     chain::write_px(kind_of(state.mode, Extended::P3), half, p3, px1, memory3);
-    control::fill_control(state.mode, 0, control);
+    control::fill_control(state.mode, reserved, control);
 }
 
-// Sends an L1 frame: writes its matrices and control sequences from the transfer frames lent, and the sender's memory.
+// Sends an L1 frame: writes its matrices and control sequences from the transfer frames lent and its reserved number, and the sender's memory.
 pub fn send(
     state: State,
+    reserved: u8,
     p1: &[u8],
     pids: &[u8],
     p2: &[u8],
@@ -67,8 +69,8 @@ pub fn send(
     memory4: &mut [u8],
     delay: &mut [u8],
 ) -> Outcome
-    ensures { λ r. ⌜ gave r (memory (now (memory3 .exit)) (now (memory4 .exit)) (now (delay .exit))) (lent (now (p1 .entry)) (now (pids .entry)) (now (p2 .entry)) (now (p3 .entry)) (now (p4 .entry)) (now (pm .exit)) (now (px1 .exit)) (now (px2 .exit)) (now (control .exit)))
-        ≡ sendStep state (memory (now (memory3 .entry)) (now (memory4 .entry)) (now (delay .entry))) (lent (now (p1 .entry)) (now (pids .entry)) (now (p2 .entry)) (now (p3 .entry)) (now (p4 .entry)) (now (pm .entry)) (now (px1 .entry)) (now (px2 .entry)) (now (control .entry))) ⌝ }
+    ensures { λ r. ⌜ gave r (memory (now (memory3 .exit)) (now (memory4 .exit)) (now (delay .exit))) (lent reserved (now (p1 .entry)) (now (pids .entry)) (now (p2 .entry)) (now (p3 .entry)) (now (p4 .entry)) (now (pm .exit)) (now (px1 .exit)) (now (px2 .exit)) (now (control .exit)))
+        ≡ sendStep state (memory (now (memory3 .entry)) (now (memory4 .entry)) (now (delay .entry))) (lent reserved (now (p1 .entry)) (now (pids .entry)) (now (p2 .entry)) (now (p3 .entry)) (now (p4 .entry)) (now (pm .entry)) (now (px1 .entry)) (now (px2 .entry)) (now (control .entry))) ⌝ }
 {
     let have = [
         p1.len(),
@@ -85,13 +87,14 @@ pub fn send(
         delay.len(),
     ];
     let want = sender_lengths(state.mode);
-    let answer = admit(state, &have, &want);
-    let next = next_of(state);
+    let answer = admit(state, reserved, &have, &want);
+    let next = next_of(state, reserved);
     if number(answer) != 0 {
         return Outcome { answer, state };
     }
     write(
         state,
+        reserved,
         p1,
         pids,
         p2,

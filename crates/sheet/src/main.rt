@@ -1,4 +1,4 @@
-// sheet MODE COUNT: reads a cell list, an empty line and the transfer frames of COUNT L1 frames, and prints whose coded bit stands in each listed cell, and the bit.
+// sheet MODE COUNT: reads a cell list, an empty line and COUNT L1 frames, each its reserved number and its transfer frames, as `sender` does, and prints whose coded bit stands in each listed cell, and the bit.
 mod answers;
 mod list;
 
@@ -92,7 +92,7 @@ fn answer_all(
     memory4: &mut [u8],
 ) {
     let want = layer1::sender_lengths(mode);
-    let mut input = [0u8; 27648];
+    let mut input = [0u8; 27649];
     let mut pm = [0u8; 46080];
     let mut px1 = [0u8; 9216];
     let mut px2 = [0u8; 9216];

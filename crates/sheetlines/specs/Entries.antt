@@ -31,7 +31,7 @@ unfoldable pub entryOf : (mode count : ℕ) → Question → Entry
 entryOf mode count (Pm frame row column) = cond (ltb frame count) (pmEntry (row * 720 + column) (found row column)) Refused
 entryOf mode count (Px frame channel pair row column) =
     cond (ltb frame count)
-    (pxEntry channel frame (cellOf (kindOfNumber mode channel) pair row column) (foundPX (stateAt mode frame) channel pair row column))
+    (pxEntry channel frame (cellOf (kindOfNumber mode channel) pair row column) (foundPX (stateAt mode 0 frame) channel pair row column))
     Refused
 entryOf mode count Wrong = Refused
 

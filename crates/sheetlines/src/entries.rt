@@ -33,9 +33,9 @@ pub enum Entry {
     Refused,
 }
 
-// The state before an L1 frame of a run.
+// The state before an L1 frame of a run, with the number 0: a finder's answer is the same for every number.
 fn state_before(mode: u8, frame: u64) -> State
-    ensures { λ r. ⌜ r ≡ stateAt mode frame ⌝ }
+    ensures { λ r. ⌜ r ≡ stateAt mode 0 frame ⌝ }
 {
     let half = (frame % 2) as u8;
     let last = calls::last_age(calls::main_of(mode));
@@ -44,12 +44,14 @@ fn state_before(mode: u8, frame: u64) -> State
             mode,
             half,
             age: frame as u8,
+            reserved: 0,
         };
     }
     State {
         mode,
         half,
         age: last,
+        reserved: 0,
     }
 }
 
@@ -91,7 +93,7 @@ fn pm_entry(table: &[u16; 1152], row: usize, column: usize) -> Entry
 
 // A cell of PX1 or PX2 of the L1 frame `sent`.
 fn px_entry(mode: u8, sent: u64, channel: u8, pair: usize, row: usize, column: usize) -> Entry
-    ensures { λ r. ⌜ r ≡ pxEntry channel sent (cellOf (kindOfNumber mode channel) pair row column) (foundPX (stateAt mode sent) channel pair row column) ⌝ }
+    ensures { λ r. ⌜ r ≡ pxEntry channel sent (cellOf (kindOfNumber mode channel) pair row column) (foundPX (stateAt mode 0 sent) channel pair row column) ⌝ }
 {
     let state = state_before(mode, sent);
     match queries::find_px(state, channel, pair, row, column) {

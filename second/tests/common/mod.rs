@@ -1,6 +1,7 @@
 //! Owned buffers for the tests of a run.
 #![allow(dead_code)]
 
+use second::control::NUMBERS;
 use second::draw::Draw;
 use second::modes::Mode;
 use second::run::{self, Answer, Reading, Sending, Side, State};
@@ -9,9 +10,10 @@ use second::run::{self, Answer, Reading, Sending, Side, State};
 pub const MODES: [u64; 6] = [1, 2, 3, 11, 5, 6];
 pub const NEWER: [u64; 2] = [5, 6];
 
-/// The twelve buffers of a sending or a reading, in the order of their places.
+/// The twelve buffers of a sending or a reading, in the order of their places, and the reserved
+/// number of a sending.
 #[derive(Clone, Debug, PartialEq, Eq)]
-pub struct Buffers(pub [Vec<u8>; 12]);
+pub struct Buffers(pub [Vec<u8>; 12], pub u64);
 
 pub const P1: usize = 0;
 pub const PIDS: usize = 1;
@@ -30,7 +32,7 @@ impl Buffers {
     /// Document 01, lent lengths: buffers of the right lengths, all of one byte.
     pub fn new(side: Side, mode: u64, byte: u8) -> Buffers {
         let lengths = side.lengths(Mode::of_number(mode).unwrap());
-        Buffers(std::array::from_fn(|place| vec![byte; lengths[place]]))
+        Buffers(std::array::from_fn(|place| vec![byte; lengths[place]]), 0)
     }
 
     /// Document 01, operations: starts a side.
@@ -57,7 +59,7 @@ impl Buffers {
             memory_p4,
             delay,
         };
-        run::send(state, &mut lent)
+        run::send(state, self.1, &mut lent)
     }
 
     /// Document 01, operations: reads.
@@ -95,6 +97,7 @@ pub fn sent_run(mode: u64, seed: u64, count: usize) -> Vec<Buffers> {
     assert_eq!((answer.number, answer.place), (0, 0));
     let mut sent = Vec::new();
     for _ in 0..count {
+        buffers.1 = draw.below(NUMBERS);
         for place in 0..=P4 {
             let length = buffers.0[place].len();
             buffers.0[place] = draw.bytes(length);
@@ -123,7 +126,7 @@ pub fn refused_reading(reader: &mut Buffers, state: State) -> (u32, usize) {
     let before = reader.clone();
     let answer = reader.read(state);
     assert_ne!(answer.number, 0);
-    assert_eq!(answer.state, state);
+    assert_eq!((answer.state, answer.reserved), (state, 0));
     assert_eq!(*reader, before);
     (answer.number, answer.place)
 }

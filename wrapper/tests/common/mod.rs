@@ -1,9 +1,10 @@
 //! Each call made twice on equal buffers, through the library and through the second program, and the two held against each other.
 #![allow(dead_code)]
 
-use std::ops::Range;
+use std::ops::{Deref, DerefMut, Range};
 
 use layer1::{Outcome, Side, State};
+use second::control::NUMBERS;
 use second::draw::Draw;
 use second::run;
 
@@ -40,8 +41,34 @@ pub const MATRICES: Range<usize> = PM..MEMORY3;
 pub const MEMORIES: Range<usize> = MEMORY3..12;
 pub const PLACES: Range<usize> = P1..12;
 
-/// The buffers of a sending or a reading, in the order of their places.
-pub type Buffers = [Vec<u8>; 12];
+/// The buffers of a sending or a reading, in the order of their places, and the reserved number that a sending is handed.
+#[derive(Clone, PartialEq, Eq)]
+pub struct Buffers {
+    places: [Vec<u8>; 12],
+    pub reserved: u8,
+}
+
+impl Deref for Buffers {
+    type Target = [Vec<u8>; 12];
+
+    fn deref(&self) -> &[Vec<u8>; 12] {
+        &self.places
+    }
+}
+
+impl DerefMut for Buffers {
+    fn deref_mut(&mut self) -> &mut [Vec<u8>; 12] {
+        &mut self.places
+    }
+}
+
+impl Buffers {
+    /// Takes over what another sending was handed: its transfer frames and its number.
+    pub fn take_frames(&mut self, other: &Buffers) {
+        self[FRAMES].clone_from_slice(&other[FRAMES]);
+        self.reserved = other.reserved;
+    }
+}
 
 /// Lends buffers to a call, by the names that its structure has for them; the memories for P3 and P4 have two.
 macro_rules! lent {
@@ -49,7 +76,7 @@ macro_rules! lent {
         lent!(@ $call, $buffers, p1 pids p2 p3 p4 pm px1 px2 control $memory3 $memory4 delay)
     };
     (@ $call:path, $buffers:expr, $($name:ident)*) => {{
-        let [$($name),*] = $buffers;
+        let [$($name),*] = &mut $buffers.places;
         $call { $($name),* }
     }};
 }
@@ -75,9 +102,17 @@ pub fn seed() -> u64 {
     std::env::var("SEED").map_or(1, |seed| seed.parse().expect("SEED is a number"))
 }
 
-/// Drawn buffers of the lengths that a mode asks, as the library gives them.
+/// A drawn reserved number.
+pub fn drawn_number(draw: &mut Draw) -> u8 {
+    draw.below(NUMBERS) as u8
+}
+
+/// Drawn buffers of the lengths that a mode asks, as the library gives them, and a drawn number.
 pub fn drawn(draw: &mut Draw, side: Side, mode: u8) -> Buffers {
-    std::array::from_fn(|place| draw.bytes(layer1::length(side, mode, place)))
+    Buffers {
+        places: std::array::from_fn(|place| draw.bytes(layer1::length(side, mode, place))),
+        reserved: drawn_number(draw),
+    }
 }
 
 /// The second program's answer in the library's terms.
@@ -89,7 +124,9 @@ fn as_ours(answer: run::Answer) -> Outcome {
             mode: answer.state.mode as u8,
             half: answer.state.half as u8,
             age: answer.state.age as u8,
+            reserved: answer.state.reserved as u8,
         },
+        reserved: answer.reserved as u8,
     }
 }
 
@@ -98,6 +135,7 @@ fn as_theirs(state: State) -> run::State {
         mode: state.mode.into(),
         half: state.half.into(),
         age: state.age.into(),
+        reserved: state.reserved.into(),
     }
 }
 
@@ -105,6 +143,7 @@ fn ours(call: Call, state: State, buffers: &mut Buffers) -> Outcome {
     match call {
         Call::Send => layer1::send(
             state,
+            buffers.reserved,
             &mut lent!(layer1::Sending, buffers, memory3, memory4),
         ),
         Call::Read => layer1::read(
@@ -119,6 +158,7 @@ fn theirs(call: Call, state: State, buffers: &mut Buffers) -> Outcome {
     as_ours(match call {
         Call::Send => run::send(
             state,
+            buffers.reserved.into(),
             &mut lent!(run::Sending, buffers, memory_p3, memory_p4),
         ),
         Call::Read => run::read(
@@ -138,7 +178,7 @@ pub fn both(call: Call, state: State, buffers: &mut Buffers) -> Outcome {
         "{call:?} of {state:?}, seed {}",
         seed()
     );
-    let same = buffers.iter().zip(&others).position(|(a, b)| a != b);
+    let same = buffers.iter().zip(others.iter()).position(|(a, b)| a != b);
     assert_eq!(
         same,
         None,
@@ -148,21 +188,26 @@ pub fn both(call: Call, state: State, buffers: &mut Buffers) -> Outcome {
     outcome
 }
 
-/// Makes a call that is refused through both: its number and place. It leaves the state and every buffer.
+/// Makes a call that is refused through both: its number and place. It leaves the state and every buffer, and returns no reserved number.
 pub fn refused(call: Call, state: State, buffers: &mut Buffers) -> (u8, u32) {
     let before = buffers.clone();
     let outcome = both(call, state, buffers);
     assert_ne!(outcome.number, 0, "{call:?} of {state:?}, seed {}", seed());
-    assert_eq!(outcome.state, state);
+    assert_eq!((outcome.state, outcome.reserved), (state, 0));
     assert!(*buffers == before, "{call:?} of {state:?}, seed {}", seed());
     (outcome.number, outcome.place)
 }
 
-/// Makes a call that succeeds through both: the state that it returns.
+/// Makes a call that succeeds through both: the state that it returns, which holds the number sent or read.
 pub fn done(call: Call, state: State, buffers: &mut Buffers) -> State {
     let outcome = both(call, state, buffers);
     let answer = (outcome.number, outcome.place);
     assert_eq!(answer, (0, 0), "{call:?} of {state:?}, seed {}", seed());
+    let number = match call {
+        Call::Send => buffers.reserved,
+        Call::Read => outcome.reserved,
+    };
+    assert_eq!(outcome.state.reserved, number);
     outcome.state
 }
 
@@ -194,19 +239,19 @@ pub fn started(side: Side, mode: u8, buffers: &mut Buffers) -> State {
     outcome.state
 }
 
-/// A sender's run of the transfer frames in these buffers: the buffers after each sending.
+/// A sender's run of the transfer frames and numbers in these buffers: the buffers after each sending.
 pub fn sent_of(draw: &mut Draw, mode: u8, frames: &[Buffers]) -> Vec<Buffers> {
     let mut buffers = drawn(draw, Side::Sender, mode);
     let mut state = started(Side::Sender, mode, &mut buffers);
     let send = |frames: &Buffers| {
-        buffers[FRAMES].clone_from_slice(&frames[FRAMES]);
+        buffers.take_frames(frames);
         state = done(Call::Send, state, &mut buffers);
         buffers.clone()
     };
     frames.iter().map(send).collect()
 }
 
-/// A sender's run of drawn frames: the buffers after each sending.
+/// A sender's run of drawn frames and numbers: the buffers after each sending.
 pub fn sent(draw: &mut Draw, mode: u8, count: usize) -> Vec<Buffers> {
     let frames: Vec<Buffers> = (0..count)
         .map(|_| drawn(draw, Side::Sender, mode))

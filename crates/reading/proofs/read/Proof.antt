@@ -20,7 +20,7 @@ use Rattle.reading.proofs.read.Tie as tie
 abbrev lentAt : tie.Start → Lent
 lentAt s =
     let a = s .args in
-    lent (now (a .p1)) (now (a .pids)) (now (a .p2)) (now (a .p3)) (now (a .p4)) (now (a .pm)) (now (a .px1)) (now (a .px2)) (now (a .control))
+    lent 0 (now (a .p1)) (now (a .pids)) (now (a .p2)) (now (a .p3)) (now (a .p4)) (now (a .pm)) (now (a .px1)) (now (a .px2)) (now (a .control))
 
 abbrev memoryAt : tie.Start → Memory
 memoryAt s = memory (now (s .args .memory3)) (now (s .args .memory4)) (now (s .args .delay))
@@ -32,7 +32,7 @@ startOf c = c .before .before .before .before .before .before .before .before .b
 fit : (c : tie.Else1) → Fits readerLen (startOf c .args .state) (memoryAt (startOf c)) (lentAt (startOf c))
 fit c =
     let s = startOf c in
-    readable (s .args .state) (memoryAt s) (lentAt s) _ _ _ refl (c .before .before .before .before .before .reader-lengths .ensures) (c .before .before .admit .ensures) (sym (c .before .number .ensures) ∙ c .if1 .left)
+    readable (s .args .state) (memoryAt s) (lentAt s) _ _ _ refl (c .before .before .before .before .before .reader-lengths .ensures) (c .before .before .admit .ensures) (sym (c .before .number .ensures) ∙ c .if1 .left) (omega arith)
 
 short1 : (c : tie.Else1) → length (now (startOf c .args .p1)) ≤ 18272
 short1 c = omega (arith, fit c .p1, p1-le (mainOf (startOf c .args .state .mode)))
@@ -101,6 +101,7 @@ receive-requires c κs =
       record {
         mode-lt = f .mode-lt;
         half-lt = f .half-lt;
+        reserved-lt = f .reserved-lt;
         p1 = length-take-le _ _ (short1 c1) ∙ f .p1;
         pids = refl;
         p2 = length-take-le _ _ (short2 c1) ∙ f .p2;

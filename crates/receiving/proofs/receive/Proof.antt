@@ -15,7 +15,7 @@ use Rattle.receiving.proofs.receive.Tie as tie
 abbrev lentAt : tie.Start → Lent
 lentAt s =
     let a = s .args in
-    lent (now (a .p1)) (now (a .pids)) (now (a .p2)) (now (a .p3)) (now (a .p4)) (now (a .pm)) (now (a .px1)) (now (a .px2)) (now (a .control))
+    lent 0 (now (a .p1)) (now (a .pids)) (now (a .p2)) (now (a .p3)) (now (a .p4)) (now (a .pm)) (now (a .px1)) (now (a .px2)) (now (a .control))
 
 abbrev memoryAt : tie.Start → Memory
 memoryAt s = memory (now (s .args .memory3)) (now (s .args .memory4)) (now (s .args .delay))
@@ -25,6 +25,9 @@ judge-signal-requires c κs = search needs
 
 next-of-requires : tie.Need-next-of-requires
 next-of-requires c κs = search needs
+
+number-in-requires : tie.Need-number-in-requires
+number-in-requires c κs = let f = c .before .before .before .before .before .before .before .before .before .before .before .before .before .before .before .before .before .before .before .before .before .before .before .before .before .before .before .before .before .before .before .before .before .before .before .before .pre .0 in (f .mode-lt, f .control)
 
 number-requires : tie.Need-number-requires
 number-requires c κs = search needs
@@ -55,8 +58,8 @@ same-length-8 c = search needs
 
 returns : tie.Need-returns
 returns c =
-    let s = c .before .before .before .before .before .before .before .before .before .before .before .before .before .before .before .before .before .before .before .before .before .before .before .before .before .before .before .before .before .before .before .before .before .before .before .before .before .before .before in
-    kept (s .args .state) (memoryAt s) (lentAt s) _ (c .before .before .before .before .before .before .before .before .before .before .before .before .before .judge-signal .ensures .0) (λ z. c .if1 .taken (c .before .number .ensures ∙ z))
+    let s = c .before .before .before .before .before .before .before .before .before .before .before .before .before .before .before .before .before .before .before .before .before .before .before .before .before .before .before .before .before .before .before .before .before .before .before .before .before .before .before .before in
+    kept (s .args .state) (memoryAt s) (lentAt s) _ (c .before .before .before .before .before .before .before .before .before .before .before .before .before .before .judge-signal .ensures .0) (λ z. c .if1 .taken (c .before .number .ensures ∙ z))
 
 main-of-requires : tie.Need-main-of-requires
 main-of-requires c κs = search needs
@@ -64,7 +67,7 @@ main-of-requires c κs = search needs
 return-p1-requires : tie.Need-return-p1-requires
 return-p1-requires c κs =
     let c1 = c .before .before .before in
-    let c2 = c1 .before .before .before .before .before .before .before .before .before .before .before .before .before .before in
+    let c2 = c1 .before .before .before .before .before .before .before .before .before .before .before .before .before .before .before in
     let c3 = c2 .before .before .before .before .before .before .before .before .before .before .before .before .before .before .before .before .before .before .before .before .before .before .before .before .before .before in
     let k = sym (c1 .main-of .ensures) in
     let f = c3 .pre .0 in
@@ -74,7 +77,7 @@ return-p1-requires c κs =
 
 hand-out-requires : tie.Need-hand-out-requires
 hand-out-requires c κs =
-    let c1 = c .before .before .before .before .before .before .before .before .before .before .before .before .before .before .before .before .before .before .before .before .before .before .before .before .before .before .before .before in
+    let c1 = c .before .before .before .before .before .before .before .before .before .before .before .before .before .before .before .before .before .before .before .before .before .before .before .before .before .before .before .before .before in
     let c2 = c1 .before .before .before .before .before .before .before .before .before .before .before .before .before .before .before .before .before .before .before .before .before .before .before .before .before .before in
     let f = c2 .pre .0 in
     let g = c2 .pre .1 in
@@ -88,7 +91,7 @@ hand-out-requires c κs =
 
 keep-requires : tie.Need-keep-requires
 keep-requires c κs =
-    let c1 = c .before .before .before .before .before .before .before .before .before .before .before .before .before .before .before .before .before .before .before .before .before .before .before .before .before .before .before .before .before .before .before .before .before .before .before .before .before .before .before .before .before in
+    let c1 = c .before .before .before .before .before .before .before .before .before .before .before .before .before .before .before .before .before .before .before .before .before .before .before .before .before .before .before .before .before .before .before .before .before .before .before .before .before .before .before .before .before .before in
     let c2 = c1 .before .before .before .before .before .before .before .before .before .before .before .before .before .before .before .before .before .before .before .before .before .before .before .before .before .before in
     let f = c2 .pre .0 in
     let g = c2 .pre .1 in
@@ -120,19 +123,19 @@ same-length-16 : tie.Need-same-length-16
 same-length-16 c = search needs
 
 same-length-17 : tie.Need-same-length-17
-same-length-17 c = c .before .before .before .before .before .before .before .before .before .before .before .before .before .before .before .before .before .before .before .before .before .before .before .before .before .before .before .before .before .before .before .before .before .before .before .before .before .before .before .before .before .before .before .before .before .before .before .before .judge-signal .kept .1 .1 .1 .1 .1 .1 .1 .1 .0
+same-length-17 c = c .before .before .before .before .before .before .before .before .before .before .before .before .before .before .before .before .before .before .before .before .before .before .before .before .before .before .before .before .before .before .before .before .before .before .before .before .before .before .before .before .before .before .before .before .before .before .before .before .before .judge-signal .kept .1 .1 .1 .1 .1 .1 .1 .1 .0
 
 same-length-18 : tie.Need-same-length-18
-same-length-18 c = c .before .before .before .before .before .before .before .before .before .before .before .before .before .before .before .before .before .before .before .before .before .before .before .before .before .before .before .before .before .before .before .before .before .before .before .before .before .before .before .before .before .before .before .before .before .before .before .before .judge-signal .kept .1 .1 .1 .1 .1 .1 .1 .1 .1 .0
+same-length-18 c = c .before .before .before .before .before .before .before .before .before .before .before .before .before .before .before .before .before .before .before .before .before .before .before .before .before .before .before .before .before .before .before .before .before .before .before .before .before .before .before .before .before .before .before .before .before .before .before .before .before .judge-signal .kept .1 .1 .1 .1 .1 .1 .1 .1 .1 .0
 
 same-length-19 : tie.Need-same-length-19
-same-length-19 c = c .before .before .before .before .before .before .before .before .before .before .before .before .before .before .before .before .before .before .before .before .before .before .before .before .before .before .before .before .before .before .before .before .before .before .before .before .before .before .before .before .before .before .before .before .before .before .before .before .judge-signal .kept .1 .1 .1 .1 .1 .1 .1 .1 .1 .1 .0
+same-length-19 c = c .before .before .before .before .before .before .before .before .before .before .before .before .before .before .before .before .before .before .before .before .before .before .before .before .before .before .before .before .before .before .before .before .before .before .before .before .before .before .before .before .before .before .before .before .before .before .before .before .before .judge-signal .kept .1 .1 .1 .1 .1 .1 .1 .1 .1 .1 .0
 
 same-length-20 : tie.Need-same-length-20
-same-length-20 c = c .before .before .before .before .before .before .before .before .before .before .before .before .before .before .before .before .before .before .before .before .before .before .before .before .before .before .before .before .before .before .before .before .before .before .before .before .before .before .before .before .before .before .before .before .before .before .before .before .judge-signal .kept .1 .1 .1 .1 .1 .1 .1 .1 .1 .1 .1 .0
+same-length-20 c = c .before .before .before .before .before .before .before .before .before .before .before .before .before .before .before .before .before .before .before .before .before .before .before .before .before .before .before .before .before .before .before .before .before .before .before .before .before .before .before .before .before .before .before .before .before .before .before .before .before .judge-signal .kept .1 .1 .1 .1 .1 .1 .1 .1 .1 .1 .1 .0
 
 same-length-21 : tie.Need-same-length-21
-same-length-21 c = c .before .before .before .before .before .before .before .before .before .before .before .before .before .before .before .before .before .before .before .before .before .before .before .before .before .before .before .before .before .before .before .before .before .before .before .before .before .before .before .before .before .before .before .before .before .before .before .before .judge-signal .kept .1 .1 .1 .1 .1 .1 .1 .1 .1 .1 .1 .1 .0
+same-length-21 c = c .before .before .before .before .before .before .before .before .before .before .before .before .before .before .before .before .before .before .before .before .before .before .before .before .before .before .before .before .before .before .before .before .before .before .before .before .before .before .before .before .before .before .before .before .before .before .before .before .before .judge-signal .kept .1 .1 .1 .1 .1 .1 .1 .1 .1 .1 .1 .1 .0
 
 returns-2 : tie.Need-returns-2
 returns-2 c =
@@ -143,13 +146,14 @@ returns-2 c =
     let c5 = c4 .before in
     let c6 = c5 .before in
     let c7 = c6 .before in
-    let c8 = c7 .before .before .before .before .before .before .before .before .before .before .before in
-    let s = c8 .before .before .before .before .before .before .before .before .before .before .before .before .before .before .before .before .before .before .before .before .before .before .before .before .before .before in
-    let j = c8 .judge-signal .ensures in
+    let c8 = c7 .before in
+    let c9 = c8 .before .before .before .before .before .before .before .before .before .before .before in
+    let s = c9 .before .before .before .before .before .before .before .before .before .before .before .before .before .before .before .before .before .before .before .before .before .before .before .before .before .before in
+    let j = c9 .judge-signal .ensures in
     let zero = sym (c6 .number .ensures) ∙ c5 .if1 .left in
     let h = c2 .hand-out .ensures in
-    let o = c8 .judge-signal .last .1 .1 .1 .1 .1 .1 .1 .1 in
-    handed-out (s .args .state) (memoryAt s) (lentAt s) _ (j .0) zero _ _ _ _ _ _ _ (o .0) (o .1 .1 .0) (o .1 .0) (o .1 .1 .1 .0) (o .1 .1 .1 .1 .0) _ _ _ (c7 .next-of .ensures) (c4 .main-of .ensures) (j .1 .0 zero)
+    let o = c9 .judge-signal .last .1 .1 .1 .1 .1 .1 .1 .1 in
+    handed-out (s .args .state) (memoryAt s) (lentAt s) _ (j .0) zero _ _ _ _ _ _ _ _ (o .0) (o .1 .1 .0) (o .1 .0) (o .1 .1 .1 .0) (o .1 .1 .1 .1 .0) _ _ _ (c7 .next-of .ensures) (c8 .number-in .ensures .0) (c4 .main-of .ensures) (j .1 .0 zero)
     (c3 .return-p1 .ensures) (h .0) (j .1 .1 zero) (h .1) (c1 .keep .ensures)
 
 pub receive-spec : {M : Type 1} → statement M
@@ -157,6 +161,7 @@ receive-spec =
     tie.close
     (tie.spec
     judge-signal-requires
+    number-in-requires
     next-of-requires
     number-requires
     same-length

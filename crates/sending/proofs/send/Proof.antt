@@ -12,7 +12,7 @@ use Rattle.sending.proofs.send.Tie as tie
 abbrev lentAt : tie.Start → Lent
 lentAt s =
     let a = s .args in
-    lent (now (a .p1)) (now (a .pids)) (now (a .p2)) (now (a .p3)) (now (a .p4)) (now (a .pm)) (now (a .px1)) (now (a .px2)) (now (a .control))
+    lent (a .reserved) (now (a .p1)) (now (a .pids)) (now (a .p2)) (now (a .p3)) (now (a .p4)) (now (a .pm)) (now (a .px1)) (now (a .px2)) (now (a .control))
 
 abbrev memoryAt : tie.Start → Memory
 memoryAt s = memory (now (s .args .memory3)) (now (s .args .memory4)) (now (s .args .delay))

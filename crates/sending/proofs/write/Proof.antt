@@ -51,7 +51,7 @@ write-px-requires c κs =
 fill-control-requires : tie.Need-fill-control-requires
 fill-control-requires c κs =
     let s = c .before .before .before .before .before .before .before .before .before .before .before .before .before .before .before .before .before .before .before .before .before .before .before .before .before .before .before .before .before .before .before .before .before .before .before .before .before .before in
-    let f = s .pre in (f .mode-lt, omega arith, f .control)
+    let f = s .pre in (f .mode-lt, f .reserved-lt, f .control)
 
 same-length : tie.Need-same-length
 same-length c = search needs
@@ -85,7 +85,7 @@ returns c =
     let t = v .before in
     let s = t .before .before .before .before .before .before .before .before .before .before .before .before .before in
     let a = s .args in
-    worked (a .state) (memory (now (a .memory3)) (now (a .memory4)) (now (a .delay))) (frames (now (a .p1)) (now (a .pids)) (now (a .p2)) (now (a .p3)) (now (a .p4)))
+    worked (a .state) (memory (now (a .memory3)) (now (a .memory4)) (now (a .delay))) (frames (a .reserved) (now (a .p1)) (now (a .pids)) (now (a .p2)) (now (a .p3)) (now (a .p4)))
     (t .main-of .result) (z .kind-of2 .result) (v .kind-of .result) _ _ _ _ _ _ _
     (t .main-of .ensures) (z .kind-of2 .ensures) (v .kind-of .ensures)
     (u .write-px2 .ensures .0) (u .write-px2 .ensures .1) (w .write-pm .ensures) (y .write-px .ensures) (x .fill-control .ensures)

@@ -9,9 +9,10 @@ use borrow.Author.Needs.{needs}
 use Rattle.calls.proofs.states.next_of.Statement.{statement}
 use Rattle.calls.proofs.states.next_of.Tie as tie
 
-next-is : (s : State) (age : ℕ) → age ≡ min (lastAge (mainOf (s .mode))) (s .age + 1) → _≡_ {A = State} (record { mode = s .mode; half = (s .half % 2 + 1) % 2; age = age }) (next s)
+next-is : (s : State) (z age : ℕ) → age ≡ min (lastAge (mainOf (s .mode))) (s .age + 1)
+    → _≡_ {A = State} (record { mode = s .mode; half = (s .half % 2 + 1) % 2; age = age; reserved = z }) (next z s)
 unfolding next
-next-is s age e = λ i. record { mode = s .mode; half = turned i; age = e i }
+next-is s z age e = λ i. record { mode = s .mode; half = turned i; age = e i; reserved = z }
   where
     turned : (s .half % 2 + 1) % 2 ≡ (s .half + 1) % 2
     turned = omega arith
@@ -31,7 +32,7 @@ next-age-requires c κs = search needs
 returns : tie.Need-returns
 returns c =
     let s = c .before .before .before .before .args .state in
-    next-is s _
+    next-is s (c .before .before .before .before .args .reserved) _
     (c .next-age .ensures ∙ ap (λ (n : ℕ). min n (s .age + 1)) (c .before .last-age .ensures ∙ ap lastAge (c .before .before .main-of .ensures)))
 
 pub next-of-spec : {M : Type 1} → statement M

@@ -1,5 +1,5 @@
 -- `layer1_read` meets its contract: `layer1::read` gave it, and every place fits its field. Assumes nothing.
-use Rattle.exported.proofs.Outcomes.{left-by, small}
+use Rattle.exported.proofs.Outcomes.{left-read, read-small}
 use Rattle.exported.proofs.Places.{read-place}
 use borrow.Author.Needs.{needs}
 use Rattle.exported.proofs.reads.layer1_read.Statement.{statement}
@@ -9,7 +9,9 @@ read-requires : tie.Need-read-requires
 read-requires c κs = search needs
 
 outcome-word-requires : tie.Need-outcome-word-requires
-outcome-word-requires c κs = small _ _ _ _ (c .before .before .before .before .before .before .before .before .before .before .before .before .before .before .before .before .read .ensures) (read-place _ _ _)
+outcome-word-requires c κs =
+    let r = c .before .before .before .before .before .before .before .before .before .before .before .before .before .before .before .before .before .read in
+    read-small (r .result) _ _ _ _ _ (r .ensures) (read-place _ _ _)
 
 same-length : tie.Need-same-length
 same-length c = search needs
@@ -36,7 +38,9 @@ same-length-8 : tie.Need-same-length-8
 same-length-8 c = search needs
 
 returns : tie.Need-returns
-returns c = left-by _ _ _ _ (c .before .before .before .before .before .before .before .before .before .before .before .before .before .before .before .before .before .read .ensures) _ (c .outcome-word .ensures)
+returns c =
+    let r = c .before .before .before .before .before .before .before .before .before .before .before .before .before .before .before .before .before .before .read in
+    left-read (r .result) _ _ _ _ _ (r .ensures) _ (c .outcome-word .ensures .0) (c .outcome-word .ensures .1)
 
 pub layer1-read-spec : {M : Type 1} → statement M
 layer1-read-spec =

@@ -9,7 +9,7 @@ send-requires : tie.Need-send-requires
 send-requires c κs = search needs
 
 outcome-word-requires : tie.Need-outcome-word-requires
-outcome-word-requires c κs = small _ _ _ _ (c .before .before .before .before .before .before .before .before .before .before .before .before .before .before .send .ensures) (send-place _ _ _)
+outcome-word-requires c κs = small _ _ _ _ (c .before .before .before .before .before .before .before .before .before .before .before .before .before .before .before .send .ensures) (send-place _ _ _)
 
 same-length : tie.Need-same-length
 same-length c = search needs
@@ -33,7 +33,7 @@ same-length-7 : tie.Need-same-length-7
 same-length-7 c = search needs
 
 returns : tie.Need-returns
-returns c = left-by _ _ _ _ (c .before .before .before .before .before .before .before .before .before .before .before .before .before .before .before .send .ensures) _ (c .outcome-word .ensures)
+returns c = left-by _ _ _ _ (c .before .before .before .before .before .before .before .before .before .before .before .before .before .before .before .before .send .ensures) _ (c .outcome-word .ensures .0)
 
 pub layer1-send-spec : {M : Type 1} → statement M
 layer1-send-spec =

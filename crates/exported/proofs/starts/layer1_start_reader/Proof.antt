@@ -9,7 +9,7 @@ start-reader-requires : tie.Need-start-reader-requires
 start-reader-requires c κs = search needs
 
 outcome-word-requires : tie.Need-outcome-word-requires
-outcome-word-requires c κs = start-small _ _ _ (c .before .before .before .before .before .before .start-reader .ensures) (start-place _ _ _)
+outcome-word-requires c κs = start-small _ _ _ (c .before .before .before .before .before .before .before .start-reader .ensures) (start-place _ _ _)
 
 same-length : tie.Need-same-length
 same-length c = search needs
@@ -21,7 +21,7 @@ same-length-3 : tie.Need-same-length-3
 same-length-3 c = search needs
 
 returns : tie.Need-returns
-returns c = start-left _ _ _ (c .before .before .before .before .before .before .before .start-reader .ensures) _ (c .outcome-word .ensures)
+returns c = start-left _ _ _ (c .before .before .before .before .before .before .before .before .start-reader .ensures) _ (c .outcome-word .ensures .0)
 
 pub layer1-start-reader-spec : {M : Type 1} → statement M
 layer1-start-reader-spec =

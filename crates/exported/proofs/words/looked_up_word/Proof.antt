@@ -27,23 +27,32 @@ mul-result-2 c = search needs
 add-result : tie.Need-add-result
 add-result c = search needs
 
+cast-result-3 : tie.Need-cast-result-3
+cast-result-3 c = search needs
+
+mul-result-3 : tie.Need-mul-result-3
+mul-result-3 c = search needs
+
+add-result-2 : tie.Need-add-result-2
+add-result-2 c = search needs
+
 enum-known-said-2 : tie.Need-enum-known-said-2
 enum-known-said-2 c = search needs
 
 number-requires : tie.Need-number-requires
 number-requires c κs = search needs
 
-cast-result-3 : tie.Need-cast-result-3
-cast-result-3 c = search needs
+cast-result-4 : tie.Need-cast-result-4
+cast-result-4 c = search needs
 
 place-requires : tie.Need-place-requires
 place-requires c κs = search needs
 
-mul-result-3 : tie.Need-mul-result-3
-mul-result-3 c = let p = subst (λ (x : LookedUp). values x .place < 2 ^ 8) (c .before .before .before .said2 .given .1) (c .before .before .before .before .before .pre) in omega (arith, c .place .ensures)
+mul-result-4 : tie.Need-mul-result-4
+mul-result-4 c = let p = subst (λ (x : LookedUp). values x .place < 2 ^ 8) (c .before .before .before .said2 .given .1) (c .before .before .before .before .before .pre) in omega (arith, c .place .ensures)
 
-add-result-2 : tie.Need-add-result-2
-add-result-2 c = let p = subst (λ (x : LookedUp). values x .place < 2 ^ 8) (c .before .before .before .said2 .given .1) (c .before .before .before .before .before .pre) in omega (arith, c .place .ensures)
+add-result-3 : tie.Need-add-result-3
+add-result-3 c = let p = subst (λ (x : LookedUp). values x .place < 2 ^ 8) (c .before .before .before .said2 .given .1) (c .before .before .before .before .before .pre) in omega (arith, c .place .ensures)
 
 returns : tie.Need-returns
 unfolding lookedUpWord
@@ -63,11 +72,14 @@ looked-up-word-spec =
     cast-result-2
     mul-result-2
     add-result
-    enum-known-said-2
-    number-requires
     cast-result-3
-    place-requires
     mul-result-3
     add-result-2
+    enum-known-said-2
+    number-requires
+    cast-result-4
+    place-requires
+    mul-result-4
+    add-result-3
     returns
     returns-2)

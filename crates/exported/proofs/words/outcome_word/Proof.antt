@@ -1,6 +1,7 @@
 -- `outcome_word` meets its contract: the fields are those of the answer and the state. Assumes nothing.
 use native.Mathlib.Omega.{arith}
 use Rattle.exported.specs.Words.{outcomeWord}
+use Rattle.exported.proofs.Fields.{number-told}
 use borrow.Author.Needs.{needs}
 use Rattle.exported.proofs.words.outcome_word.Statement.{statement}
 use Rattle.exported.proofs.words.outcome_word.Tie as tie
@@ -35,6 +36,12 @@ mul-high-2 c = search needs
 add-high : tie.Need-add-high
 add-high c = search needs
 
+cast-top : tie.Need-cast-top
+cast-top c = search needs
+
+mul-top : tie.Need-mul-top
+mul-top c = search needs
+
 add-result : tie.Need-add-result
 add-result c = search needs
 
@@ -47,9 +54,15 @@ mul-result c = search needs
 add-result-2 : tie.Need-add-result-2
 add-result-2 c = search needs
 
+add-result-3 : tie.Need-add-result-3
+add-result-3 c = search needs
+
 returns : tie.Need-returns
 unfolding outcomeWord
-returns c = omega (arith, c .place .ensures, c .before .before .before .before .number .ensures)
+returns c =
+    let s = c .before .before .before .before .before .before in
+    number-told (s .args .answer) (s .args .state) _ (omega arith) (omega arith) (omega arith) (s .pre)
+    (omega (arith, c .place .ensures, c .before .before .before .before .before .number .ensures))
 
 pub outcome-word-spec : {M : Type 1} → statement M
 outcome-word-spec =
@@ -65,8 +78,11 @@ outcome-word-spec =
     cast-high-2
     mul-high-2
     add-high
+    cast-top
+    mul-top
     add-result
     place-requires
     mul-result
     add-result-2
+    add-result-3
     returns)

@@ -19,8 +19,12 @@ send-input-requires c κs = search needs
 step-after-requires : tie.Need-step-after-requires
 step-after-requires c κs = search needs
 
+-- the input buffer is as long as it was lent
 same-length : tie.Need-same-length
-same-length c = search needs
+same-length c =
+    let sent = c .before .before .before .before .before .before .before .before .before .before .before .before .before .before .before .before in
+    let came = sent .before .before .before .before .before .before .before .before .before .before in
+    came .input .given
 
 same-length-2 : tie.Need-same-length-2
 same-length-2 c = search needs

@@ -98,7 +98,7 @@ returns c =
     let d = got .before .before .before .before .before .before .before .before .before .before .before .before .before in
     let l = d .before .before .before .before in
     let a = l .before .before .before .before .before .before .before .before .before .before .args in
-    read-in _ _ _ _ _ _ _ _
+    read-in (got .read .result) _ _ _ _ _ _ _
     (signal-is (a .state .mode) _ _ (now (a .input)) _ (l .reader-lengths .ensures) _ _ _ _
     (d .before .before .before .end-of .ensures .2) (d .before .before .end-of2 .ensures .2) (d .before .end-of3 .ensures .2) (d .end-of4 .ensures .2))
     (got .read .ensures)

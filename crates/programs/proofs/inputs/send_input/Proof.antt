@@ -1,8 +1,6 @@
--- `send_input` meets its contract: the buffers that it lends are those that the definition cuts out of the input. Assumes nothing.
-use mathlib.Core.Path.{sym}
+-- `send_input` meets its contract: the number and the buffers that it hands over are those that the definition takes from the input. Assumes nothing.
 use native.Mathlib.Omega.{arith}
 use denote.Ref.{now}
-use lib.Seq.{length-take-le}
 use Rattle.programs.proofs.Cut.{frames-are, sent-in}
 use borrow.Author.Needs.{needs}
 use Rattle.programs.proofs.inputs.send_input.Statement.{statement}
@@ -11,38 +9,41 @@ use Rattle.programs.proofs.inputs.send_input.Tie as tie
 sender-lengths-requires : tie.Need-sender-lengths-requires
 sender-lengths-requires c κs = search needs
 
-array-read-end-of : tie.Need-array-read-end-of
-array-read-end-of c = search needs
-
 end-of-requires : tie.Need-end-of-requires
 end-of-requires c κs = search needs
 
-array-read-end-of-2 : tie.Need-array-read-end-of-2
-array-read-end-of-2 c = search needs
+array-read-end-of : tie.Need-array-read-end-of
+array-read-end-of c = search needs
 
 end-of-requires-2 : tie.Need-end-of-requires-2
 end-of-requires-2 c κs = search needs
 
-array-read-end-of-3 : tie.Need-array-read-end-of-3
-array-read-end-of-3 c = search needs
+array-read-end-of-2 : tie.Need-array-read-end-of-2
+array-read-end-of-2 c = search needs
 
 end-of-requires-3 : tie.Need-end-of-requires-3
 end-of-requires-3 c κs = search needs
 
-array-read-end-of-4 : tie.Need-array-read-end-of-4
-array-read-end-of-4 c = search needs
+array-read-end-of-3 : tie.Need-array-read-end-of-3
+array-read-end-of-3 c = search needs
 
 end-of-requires-4 : tie.Need-end-of-requires-4
 end-of-requires-4 c κs = search needs
 
-array-read-end-of-5 : tie.Need-array-read-end-of-5
-array-read-end-of-5 c = search needs
+array-read-end-of-4 : tie.Need-array-read-end-of-4
+array-read-end-of-4 c = search needs
 
 end-of-requires-5 : tie.Need-end-of-requires-5
 end-of-requires-5 c κs = search needs
 
-slice-aggregate-send : tie.Need-slice-aggregate-send
-slice-aggregate-send c = sym (length-take-le _ _ (omega (arith, c .before .before .before .before .before .end-of .ensures .1)))
+array-read-end-of-5 : tie.Need-array-read-end-of-5
+array-read-end-of-5 c = search needs
+
+end-of-requires-6 : tie.Need-end-of-requires-6
+end-of-requires-6 c κs = search needs
+
+number-of-requires : tie.Need-number-of-requires
+number-of-requires c κs = search needs
 
 sub-send : tie.Need-sub-send
 sub-send c = search needs
@@ -80,6 +81,15 @@ part-send-start-4 c = search needs
 part-send-end-4 : tie.Need-part-send-end-4
 part-send-end-4 c = search needs
 
+sub-send-5 : tie.Need-sub-send-5
+sub-send-5 c = search needs
+
+part-send-start-5 : tie.Need-part-send-start-5
+part-send-start-5 c = search needs
+
+part-send-end-5 : tie.Need-part-send-end-5
+part-send-end-5 c = search needs
+
 send-requires : tie.Need-send-requires
 send-requires c κs = search needs
 
@@ -106,32 +116,31 @@ same-length-7 c = search needs
 
 returns : tie.Need-returns
 returns c =
-    let sent = c .before .before .before .before .before .before .before .before .before .before .before .before .before .before in
-    let e = sent .before .before .before .before .before .before .before .before .before .before .before .before .before in
-    let l = e .before .before .before .before .before in
-    let a = l .before .before .before .before .before .before .before .before .before .args in
+    let e = c .before .before .before .before .before .before .before .before .before .before .before .before .before .before .before .before .before .before .before .before .before .before .before .before .before .before .before .before in
+    let l = c .before .before .before .before .before .before .before .before .before .before .before .before .before .before .before .before .before .before .before .before .before .before .before .before .before .before .before .before .before .before .before .before .before .before in
+    let a = c .before .before .before .before .before .before .before .before .before .before .before .before .before .before .before .before .before .before .before .before .before .before .before .before .before .before .before .before .before .before .before .before .before .before .before .before .before .before .before .before .before .before .before .args in
     sent-in _ _ _ _ _ _ _ _
-    (frames-are (a .state .mode) _ _ (now (a .input)) _ (l .sender-lengths .ensures) _ _ _ _ _
-    (e .before .before .before .before .end-of .ensures .2) (e .before .before .before .end-of2 .ensures .2) (e .before .before .end-of3 .ensures .2)
-    (e .before .end-of4 .ensures .2) (e .end-of5 .ensures .2))
-    (sent .send .ensures)
+    (frames-are (a .state .mode) _ _ (now (a .input)) _ (l .sender-lengths .ensures) _ _ _ _ _ _ _ (c .before .before .before .before .before .before .before .before .before .before .before .before .before .before .before .before .before .before .before .before .before .before .before .before .before .before .before .number-of .ensures)
+    (e .before .before .before .before .before .end-of .ensures .2) (e .before .before .before .before .end-of2 .ensures .2) (e .before .before .before .end-of3 .ensures .2) (e .before .before .end-of4 .ensures .2) (e .before .end-of5 .ensures .2) (e .end-of6 .ensures .2))
+    (c .before .before .before .before .before .before .before .before .before .before .before .before .before .before .send .ensures)
 
 pub send-input-spec : {M : Type 1} → statement M
 send-input-spec =
     tie.close
     (tie.spec
     sender-lengths-requires
-    array-read-end-of
     end-of-requires
-    array-read-end-of-2
+    array-read-end-of
     end-of-requires-2
-    array-read-end-of-3
+    array-read-end-of-2
     end-of-requires-3
-    array-read-end-of-4
+    array-read-end-of-3
     end-of-requires-4
-    array-read-end-of-5
+    array-read-end-of-4
     end-of-requires-5
-    slice-aggregate-send
+    array-read-end-of-5
+    end-of-requires-6
+    number-of-requires
     sub-send
     part-send-start
     part-send-end
@@ -144,6 +153,9 @@ send-input-spec =
     sub-send-4
     part-send-start-4
     part-send-end-4
+    sub-send-5
+    part-send-start-5
+    part-send-end-5
     send-requires
     same-length
     same-length-2

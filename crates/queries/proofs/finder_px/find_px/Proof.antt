@@ -2,11 +2,7 @@
 use mathlib.Core.Path.{sym, _∙_}
 use native.Mathlib.Omega.{arith}
 use borrow.Author.Tests.{not-true, not-false}
-use Rattle.bits.proofs.Tests.{and-true}
-use Rattle.control.specs.Modes.{covered}
-use Rattle.runs.specs.MainChannels.{mainOf, lastAge}
-use Rattle.runs.specs.Starting.{aged, valid}
-use Rattle.calls.proofs.Admitted.{half-of}
+use Rattle.calls.proofs.Admitted.{valid-says}
 use Rattle.queries.specs.FinderPX.{values}
 use Rattle.queries.proofs.CasesPX.{state-refused, channel-refused, pair-refused, row-refused, column-refused, inside}
 use Rattle.queries.proofs.Origins.{used}
@@ -72,15 +68,14 @@ add-content : tie.Need-add-content
 add-content c = search needs
 
 content-requires : tie.Need-content-requires
-unfolding valid
 content-requires c κs =
     let n = c .before .before .before .before .before .before in
     let v = n .before .before .before in
     let s = v .before .args .state in
     let k = n .before .kind-of-number .result in
-    let (cov, old) = and-true (covered (s .mode)) (aged (lastAge (mainOf (s .mode))) (s .half) (s .age)) (sym (v .is-valid .ensures) ∙ not-false _ (n .before .before .if1 .left)) in (
+    let says = valid-says s (sym (v .is-valid .ensures) ∙ not-false _ (n .before .before .if1 .left)) in (
       used k (λ z. c .before .before .before .before .before .if2 .left (n .columns .ensures .0 ∙ z)),
-      half-of (lastAge (mainOf (s .mode))) (s .half) (s .age) old,
+      says .1,
       omega arith,
       omega arith,
     )

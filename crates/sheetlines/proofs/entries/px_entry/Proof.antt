@@ -12,7 +12,7 @@ use Rattle.sheetlines.proofs.entries.px_entry.Statement.{statement}
 use Rattle.sheetlines.proofs.entries.px_entry.Tie as tie
 
 found-as : (mode sent channel pair row column : ℕ) {state : State} {r x : FoundPx}
-    → state ≡ stateAt mode sent → r ≡ foundPX state channel pair row column → r ≡ x → foundPX (stateAt mode sent) channel pair row column ≡ x
+    → state ≡ stateAt mode 0 sent → r ≡ foundPX state channel pair row column → r ≡ x → foundPX (stateAt mode 0 sent) channel pair row column ≡ x
 found-as mode sent channel pair row column e f g = sym (ap (λ (s : State). foundPX s channel pair row column) e) ∙ sym f ∙ g
 
 state-before-requires : tie.Need-state-before-requires

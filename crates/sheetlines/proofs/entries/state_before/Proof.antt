@@ -11,7 +11,7 @@ use Rattle.sheetlines.proofs.entries.state_before.Statement.{statement}
 use Rattle.sheetlines.proofs.entries.state_before.Tie as tie
 
 aged : (mode frame age last : ℕ) (k : Main) → k ≡ mainOf mode → last ≡ lastAge k → age ≡ min last frame
-    → _≡_ {A = State} (record { mode = mode; half = frame % 2; age = age }) (stateAt mode frame)
+    → _≡_ {A = State} (record { mode = mode; half = frame % 2; age = age; reserved = 0 }) (stateAt mode 0 frame)
 aged mode frame age last k ek el e = rw (e ∙ ap (λ (n : ℕ). min n frame) (el ∙ ap lastAge ek))
 
 cast-half : tie.Need-cast-half
