@@ -37,6 +37,8 @@
  *  10  the shares add up to more than 16                                        0
  *  11  the symbol of a vector is above 511                                      0
  *  12  a scale is not finite or not above zero                                  0 for the lower sideband, 1 for the upper
+ *  13  no control block of a set is faulty by itself, and one does not fit     the lowest such block
+ *      block 0's mode and number and its own position
  *  14  no frame fits the cells that were read                                   0
  *  15  more than one frame fits them                                            0
  *  16  the budget of a search is 0 or above 64                                  0
@@ -111,6 +113,10 @@ uint64_t layer1_find_px(uint8_t mode, uint8_t half, uint8_t age, uint8_t last, u
 
 /* The mode, the block count and the reserved number of one control block of 256 bytes. Returns a lookup word. */
 uint64_t layer1_lookup(const uint8_t *block, size_t block_len);
+
+/* The mode and the reserved number of the sixteen control blocks of an L1 frame, 4,096 bytes, as a set (document 02, S-8): all name the same
+ * two, and count 0 to 15 in order. Refused under 4: the lowest block that layer1_lookup refuses. Returns a lookup word whose count is 0. */
+uint64_t layer1_lookup_frame(const uint8_t *control, size_t control_len);
 
 /* A row of PM, a row of PX1 (channel 3) or PX2 (channel 4) of MP11. Returns a row word; there is no number, and a refused row is empty. */
 uint64_t layer1_pm_row(size_t row, const uint8_t *pm, size_t pm_len);

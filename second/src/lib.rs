@@ -15,5 +15,6 @@ pub mod reading;
 pub mod restoring;
 pub mod run;
 pub mod scrambling;
+pub mod sets;
 pub mod sheet;
 pub mod vector;

@@ -128,6 +128,15 @@ pub struct LookedUp {
     pub reserved: u8,
 }
 
+/// Document 02, S-8: what the sixteen control blocks of an L1 frame say as a set; mode and reserved number 0 when refused.
+#[derive(Clone, Copy, Debug, PartialEq, Eq)]
+pub struct LookedUpFrame {
+    pub number: u8,
+    pub place: u32,
+    pub mode: u8,
+    pub reserved: u8,
+}
+
 /// What a call returns that has no state: number and place of the table of causes.
 #[derive(Clone, Copy, Debug, PartialEq, Eq)]
 pub struct Answer {
@@ -357,6 +366,19 @@ pub fn lookup(block: &[u8]) -> LookedUp {
         place: (word >> 32) as u32,
         mode: byte(word, 8),
         count: byte(word, 16),
+        reserved: byte(word, 24),
+    }
+}
+
+/// Looks up the mode and the reserved number of the sixteen control blocks of an L1 frame. A block that `lookup` refuses is refused under 4,
+/// and one that does not fit block 0's mode and number and its own position under 13.
+pub fn lookup_frame(control: &[u8]) -> LookedUpFrame {
+    // SAFETY: the pointer and the length are those of a slice.
+    let word = unsafe { raw::layer1_lookup_frame(control.as_ptr(), control.len()) };
+    LookedUpFrame {
+        number: byte(word, 0),
+        place: (word >> 32) as u32,
+        mode: byte(word, 8),
         reserved: byte(word, 24),
     }
 }

@@ -100,6 +100,7 @@ extern "C" {
         column: usize,
     ) -> u64;
     pub fn layer1_lookup(block: *const u8, block_len: usize) -> u64;
+    pub fn layer1_lookup_frame(control: *const u8, control_len: usize) -> u64;
     pub fn layer1_nearest(
         cells: *const u8,
         cells_len: usize,

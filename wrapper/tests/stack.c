@@ -33,6 +33,7 @@ static void find(void)
     layer1_find(511, 719);
     layer1_find_px(11, 1, 2, RESERVED, 4, 7, 63, 143);
     layer1_lookup(buffer[LAYER1_CONTROL], 256);
+    layer1_lookup_frame(buffer[LAYER1_CONTROL], 4096);
 }
 
 static void nearest(void)

@@ -1,7 +1,7 @@
 -- Laws of the tests `all`, `lowest` and `same`. Assumes nothing.
 use mathlib.Core.Path.{_≡_, refl, ap, ap₂, _∙_, subst}
 use mathlib.Core.Bool.{Bool, true, false, cond, _&&_}
-use Prim.Native.Nat.{ℕ, zero, suc, _<_}
+use Prim.Native.Nat.{ℕ, zero, suc, _≤_, _<_}
 use native.Mathlib.Decide.{decLt}
 use native.Mathlib.Omega.{arith}
 use mathlib.Core.List.{List, [], _∷_}
@@ -90,6 +90,19 @@ lowest-passes (suc n) p h = go (p 0) refl (lowest-passes n (λ j. p (suc j))) h
         → cond b 0 (suc (lowest n (λ j. p (suc j)))) < suc n → p (cond b 0 (suc (lowest n (λ j. p (suc j))))) ≡ true
     go true e ih m = e
     go false e ih m = ih (omega arith)
+
+-- it is at most n, and at most any number that passes
+pub lowest-up-to : (n : ℕ) (p : ℕ → Bool) → lowest n p ≤ n
+lowest-up-to n p = elim (decLt n (lowest n p)) [
+  | yes l ↦ let e = lowest-none n p (λ i h. lowest-below n p i (omega arith)) in omega arith
+  | no l ↦ omega arith
+]
+
+pub lowest-le : (n : ℕ) (p : ℕ → Bool) (k : ℕ) → p k ≡ true → lowest n p ≤ k
+lowest-le n p k e = elim (decLt k (lowest n p)) [
+  | yes l ↦ let f : p k ≡ false = lowest-below n p k l in let z : _≡_ {A = ℕ} 0 1 = cc in omega arith
+  | no l ↦ omega arith
+]
 
 -- ---- two lists of bytes
 

@@ -1,16 +1,15 @@
 -- A block of a covered mode, a count and a number is found as these, and any other block as none. Assumes nothing.
 use mathlib.Core.Path.{_≡_, refl, sym, ap, ap₂, _∙_}
 use mathlib.Core.List.{List}
-use mathlib.Core.Bool.{Bool, true, false}
+use mathlib.Core.Bool.{Bool, true, false, cond}
 use Prim.Native.Nat.{ℕ, _+_, _*_, _/_, _≤_, _<_}
-use native.Mathlib.Decide.{decLt}
 use native.Mathlib.Omega.{arith}
-use borrow.Author.Tests.{lt-ltb, le-ltb}
+use borrow.Author.Tests.{lt-ltb, le-ltb, ltb-true}
 use lib.Dec.{ltb}
 use lib.ListN.{getD}
 use Rattle.bits.specs.Bits.{number}
 use Rattle.bits.specs.Tests.{same, lowest}
-use Rattle.bits.proofs.Tests.{same-true, same-eq, same-ne, lowest-below, lowest-passes, lowest-none}
+use Rattle.bits.proofs.Tests.{same-true, same-eq, same-ne, lowest-passes, lowest-none, lowest-le}
 use Rattle.control.specs.Control.{blockOf}
 use Rattle.control.specs.Modes.{modes, covered}
 use Rattle.control.specs.Lookup.{triples, modeOf, countOf, reservedOf, lookedUp}
@@ -19,14 +18,6 @@ use Rattle.control.specs.declared.Looked.the-variants.{Found, NotABlock}
 use Rattle.control.specs.Words.{decoded, reservedRead}
 use Rattle.control.proofs.Covered.{covered-place, covered-at, mode-lt, covered-lt}
 use Rattle.control.proofs.Decoding.{mode-field, count-field, reserved-field, block-determines}
-
--- belongs in bits
-lowest-le : (n : ℕ) (p : ℕ → Bool) (k : ℕ) → p k ≡ true → lowest n p ≤ k
-lowest-le n p k e = go (decLt k (lowest n p))
-  where
-    go : Dec (k < lowest n p) → lowest n p ≤ k
-    go (yes l) = let f : p k ≡ false = lowest-below n p k l in let z : _≡_ {A = ℕ} 0 1 = cc in omega arith
-    go (no l) = omega arith
 
 found-cong : {m m′ c c′ z z′ : ℕ} → m ≡ m′ → c ≡ c′ → z ≡ z′ → Found m c z ≡ Found m′ c′ z′
 found-cong e f g = λ i. Found (e i) (f i) (g i)
@@ -97,6 +88,31 @@ looked-up-none b h = rw (lowest-none triples (λ n. same b (block n)) (λ n l. s
   where
     no-below : (n : ℕ) → ltb n n ≡ false
     no-below n = le-ltb n n (omega arith)
+
+-- what was found is so
+pub record Is (b : List ℕ) (m c z : ℕ) : Type 0 where
+  pub is-covered : covered m ≡ true
+  pub count-low : c < 16
+  pub number-low : z < 8
+  pub block-is : b ≡ blockOf m c z
+
+found-cases : (t : Bool) (m c z m′ c′ z′ : ℕ) → cond t (Found m c z) NotABlock ≡ Found m′ c′ z′ → (t ≡ true) × (m ≡ m′) × (c ≡ c′) × (z ≡ z′)
+found-cases true m c z m′ c′ z′ e = (refl, cc, cc, cc)
+found-cases false m c z m′ c′ z′ e = let z : _≡_ {A = ℕ} 0 1 = cc in absurd (omega arith)
+
+pub looked-up-is : (b : List ℕ) (m c z : ℕ) → lookedUp b ≡ Found m c z → Is b m c z
+unfolding lookedUp
+looked-up-is b m c z e =
+    let p : ℕ → Bool = λ n. same b (block n) in
+    let n : ℕ = lowest triples p in
+    let f = found-cases (ltb n triples) (modeOf n) (countOf n) (reservedOf n) m c z e in
+    let l : n < triples = ltb-true n triples (f .0) in
+    record {
+      is-covered = sym (ap covered (f .1)) ∙ triple-covered n l;
+      count-low = rw (← f .2) (count-lt n);
+      number-low = rw (← f .3) (reserved-lt n);
+      block-is = same-true b _ (lowest-passes triples p l) ∙ block-cong (f .1) (f .2) (f .3);
+    }
 
 -- the code's way: a block is that of the mode, the count and the number which its column 0 says, or of none
 module _ (b : List ℕ) (m c z : ℕ) (hm : m ≡ number 6 (λ i. decoded b (25 + i))) (hc : c ≡ number 4 (λ i. decoded b (16 + i)))

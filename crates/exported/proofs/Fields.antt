@@ -5,7 +5,7 @@ use mathlib.Core.Bool.{cond}
 use native.Mathlib.Omega.{arith}
 use lib.Dec.{eqb}
 use Rattle.runs.specs.declared.Answer.{Answer}
-use Rattle.runs.specs.declared.Answer.the-variants.{Success, ModeNotCovered, StateNotValid, WrongLength, WrongControl, MainNotCoded, PidsNotCoded, FillNotZero, ExtendedNotCoded, ReservedTooHigh, SharesTooMany, SymbolTooHigh, ScaleNotUsable, NoFrameFits, SeveralFit, WrongBudget}
+use Rattle.runs.specs.declared.Answer.the-variants.{Success, ModeNotCovered, StateNotValid, WrongLength, WrongControl, MainNotCoded, PidsNotCoded, FillNotZero, ExtendedNotCoded, ReservedTooHigh, SharesTooMany, SymbolTooHigh, ScaleNotUsable, MixedControl, NoFrameFits, SeveralFit, WrongBudget}
 use Rattle.runs.specs.declared.State.{State}
 use Rattle.runs.specs.Answers.{numberOf, placeOf}
 use Rattle.queries.specs.Finder.{Channel, none, p1, pids}
@@ -13,7 +13,8 @@ use Rattle.queries.specs.Finder as Finder
 use Rattle.queries.specs.FinderPX.{Content, none as nothing, coded, fill}
 use Rattle.queries.specs.FinderPX as FinderPX
 use Rattle.queries.specs.Lookup as Lookup
-use Rattle.exported.specs.Words.{answerWord, channelNumber, contentNumber, numberRead, outcomeWord, foundWord, foundPxWord, lookedUpWord}
+use Rattle.queries.specs.LookupFrame as LookupFrame
+use Rattle.exported.specs.Words.{answerWord, channelNumber, contentNumber, numberRead, outcomeWord, foundWord, foundPxWord, lookedUpWord, lookedUpFrameWord}
 use Rattle.exported.proofs.Findings.{Small, SmallPX}
 
 pub number-lt : (a : Answer) → numberOf a < 2 ^ 8
@@ -30,6 +31,7 @@ number-lt ReservedTooHigh = omega arith
 number-lt SharesTooMany = omega arith
 number-lt SymbolTooHigh = omega arith
 number-lt (ScaleNotUsable k) = omega arith
+number-lt (MixedControl k) = omega arith
 number-lt NoFrameFits = omega arith
 number-lt SeveralFit = omega arith
 number-lt WrongBudget = omega arith
@@ -102,6 +104,14 @@ pub looked-up-fields : (v : Lookup.Values) → v .number < 2 ^ 8 → v .mode < 2
     × (lookedUpWord v / 2 ^ 32 ≡ v .place)
 unfolding lookedUpWord
 looked-up-fields v n m c z = (omega arith, omega arith, omega arith, omega arith, omega arith)
+
+pub looked-up-frame-fields : (v : LookupFrame.Values) → v .number < 2 ^ 8 → v .mode < 2 ^ 8 → v .reserved < 2 ^ 8
+    → (lookedUpFrameWord v % 2 ^ 8 ≡ v .number)
+    × (byte (lookedUpFrameWord v) (2 ^ 8) ≡ v .mode)
+    × (byte (lookedUpFrameWord v) (2 ^ 24) ≡ v .reserved)
+    × (lookedUpFrameWord v / 2 ^ 32 ≡ v .place)
+unfolding lookedUpFrameWord
+looked-up-frame-fields v n m z = (omega arith, omega arith, omega arith, omega arith)
 
 pub answer-fields : (a : Answer) → (answerWord a % 2 ^ 8 ≡ numberOf a) × (answerWord a / 2 ^ 32 ≡ placeOf a)
 unfolding answerWord

@@ -1,4 +1,4 @@
--- What the finders and the lookup say fits its fields of a word. Assumes nothing.
+-- What the finders and the lookups say fits its fields of a word. Assumes nothing.
 use Prim.Native.Nat.{ℕ, _+_, _*_, _/_, _%_, _^_, _<_, _≤_}
 use mathlib.Core.Path.{_≡_, refl}
 use mathlib.Core.Bool.{Bool, true, false, cond, true≢false}
@@ -13,6 +13,10 @@ use Rattle.interleaving.proofs.OncePM.{pm-each-once}
 use Rattle.control.specs.declared.Looked.{Looked}
 use Rattle.control.specs.declared.Looked.the-variants.{Found, NotABlock}
 use Rattle.control.specs.Lookup.{lookedUp}
+use Rattle.blockset.specs.declared.LookedFrame.the-variants.{Faulty, Unfit}
+use Rattle.blockset.specs.LookupFrame.{says, named, faulty, unfit, lookedUpFrame}
+use Rattle.bits.specs.Tests.{lowest}
+use Rattle.bits.proofs.Tests.{lowest-up-to}
 use Rattle.interleaving.specs.FinderPX.{codedBit, earlier, origin}
 use Rattle.runs.specs.declared.Answer.{Answer}
 use Rattle.runs.specs.declared.Answer.the-variants.{StateNotValid, WrongLength}
@@ -29,8 +33,10 @@ use Rattle.interleaving.specs.PX.{codedBits, codedBytes}
 use native.Mathlib.Nat.{div-lt-iff-lt-mul, mod-lt}
 use Rattle.queries.specs.declared.finder.Found.the-variants.{Refused}
 use Rattle.queries.specs.declared.blocks.LookedUp.the-variants.{Refused as notLookedUp}
+use Rattle.queries.specs.declared.blocks.LookedUpFrame.the-variants.{Refused as noFrame}
 use Rattle.queries.specs.Finder.{found, told, values}
 use Rattle.queries.specs.Lookup.{lookupOf, values as valuesOfBlock, told as toldOfBlock}
+use Rattle.queries.specs.LookupFrame.{lookupFrameOf, values as valuesOfFrame, told as toldOfFrame}
 use Rattle.queries.specs.Finder as Finder
 
 abbrev pub Small : Finder.Values → Type 0
@@ -116,3 +122,24 @@ lookup-place block = go (eqb (length block) 256)
     go : (t : Bool) → valuesOfBlock (cond t (toldOfBlock (lookedUp block)) (notLookedUp (WrongLength 0))) .place < 2 ^ 8
     go true = omega (arith, told-place (lookedUp block))
     go false = omega arith
+
+named-place : (looked : Looked) → valuesOfFrame (toldOfFrame (named looked)) .place ≡ 0
+named-place (Found mode count reserved) = refl
+named-place NotABlock = refl
+
+pub lookup-frame-place : (control : List ℕ) → valuesOfFrame (lookupFrameOf control) .place < 2 ^ 8
+unfolding lookupFrameOf lookedUpFrame
+lookup-frame-place control = go (eqb (length control) 4096) (ltb bad 16) (ltb odd 16)
+  where
+    bad : ℕ
+    bad = lowest 16 (faulty control)
+
+    odd : ℕ
+    odd = lowest 16 (unfit control)
+
+    go : (t b o : Bool)
+        → valuesOfFrame (cond t (toldOfFrame (cond b (Faulty bad) (cond o (Unfit odd) (named (says control 0))))) (noFrame (WrongLength 0))) .place < 2 ^ 8
+    go false b o = omega arith
+    go true true o = omega (arith, lowest-up-to 16 (faulty control))
+    go true false true = omega (arith, lowest-up-to 16 (unfit control))
+    go true false false = omega (arith, named-place (says control 0))

@@ -13,7 +13,7 @@ use Rattle.bits.specs.Tests.{lowest}
 use Rattle.control.specs.Departs.{strays}
 use Rattle.control.specs.Modes.{covered}
 use Rattle.runs.specs.declared.Answer.{Answer}
-use Rattle.runs.specs.declared.Answer.the-variants.{Success, ModeNotCovered, StateNotValid, WrongLength, WrongControl, MainNotCoded, PidsNotCoded, FillNotZero, ExtendedNotCoded, ReservedTooHigh, SharesTooMany, SymbolTooHigh, ScaleNotUsable, NoFrameFits, SeveralFit, WrongBudget}
+use Rattle.runs.specs.declared.Answer.the-variants.{Success, ModeNotCovered, StateNotValid, WrongLength, WrongControl, MainNotCoded, PidsNotCoded, FillNotZero, ExtendedNotCoded, ReservedTooHigh, SharesTooMany, SymbolTooHigh, ScaleNotUsable, MixedControl, NoFrameFits, SeveralFit, WrongBudget}
 use Rattle.runs.specs.declared.Extended.the-variants.{P3, P4}
 use Rattle.runs.specs.declared.Kind.{Kind}
 use Rattle.runs.specs.declared.Kind.the-variants.{Unused, Narrow, Wide}
@@ -141,6 +141,7 @@ either place ReservedTooHigh done other h l = l
 either place SharesTooMany done other h l = l
 either place SymbolTooHigh done other h l = l
 either place (ScaleNotUsable k) done other h l = l
+either place (MixedControl k) done other h l = l
 either place NoFrameFits done other h l = l
 either place SeveralFit done other h l = l
 either place WrongBudget done other h l = l

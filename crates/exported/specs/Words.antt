@@ -13,6 +13,7 @@ use Rattle.queries.specs.Finder as Finder
 use Rattle.queries.specs.FinderPX.{Content, none as nothing, coded, fill}
 use Rattle.queries.specs.FinderPX as FinderPX
 use Rattle.queries.specs.Lookup as Lookup
+use Rattle.queries.specs.LookupFrame as LookupFrame
 
 -- a start, a sending, a reading: the answer and the state
 unfoldable pub outcomeWord : Answer → State → ℕ
@@ -45,6 +46,10 @@ foundPxWord v = v .number + 2 ^ 8 * contentNumber (v .content) + 2 ^ 16 * v .fra
 -- a lookup
 unfoldable pub lookedUpWord : Lookup.Values → ℕ
 lookedUpWord v = v .number + 2 ^ 8 * v .mode + 2 ^ 16 * v .count + 2 ^ 24 * v .reserved + 2 ^ 32 * v .place
+
+-- a lookup of an L1 frame's control: the fields of a lookup, without a count
+unfoldable pub lookedUpFrameWord : LookupFrame.Values → ℕ
+lookedUpFrameWord v = v .number + 2 ^ 8 * v .mode + 2 ^ 24 * v .reserved + 2 ^ 32 * v .place
 
 -- a row of n bytes that is handed back: where it starts and how many bytes it has, and 0 where it is empty
 unfoldable pub rowWord : (n row : ℕ) → List ℕ → ℕ

@@ -17,6 +17,7 @@ pub use lengths::layer1_sender_length;
 pub use questions::layer1_find;
 pub use questions::layer1_find_px;
 pub use questions::layer1_lookup;
+pub use questions::layer1_lookup_frame;
 pub use reads::layer1_read;
 pub use restored::layer1_restore;
 pub use rows::layer1_pm_row;

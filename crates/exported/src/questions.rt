@@ -1,14 +1,16 @@
-// Document 01: the cell finders, and what a control block says.
+// Documents 01 and 02: the cell finders, and what a control block or the sixteen of an L1 frame say.
 use crate::words::found_px_word;
 use crate::words::found_word;
+use crate::words::looked_up_frame_word;
 use crate::words::looked_up_word;
 use layer1::State;
 ghost use mathlib.Core.Path.{_≡_};
 ghost use Rattle.queries.specs.Finder.{found, values};
 ghost use Rattle.queries.specs.FinderPX.{foundPX, values as valuesPX};
 ghost use Rattle.queries.specs.Lookup.{lookupOf, values as valuesOfBlock};
+ghost use Rattle.queries.specs.LookupFrame.{lookupFrameOf, values as valuesOfFrame};
 ghost use Rattle.exported.specs.Left.{stateOf};
-ghost use Rattle.exported.specs.Words.{foundPxWord, foundWord, lookedUpWord};
+ghost use Rattle.exported.specs.Words.{foundPxWord, foundWord, lookedUpFrameWord, lookedUpWord};
 
 // Whose coded bit stands in a cell of PM.
 #[no_mangle]
@@ -50,4 +52,13 @@ pub extern "C" fn layer1_lookup(block: &[u8]) -> u64
 {
     let said = layer1::lookup(block);
     looked_up_word(said)
+}
+
+// The mode and the number of the sixteen control blocks of an L1 frame.
+#[no_mangle]
+pub extern "C" fn layer1_lookup_frame(control: &[u8]) -> u64
+    ensures { λ r. ⌜ r ≡ lookedUpFrameWord (valuesOfFrame (lookupFrameOf (now (control .entry)))) ⌝ }
+{
+    let said = layer1::lookup_frame(control);
+    looked_up_frame_word(said)
 }

@@ -3,6 +3,7 @@ use layer1::Answer;
 use layer1::Found;
 use layer1::FoundPx;
 use layer1::LookedUp;
+use layer1::LookedUpFrame;
 use layer1::State;
 use layer1::number;
 use layer1::place;
@@ -15,7 +16,8 @@ ghost use Rattle.runs.specs.Answers.{numberOf, placeOf};
 ghost use Rattle.queries.specs.Finder.{values};
 ghost use Rattle.queries.specs.FinderPX.{values as valuesPX};
 ghost use Rattle.queries.specs.Lookup.{values as valuesOfBlock};
-ghost use Rattle.exported.specs.Words.{answerWord, eightOf, foundPxWord, foundWord, lookedUpWord, numberRead, outcomeWord, rowWord};
+ghost use Rattle.queries.specs.LookupFrame.{values as valuesOfFrame};
+ghost use Rattle.exported.specs.Words.{answerWord, eightOf, foundPxWord, foundWord, lookedUpFrameWord, lookedUpWord, numberRead, outcomeWord, rowWord};
 
 // The word of a start, a sending or a reading.
 pub fn outcome_word(answer: Answer, state: State) -> u64
@@ -75,6 +77,21 @@ pub fn looked_up_word(said: LookedUp) -> u64
             reserved,
         } => { 256 * (mode as u64) + 65536 * (count as u64) + 16777216 * (reserved as u64) }
         LookedUp::Refused { answer } => {
+            number(answer) as u64 + 4294967296 * (place(answer) as u64)
+        }
+    }
+}
+
+// The word of a lookup of an L1 frame's control.
+pub fn looked_up_frame_word(said: LookedUpFrame) -> u64
+    requires { ⌜ valuesOfFrame said .place < 2 ^ 8 ⌝ }
+    ensures { λ r. ⌜ r ≡ lookedUpFrameWord (valuesOfFrame said) ⌝ }
+{
+    match said {
+        LookedUpFrame::Found { mode, reserved } => {
+            256 * (mode as u64) + 16777216 * (reserved as u64)
+        }
+        LookedUpFrame::Refused { answer } => {
             number(answer) as u64 + 4294967296 * (place(answer) as u64)
         }
     }

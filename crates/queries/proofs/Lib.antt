@@ -1,4 +1,5 @@
 mod CasesPX
+pub mod Framed
 mod Origins
 mod Parts
 pub mod Sheets

@@ -3,3 +3,4 @@ pub mod FinderPX
 pub mod Sheets
 pub mod Rows
 pub mod Lookup
+pub mod LookupFrame

@@ -1,11 +1,13 @@
-// Document 01: what a cell of PM holds, a row of a matrix, and what a control block says; and what a cell of PX1 or PX2 holds.
+// Documents 01 and 02: what a cell of PM holds, a row of a matrix, and what a control block or the sixteen of an L1 frame say; and what a cell of PX1 or PX2 holds.
 mod blocks;
 mod finder;
 mod finder_px;
 mod rows;
 
 pub use blocks::LookedUp;
+pub use blocks::LookedUpFrame;
 pub use blocks::lookup;
+pub use blocks::lookup_frame;
 pub use finder::Found;
 pub use finder::find;
 pub use finder::find_by;

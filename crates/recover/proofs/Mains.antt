@@ -14,7 +14,7 @@ use Rattle.bits.specs.Tests.{all, lowest}
 use Rattle.bits.proofs.Beside.{in-first, in-second}
 use Rattle.bits.proofs.Parts.{take-packed, drop-packed}
 use Rattle.bits.proofs.Packed.{length-packed}
-use Rattle.bits.proofs.Tests.{lowest-at, lowest-below, lowest-cong, lowest-none, lowest-passes}
+use Rattle.bits.proofs.Tests.{lowest-at, lowest-below, lowest-cong, lowest-none, lowest-passes, lowest-up-to}
 use Rattle.coding.specs.declared.Rate.the-variants.{Half, TwoFifths}
 use Rattle.coding.specs.Buffers.{Buffers, uncodedEach}
 use Rattle.coding.specs.Channel.{noFrame, unchannel}
@@ -28,13 +28,6 @@ use Rattle.recover.specs.Rooms.{codedBytes, isOne, lateBad, p1Bytes, pas
 use Rattle.recover.proofs.Channels.{judged}
 
 -- ---- the lowest bad place of two rows
-
-pub lowest-le : (n : ℕ) (p : ℕ → Bool) → lowest n p ≤ n
-unfolding lowest
-lowest-le n p = elim (decLt n (lowest n p)) [
-  | yes l ↦ let e = lowest-none n p (λ i h. lowest-below n p i (omega arith)) in omega arith
-  | no l ↦ omega arith
-]
 
 pub lowest-beside : (n m : ℕ) (f g : ℕ → Bool) → past n (lowest n f) (lowest m g) ≡ lowest (n + m) (beside n f g)
 lowest-beside n m f g =
@@ -64,7 +57,7 @@ lowest-beside n m f g =
           | yes l ↦
               sym (lowest-at (n + m) (n + lowest m g) (beside n f g) (omega arith) (good none) (in-second n f g _ ∙ lowest-passes m g l))
           | no l ↦
-              let e : lowest m g ≡ m = omega (arith, lowest-le m g) in
+              let e : lowest m g ≡ m = omega (arith, lowest-up-to m g) in
               ap (λ (k : ℕ). n + k) e ∙ sym (lowest-none (n + m) (beside n f g) (λ i h. good none i (omega arith)))
         ]
 
@@ -252,4 +245,4 @@ module _ (x : Buffer) (c : ℕ) {b : ℕ} (e : b ≡ bitAt x c) where
   one-not h = ne-eqb _ _ (λ z. h (e ∙ z))
 
 pub lowest-is-le : (n : ℕ) (p : ℕ → Bool) {r : ℕ} → r ≡ lowest n p → r ≤ n
-lowest-is-le n p e = omega (arith, e, lowest-le n p)
+lowest-is-le n p e = omega (arith, e, lowest-up-to n p)

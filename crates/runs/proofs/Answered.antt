@@ -3,7 +3,7 @@ use mathlib.Core.Path.{_≡_, refl, ap, _∙_}
 use mathlib.Core.Logic.{_⊎_, inl, inr, _≢_}
 use native.Mathlib.Omega.{arith}
 use Rattle.runs.specs.declared.Answer.{Answer}
-use Rattle.runs.specs.declared.Answer.the-variants.{Success, ModeNotCovered, StateNotValid, WrongLength, WrongControl, MainNotCoded, PidsNotCoded, FillNotZero, ExtendedNotCoded, ReservedTooHigh, SharesTooMany, SymbolTooHigh, ScaleNotUsable, NoFrameFits, SeveralFit, WrongBudget}
+use Rattle.runs.specs.declared.Answer.the-variants.{Success, ModeNotCovered, StateNotValid, WrongLength, WrongControl, MainNotCoded, PidsNotCoded, FillNotZero, ExtendedNotCoded, ReservedTooHigh, SharesTooMany, SymbolTooHigh, ScaleNotUsable, MixedControl, NoFrameFits, SeveralFit, WrongBudget}
 use Rattle.runs.specs.Answers.{numberOf, onSuccess}
 use Rattle.runs.specs.Lent.{Result}
 
@@ -22,6 +22,7 @@ either ReservedTooHigh = inr (λ x y. refl)
 either SharesTooMany = inr (λ x y. refl)
 either SymbolTooHigh = inr (λ x y. refl)
 either (ScaleNotUsable k) = inr (λ x y. refl)
+either (MixedControl k) = inr (λ x y. refl)
 either NoFrameFits = inr (λ x y. refl)
 either SeveralFit = inr (λ x y. refl)
 either WrongBudget = inr (λ x y. refl)
@@ -62,6 +63,7 @@ success-is ReservedTooHigh e = absurd (omega arith)
 success-is SharesTooMany e = absurd (omega arith)
 success-is SymbolTooHigh e = absurd (omega arith)
 success-is (ScaleNotUsable k) e = absurd (omega arith)
+success-is (MixedControl k) e = absurd (omega arith)
 success-is NoFrameFits e = absurd (omega arith)
 success-is SeveralFit e = absurd (omega arith)
 success-is WrongBudget e = absurd (omega arith)

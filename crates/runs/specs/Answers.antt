@@ -1,7 +1,7 @@
 -- Documents 01 and 02, the table of causes: the number and the place that each answer stands for.
 use Prim.Native.Nat.{ℕ}
 use Rattle.runs.specs.declared.Answer.{Answer}
-use Rattle.runs.specs.declared.Answer.the-variants.{Success, ModeNotCovered, StateNotValid, WrongLength, WrongControl, MainNotCoded, PidsNotCoded, FillNotZero, ExtendedNotCoded, ReservedTooHigh, SharesTooMany, SymbolTooHigh, ScaleNotUsable, NoFrameFits, SeveralFit, WrongBudget}
+use Rattle.runs.specs.declared.Answer.the-variants.{Success, ModeNotCovered, StateNotValid, WrongLength, WrongControl, MainNotCoded, PidsNotCoded, FillNotZero, ExtendedNotCoded, ReservedTooHigh, SharesTooMany, SymbolTooHigh, ScaleNotUsable, MixedControl, NoFrameFits, SeveralFit, WrongBudget}
 
 abbrev pub numberOf : Answer → ℕ
 numberOf Success = 0
@@ -17,6 +17,7 @@ numberOf ReservedTooHigh = 9
 numberOf SharesTooMany = 10
 numberOf SymbolTooHigh = 11
 numberOf (ScaleNotUsable place) = 12
+numberOf (MixedControl block) = 13
 numberOf NoFrameFits = 14
 numberOf SeveralFit = 15
 numberOf WrongBudget = 16
@@ -35,6 +36,7 @@ placeOf ReservedTooHigh = 0
 placeOf SharesTooMany = 0
 placeOf SymbolTooHigh = 0
 placeOf (ScaleNotUsable place) = place
+placeOf (MixedControl block) = block
 placeOf NoFrameFits = 0
 placeOf SeveralFit = 0
 placeOf WrongBudget = 0
@@ -54,6 +56,7 @@ onSuccess ReservedTooHigh done refused = refused
 onSuccess SharesTooMany done refused = refused
 onSuccess SymbolTooHigh done refused = refused
 onSuccess (ScaleNotUsable place) done refused = refused
+onSuccess (MixedControl block) done refused = refused
 onSuccess NoFrameFits done refused = refused
 onSuccess SeveralFit done refused = refused
 onSuccess WrongBudget done refused = refused

@@ -47,6 +47,7 @@ pub enum Answer {
     SymbolTooHigh,
     ScaleNotUsable(usize),
     // document 02, S-11
+    MixedControl(usize),
     NoFrameFits,
     SeveralFit,
     // document 02, S-12

@@ -1,0 +1,3 @@
+pub mod Marched
+pub mod Sets
+pub mod Mixed

@@ -1,0 +1,2 @@
+pub mod LookupFrame
+pub mod Words
