@@ -16,7 +16,8 @@
  *
  * A run: a start, then sendings, or then readings. Each is handed the state in the word of the last call, which is mode, half, age and the
  * last reserved number sent or read, 0 at a start, and the memories as it left them. Every buffer has exactly the length that
- * layer1_sender_length or layer1_reader_length gives for the mode and its place; an unused channel's has length 0. A refused call leaves
+ * layer1_sender_length or layer1_reader_length gives for the mode and its place; an unused channel's has length 0. For P3 and P4 a
+ * sending, and no reading, may also be lent length 0: no data, which means eight frames of zeros (document 02, S-5). A refused call leaves
  * the state and all buffers as they were.
  *
  * The numbers of the table of causes, and the place that comes with each:

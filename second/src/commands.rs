@@ -5,12 +5,14 @@ use std::io::{self, BufRead, Read, Write};
 use crate::coding::Rate;
 use crate::control::{control, NUMBERS};
 use crate::draw::{cell_list, Damage, Draw};
-use crate::modes::{Mode, EXTENDED_WAIT, P1_BITS, PIDS_BITS};
+use crate::modes::{Mode, Without, EXTENDED_WAIT, P1_BITS, PIDS_BITS};
 use crate::nearest;
 use crate::packing::{pack, unpack};
 use crate::places::{self, INPUT_BYTES};
 use crate::reading::decode_frames;
-use crate::run::{self, code_frames, Answer, Reading, Refusal, Sending, Side, State};
+use crate::run::{
+    self, check_lengths, code_frames, Answer, Reading, Refusal, Sending, Side, State,
+};
 use crate::scrambling::scramble;
 use crate::sheet::{take_list, Sheet, GREATEST_COUNT, LIST_BYTES};
 use crate::vector::{self, Mapping};
@@ -198,34 +200,87 @@ impl Run {
     }
 }
 
-/// Documents 01 and 02, sheet guarantees: draws the reserved numbers and transfer frames of a run.
-pub fn draw(seed: u64, mode: u64, count: u64, output: &mut impl Write) -> Result<(), Stop> {
+/// Documents 01 and 02, sheet guarantees: draws the reserved numbers and transfer frames of a run,
+/// and leaves out the channels without data.
+pub fn draw(
+    seed: u64,
+    mode: u64,
+    count: u64,
+    without: Without,
+    output: &mut impl Write,
+) -> Result<(), Stop> {
     let mode = covered(mode)?;
+    let handed = handed_lengths(mode, without)?;
     let mut draw = Draw::new(seed);
     for _ in 0..count {
         output.write_all(&[draw.below(NUMBERS) as u8])?;
-        for length in mode.frame_lengths() {
-            output.write_all(&draw.bytes(length))?;
+        for (length, handed) in mode.frame_lengths().into_iter().zip(handed) {
+            output.write_all(&draw.bytes(length)[..handed])?;
         }
     }
     Ok(())
 }
 
-/// Document 01, operations: sends a run of L1 frames.
+/// Document 02, S-5: the lengths of the channels in the input of a sender.
+fn handed_lengths(mode: &Mode, without: Without) -> Result<[usize; 5], Stop> {
+    mode.handed_lengths(without).ok_or(Stop::Usage)
+}
+
+/// Document 02, S-5: copies the input of a sender, with the zeros that are meant in place of
+/// nothing.
+pub fn fill(
+    mode: u64,
+    count: u64,
+    without: Without,
+    input: &mut impl Read,
+    output: &mut impl Write,
+) -> Result<(), Stop> {
+    let mode = covered(mode)?;
+    let handed = handed_lengths(mode, without)?;
+    for _ in 0..count {
+        output.write_all(&take(input, 1)?)?;
+        let frames = take_each(input, handed)?;
+        for (mut frames, length) in frames.into_iter().zip(mode.frame_lengths()) {
+            frames.resize(length, 0);
+            output.write_all(&frames)?;
+        }
+    }
+    Ok(())
+}
+
+/// Documents 01 and 02, operations: sends the next L1 frame of the input. An input that ends early
+/// is refused, and a number above 7 before it; what is missing at its end is not meant as zeros.
+fn send_next(
+    sender: &mut Run,
+    handed: [usize; 5],
+    frame: u64,
+    input: &mut impl Read,
+) -> Result<[Vec<u8>; 4], Stop> {
+    let reserved = take_reserved(input)?;
+    let frames = take_each(input, handed)?;
+    if reserved < NUMBERS {
+        let lengths = frames.each_ref().map(Vec::len);
+        check_lengths(&lengths, &handed).map_err(|refusal| Stop::Refused { refusal, frame })?;
+    }
+    let (answer, matrices) = sender.send(reserved, &frames);
+    if answer.number != 0 {
+        return Err(refused(answer.number, answer.place, frame));
+    }
+    Ok(matrices)
+}
+
+/// Documents 01 and 02, operations: sends a run of L1 frames.
 pub fn send(
     mode: u64,
     count: u64,
+    without: Without,
     input: &mut impl Read,
     output: &mut impl Write,
 ) -> Result<(), Stop> {
     let mut sender = Run::start(Side::Sender, mode)?;
+    let handed = handed_lengths(sender.mode, without)?;
     for frame in 0..count {
-        let reserved = take_reserved(input)?;
-        let frames = take_each(input, sender.mode.frame_lengths())?;
-        let (answer, matrices) = sender.send(reserved, &frames);
-        if answer.number != 0 {
-            return Err(refused(answer.number, answer.place, frame));
-        }
+        let matrices = send_next(&mut sender, handed, frame, input)?;
         output.write_all(&matrices.concat())?;
     }
     Ok(())
@@ -235,21 +290,18 @@ pub fn send(
 pub fn sheet(
     mode: u64,
     count: u64,
+    without: Without,
     input: &mut impl BufRead,
     output: &mut impl Write,
 ) -> Result<(), Stop> {
     let mut sender = Run::start(Side::Sender, in_finder(mode)?.number)?;
+    let handed = handed_lengths(sender.mode, without)?;
     let count = count.min(GREATEST_COUNT);
     let list = take_list(input)?.ok_or(Stop::NoList)?;
     let mut sheet = Sheet::new(sender.mode, count, &list);
     output.write_all(sheet.refusals().as_bytes())?;
     for frame in 0..count {
-        let reserved = take_reserved(input)?;
-        let frames = take_each(input, sender.mode.frame_lengths())?;
-        let (answer, matrices) = sender.send(reserved, &frames);
-        if answer.number != 0 {
-            return Err(refused(answer.number, answer.place, frame));
-        }
+        let matrices = send_next(&mut sender, handed, frame, input)?;
         output.write_all(sheet.answers(frame, &matrices).as_bytes())?;
     }
     Ok(())

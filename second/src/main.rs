@@ -5,13 +5,15 @@ use std::io::{self, BufWriter, Write};
 use std::process::ExitCode;
 
 use second::commands::{self, Stop};
+use second::modes::Without;
 use second::{cells, nearest, places, restoring, run::Refusal, vector};
 
 /// The commands with their operands.
-const COMMANDS: [(&str, &str); 23] = [
-    ("draw", "SEED MODE COUNT"),
-    ("send", "MODE COUNT"),
-    ("sheet", "MODE COUNT"),
+const COMMANDS: [(&str, &str); 24] = [
+    ("draw", "SEED MODE COUNT [without P3|P4|P3 P4]"),
+    ("fill", "MODE COUNT [without P3|P4|P3 P4]"),
+    ("send", "MODE COUNT [without P3|P4|P3 P4]"),
+    ("sheet", "MODE COUNT [without P3|P4|P3 P4]"),
     ("draw-cells", "SEED MODE COUNT"),
     ("read", "MODE COUNT"),
     ("read-on", "MODE COUNT"),
@@ -43,11 +45,13 @@ fn main() -> ExitCode {
         eprintln!("usage: second {known} ...");
         return ExitCode::from(2);
     };
-    let Some((numbers, files)) = split(operands, &arguments[1..]) else {
+    let fitting = split_without(operands, &arguments[1..])
+        .and_then(|(operands, given, without)| Some((split(operands, given)?, without)));
+    let Some(((numbers, files), without)) = fitting else {
         return misused(name, operands);
     };
     let mut output = BufWriter::new(io::stdout().lock());
-    let done = dispatch(name, &numbers, files, &mut output);
+    let done = dispatch(name, &numbers, files, without, &mut output);
     let flushed = output.flush().map_err(Stop::Trouble);
     if let Err(Stop::Usage) = done {
         return misused(name, operands);
@@ -60,6 +64,31 @@ fn misused(name: &str, operands: &str) -> ExitCode {
     let usage = format!("usage: second {name} {operands}");
     eprintln!("{}", usage.trim_end());
     ExitCode::from(2)
+}
+
+/// Document 02, S-5: takes the channels without data off the end of the operands, if the usage has
+/// them; none if they are no such channels.
+fn split_without<'a>(
+    operands: &'static str,
+    given: &'a [OsString],
+) -> Option<(&'static str, &'a [OsString], Without)> {
+    let Some((operands, _)) = operands.split_once(" [without") else {
+        return Some((operands, given, Without::default()));
+    };
+    let Some(at) = given.iter().position(|word| word == "without") else {
+        return Some((operands, given, Without::default()));
+    };
+    let channels: Vec<&str> = given[at + 1..]
+        .iter()
+        .map(|word| word.to_str())
+        .collect::<Option<_>>()?;
+    let (p3, p4) = match channels[..] {
+        ["P3"] => (true, false),
+        ["P4"] => (false, true),
+        ["P3", "P4"] => (true, true),
+        _ => return None,
+    };
+    Some((operands, &given[..at], Without { p3, p4 }))
 }
 
 /// The operands that are no whole numbers; they stand last.
@@ -91,13 +120,15 @@ fn dispatch(
     name: &str,
     numbers: &[u64],
     files: &[OsString],
+    without: Without,
     output: &mut impl Write,
 ) -> Result<(), Stop> {
     let mut input = io::stdin().lock();
     match (name, numbers) {
-        ("draw", &[seed, mode, count]) => commands::draw(seed, mode, count, output),
-        ("send", &[mode, count]) => commands::send(mode, count, &mut input, output),
-        ("sheet", &[mode, count]) => commands::sheet(mode, count, &mut input, output),
+        ("draw", &[seed, mode, count]) => commands::draw(seed, mode, count, without, output),
+        ("fill", &[mode, count]) => commands::fill(mode, count, without, &mut input, output),
+        ("send", &[mode, count]) => commands::send(mode, count, without, &mut input, output),
+        ("sheet", &[mode, count]) => commands::sheet(mode, count, without, &mut input, output),
         ("draw-cells", &[seed, mode, count]) => commands::draw_cells(seed, mode, count, output),
         ("read", &[mode, count]) => commands::read(mode, count, &mut input, output),
         ("read-on", &[mode, count]) => {

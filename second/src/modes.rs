@@ -91,6 +91,13 @@ const LARGE: Extended = Extended {
     reader_memory: 27_648,
 };
 
+/// Document 02, S-5: the extended channels for which a sender is handed nothing.
+#[derive(Clone, Copy, Debug, Default, PartialEq, Eq)]
+pub struct Without {
+    pub p3: bool,
+    pub p4: bool,
+}
+
 /// A covered service mode.
 pub struct Mode {
     pub number: u64,
@@ -177,6 +184,21 @@ impl Mode {
             self.p3.frames,
             self.p4.frames,
         ]
+    }
+
+    /// Document 02, S-5: the lengths of P1, PIDS, P2, P3, P4 of a sender that is handed nothing for
+    /// some channels; none if the mode lacks one of these.
+    pub fn handed_lengths(&self, without: Without) -> Option<[usize; 5]> {
+        let mut lengths = self.frame_lengths();
+        for (place, left_out) in [(3, without.p3), (4, without.p4)] {
+            if left_out && lengths[place] == 0 {
+                return None;
+            }
+            if left_out {
+                lengths[place] = 0;
+            }
+        }
+        Some(lengths)
     }
 
     /// Documents 01 and 02, lent lengths: PM, PX1, PX2 (of P4 or of P1'), control.

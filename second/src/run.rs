@@ -207,7 +207,7 @@ fn try_send(state: State, reserved: u64, lent: &mut Sending) -> Result<State, Re
             place: 0,
         });
     }
-    check_lengths(&lent.lengths(), &Side::Sender.lengths(mode))?;
+    check_lengths(&lent.lengths(), &lengths_to_send(mode, lent))?;
     let p1 = scramble_frames(mode.p1.bits, &unpack(lent.p1));
     let mut u = encode_frames(Rate::TwoFifths, mode.p1.bits, &p1);
     u.extend(code_frames(Rate::TwoFifths, mode.p2.bits, lent.p2));
@@ -223,6 +223,17 @@ fn try_send(state: State, reserved: u64, lent: &mut Sending) -> Result<State, Re
     lent.control
         .copy_from_slice(&control(mode.number, reserved));
     Ok(state.next(mode, reserved))
+}
+
+/// Document 02, S-5: what a sending must be lent; nothing at all will do for P3 and P4.
+fn lengths_to_send(mode: &Mode, lent: &Sending) -> Vec<usize> {
+    let mut lengths = Side::Sender.lengths(mode);
+    for (place, frames) in [(3, lent.p3), (4, lent.p4)] {
+        if frames.is_empty() {
+            lengths[place] = 0;
+        }
+    }
+    lengths
 }
 
 /// Section 8: scrambles transfer frames, each by itself, or takes the scrambling off again.
@@ -266,7 +277,8 @@ fn delayed_cells(px2: &Partitions, frame_bits: usize, scrambled: &[bool]) -> Vec
         .collect()
 }
 
-/// Section 10.4.2: the PX process of one channel over one L1 frame.
+/// Section 10.4.2: the PX process of one channel over one L1 frame. Nothing in place of its frames
+/// means zeros (document 02, S-5).
 fn send_extended(
     channel: &Extended,
     half: u64,
@@ -275,6 +287,8 @@ fn send_extended(
     memory: &mut [u8],
 ) {
     let Some(row) = channel.row else { return };
+    let zeros = vec![0; channel.frames];
+    let frames = if frames.is_empty() { &zeros } else { frames };
     let coded = code_frames(Rate::OneHalf, row.frame_bits / 2, frames);
     let mut internal = unpack(memory);
     let output = row.process(half as usize, &coded, &mut internal);

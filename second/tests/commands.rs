@@ -2,13 +2,20 @@
 
 use second::commands::{self, Stop};
 use second::control::control;
+use second::modes::Without;
+
+/// Every channel with its data.
+const FULL: Without = Without {
+    p3: false,
+    p4: false,
+};
 
 /// The commands: the output of a drawn run's sending.
 fn sent(seed: u64, mode: u64, count: u64) -> (Vec<u8>, Vec<u8>) {
     let mut frames = Vec::new();
-    commands::draw(seed, mode, count, &mut frames).unwrap();
+    commands::draw(seed, mode, count, FULL, &mut frames).unwrap();
     let mut matrices = Vec::new();
-    commands::send(mode, count, &mut &frames[..], &mut matrices).unwrap();
+    commands::send(mode, count, FULL, &mut &frames[..], &mut matrices).unwrap();
     (frames, matrices)
 }
 
@@ -90,7 +97,7 @@ fn short_input() {
     ] {
         let mut input = &frames[..frame_length + length];
         let mut output = Vec::new();
-        let stop = commands::send(11, 2, &mut input, &mut output);
+        let stop = commands::send(11, 2, FULL, &mut input, &mut output);
         assert_eq!(refusal(stop), (3, place, 1));
         assert!(output == matrices[..matrices.len() / 2]);
     }
@@ -98,7 +105,7 @@ fn short_input() {
         let stop = commands::read(11, 2, &mut &matrices[..length], &mut Vec::new());
         assert_eq!(refusal(stop), (3, place, 0));
     }
-    let stop = commands::send(4, 0, &mut &frames[..], &mut Vec::new());
+    let stop = commands::send(4, 0, FULL, &mut &frames[..], &mut Vec::new());
     assert_eq!(refusal(stop), (1, 0, 0));
 }
 
@@ -110,7 +117,7 @@ fn short_input_of_two_paths() {
     for (mode, ends) in [(5, mp5), (6, mp6)] {
         let (frames, matrices) = sent(1, mode, 1);
         for (length, place) in ends {
-            let stop = commands::send(mode, 1, &mut &frames[..length], &mut Vec::new());
+            let stop = commands::send(mode, 1, FULL, &mut &frames[..length], &mut Vec::new());
             assert_eq!(refusal(stop), (3, place, 0));
         }
         for (length, place) in [(46_079, 5), (64_511, 7), (64_512, 8)] {
@@ -129,7 +136,7 @@ fn numbers_too_high() {
         frames[1 + 18_432] = number;
         for length in [2 * (1 + 18_432), 1 + 18_432 + 1] {
             let mut output = Vec::new();
-            let stop = commands::send(1, 3, &mut &frames[..length], &mut output);
+            let stop = commands::send(1, 3, FULL, &mut &frames[..length], &mut output);
             assert_eq!(refusal(stop), (9, 0, 1));
             assert!(output == matrices[..matrices.len() / 3]);
         }
@@ -257,4 +264,43 @@ fn vectors() {
     assert!(rest == control);
     let stop = commands::vectors(&mut &input[..18_300], &mut Vec::new());
     assert_eq!(refusal(stop), (3, 1, 0));
+}
+
+/// Document 02, S-5: a run that is handed nothing for a channel sends the matrices of the run that
+/// is handed the zeros, and these come back in full. The channel is refused where the mode has none.
+#[test]
+fn without_data() {
+    let channels = [(true, false), (false, true), (true, true)];
+    for (mode, p3, p4) in [
+        (1, 0, 0),
+        (2, 2_304, 0),
+        (3, 4_608, 0),
+        (5, 4_608, 0),
+        (6, 0, 0),
+        (11, 4_608, 4_608),
+    ] {
+        for (without3, without4) in channels {
+            let without = Without {
+                p3: without3,
+                p4: without4,
+            };
+            let mut drawn = Vec::new();
+            let done = commands::draw(1, mode, 5, without, &mut drawn);
+            if without3 && p3 == 0 || without4 && p4 == 0 {
+                assert!(matches!(done, Err(Stop::Usage)));
+                let stop = commands::send(mode, 5, without, &mut &drawn[..], &mut Vec::new());
+                assert!(matches!(stop, Err(Stop::Usage)));
+                continue;
+            }
+            let left_out = p3 * usize::from(without3) + p4 * usize::from(without4);
+            assert_eq!(drawn.len(), 5 * (1 + 18_432 + p3 + p4 - left_out));
+            let mut filled = Vec::new();
+            commands::fill(mode, 5, without, &mut &drawn[..], &mut filled).unwrap();
+            assert_eq!(filled.len(), 5 * (1 + 18_432 + p3 + p4));
+            let (mut sent, mut full) = (Vec::new(), Vec::new());
+            commands::send(mode, 5, without, &mut &drawn[..], &mut sent).unwrap();
+            commands::send(mode, 5, FULL, &mut &filled[..], &mut full).unwrap();
+            assert!(sent == full);
+        }
+    }
 }

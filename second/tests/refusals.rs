@@ -3,7 +3,7 @@
 mod common;
 
 use common::{reader_after, refused_reading, sent_run, Buffers};
-use common::{CONTROL, DELAY, MEMORY_P3, MEMORY_P4, MODES, NEWER, PM, PX1, PX2};
+use common::{CONTROL, DELAY, MEMORY_P3, MEMORY_P4, MODES, NEWER, P3, P4, PM, PX1, PX2};
 use second::control::{block, control};
 use second::draw::Draw;
 use second::interleaving::{interleaver_one, interleaver_two, PX_MP3_MP11};
@@ -94,6 +94,37 @@ fn lengths() {
                 reader.0[place].truncate(length - 2);
                 assert_eq!(refused_reading(&mut reader, state), (3, place));
             }
+        }
+    }
+}
+
+/// Document 02, S-5: nothing at all is taken for P3 and P4 in a sending, and for no other buffer,
+/// and in no reading; a single byte is refused.
+#[test]
+fn no_data() {
+    for mode in MODES {
+        let state = State {
+            mode,
+            half: 0,
+            age: 0,
+            reserved: 0,
+        };
+        for place in 0..12 {
+            let mut sender = Buffers::new(Side::Sender, mode, 0x33);
+            if sender.0[place].is_empty() {
+                continue;
+            }
+            sender.0[place].truncate(1);
+            let answer = sender.send(state);
+            assert_eq!((answer.number, answer.place), (3, place));
+            sender.0[place].clear();
+            let answer = sender.send(state);
+            let taken = place == P3 || place == P4;
+            let expected = if taken { (0, 0) } else { (3, place) };
+            assert_eq!((answer.number, answer.place), expected);
+            let mut reader = Buffers::new(Side::Reader, mode, 0x33);
+            reader.0[place].clear();
+            assert_eq!(refused_reading(&mut reader, state), (3, place));
         }
     }
 }

@@ -2,13 +2,14 @@
 
 use second::coding::Rate;
 use second::commands::{self, Stop};
+use second::modes::Without;
 use second::modes::{Mode, P1_BITS, PIDS_BITS};
 use second::run::code_frames;
 
 /// The sheet: the drawn frames of a run.
 fn drawn(mode: u64, count: u64) -> Vec<u8> {
     let mut frames = Vec::new();
-    commands::draw(mode + 7, mode, count, &mut frames).unwrap();
+    commands::draw(mode + 7, mode, count, Without::default(), &mut frames).unwrap();
     frames
 }
 
@@ -16,7 +17,13 @@ fn drawn(mode: u64, count: u64) -> Vec<u8> {
 fn sheet(mode: u64, count: u64, list: &[u8], frames: &[u8]) -> (Result<(), Stop>, String) {
     let input = [list, frames].concat();
     let mut output = Vec::new();
-    let ended = commands::sheet(mode, count, &mut &input[..], &mut output);
+    let ended = commands::sheet(
+        mode,
+        count,
+        Without::default(),
+        &mut &input[..],
+        &mut output,
+    );
     (ended, String::from_utf8(output).unwrap())
 }
 

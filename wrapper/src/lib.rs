@@ -32,7 +32,7 @@ pub enum Side {
     Reader,
 }
 
-/// The buffers lent to a sending, in the order of their places.
+/// The buffers lent to a sending, in the order of their places. An empty `p3` or `p4` means eight frames of zeros (document 02, S-5).
 pub struct Sending<'a> {
     pub p1: &'a [u8],
     pub pids: &'a [u8],

@@ -3,26 +3,27 @@
 mod common;
 
 use common::{both_start, done, drawn, drawn_number, refused, seed, valid, Call};
-use common::{DELAY, MEMORIES, MODES, P1, PLACES, PX1};
+use common::{DELAY, MEMORIES, MODES, P1, P3, P4, PLACES, PX1};
 use layer1::{Side, State};
 use second::draw::Draw;
 use second::modes::Mode;
 use second::run;
 
-/// Changes a length: one byte more, one less, none at all, or much more.
+/// Changes a length: one byte more, one less, none at all, much more, or one alone.
 fn resized(bytes: &mut Vec<u8>, how: usize) -> bool {
     let length = bytes.len();
     let wanted = match how {
         0 => length + 1,
         1 => length.saturating_sub(1),
         2 => 0,
-        _ => 2 * length + 7,
+        3 => 2 * length + 7,
+        _ => 1,
     };
     bytes.resize(wanted, 0x5A);
     wanted != length
 }
 
-/// Each buffer of each call, alone and with a later one wrong too: the first is named.
+/// Each buffer of each call, alone and with a later one wrong too: the first is named. Of a sending P3 and P4 may be empty (document 02, S-5).
 #[test]
 fn lengths() {
     let mut draw = Draw::new(seed());
@@ -30,12 +31,15 @@ fn lengths() {
         for mode in MODES {
             let right = drawn(&mut draw, call.side(), mode);
             for &(half, age) in valid(mode) {
-                for (place, how) in PLACES.flat_map(|place| (0..4).map(move |how| (place, how))) {
+                for (place, how) in PLACES.flat_map(|place| (0..5).map(move |how| (place, how))) {
                     let mut buffers = right.clone();
                     if !resized(&mut buffers[place], how) {
                         continue;
                     }
-                    if age == 2 && place < DELAY {
+                    let no_data =
+                        call.side() == Side::Sender && how == 2 && (P3..=P4).contains(&place);
+                    let late = age == 2 && place < DELAY;
+                    if late {
                         buffers[DELAY].push(1);
                     }
                     let reserved = drawn_number(&mut draw);
@@ -45,8 +49,19 @@ fn lengths() {
                         age,
                         reserved,
                     };
-                    let expected = (3, place as u32);
-                    assert_eq!(refused(call, state, &mut buffers), expected);
+                    match (no_data, late) {
+                        (true, false) => {
+                            done(call, state, &mut buffers);
+                        }
+                        (true, true) => {
+                            let expected = (3, DELAY as u32);
+                            assert_eq!(refused(call, state, &mut buffers), expected);
+                        }
+                        (false, _) => {
+                            let expected = (3, place as u32);
+                            assert_eq!(refused(call, state, &mut buffers), expected);
+                        }
+                    }
                 }
             }
         }

@@ -2,8 +2,9 @@
 
 mod common;
 
-use common::{both, done, drawn, drawn_number, refused, seed, sent, sent_of, started, valid};
-use common::{Buffers, Call, CONTROL, DELAY, FRAMES, MATRICES, MODES, PLACES, TWO_PATHS};
+use common::{both, done, drawn, drawn_number, drawn_to_send, meant, refused, seed, sent, sent_of};
+use common::{started, valid};
+use common::{Buffers, Call, CONTROL, DELAY, FRAMES, MATRICES, MODES, P3, P4, PLACES, TWO_PATHS};
 use layer1::{Side, State};
 use second::draw::{Damage, Draw};
 use second::modes::Mode;
@@ -32,11 +33,37 @@ fn sent_and_read_back() {
             assert!(reader[DELAY] == buffers[DELAY], "L1 frame {t} of MP{mode}");
             for (place, later) in later(mode).into_iter().enumerate() {
                 let expected = match t.checked_sub(later) {
-                    Some(earlier) => &run[earlier][place],
-                    None => &kept[place],
+                    Some(earlier) => meant(mode, &run[earlier], place),
+                    None => kept[place].clone(),
                 };
                 assert!(
-                    reader[place] == *expected,
+                    reader[place] == expected,
+                    "place {place} of L1 frame {t} in MP{mode}"
+                );
+            }
+        }
+    }
+}
+
+/// Document 02, S-5: a run that is handed nothing for P3 or P4 in some L1 frames, and one that is handed the zeros there: the same in every
+/// other buffer, memories too.
+#[test]
+fn nothing_or_zeros() {
+    for mode in MODES {
+        let mut draw = Draw::new(seed() + 500 + u64::from(mode));
+        let run = sent(&mut draw, mode, 8);
+        let mut full = run.clone();
+        for buffers in &mut full {
+            for place in [P3, P4] {
+                buffers[place] = meant(mode, buffers, place);
+            }
+        }
+        let other = sent_of(&mut draw, mode, &full);
+        for (t, ((one, full), other)) in run.iter().zip(&full).zip(&other).enumerate() {
+            for place in PLACES {
+                let expected = if FRAMES.contains(&place) { full } else { one };
+                assert!(
+                    other[place] == expected[place],
                     "place {place} of L1 frame {t} in MP{mode}"
                 );
             }
@@ -167,7 +194,7 @@ fn from_any_state() {
                 age,
                 reserved: drawn_number(&mut draw),
             };
-            let mut sender = drawn(&mut draw, Side::Sender, mode);
+            let mut sender = drawn_to_send(&mut draw, mode);
             let delay = sender[DELAY].clone();
             done(Call::Send, state, &mut sender);
             let mut reader = drawn(&mut draw, Side::Reader, mode);

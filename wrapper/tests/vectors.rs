@@ -5,6 +5,7 @@ mod common;
 use common::seed;
 use layer1::{Answer, L1Frame, Scales, Side, POINTS};
 use second::draw::Draw;
+use second::modes::Without;
 use second::vector::{self, Mapping};
 
 /// The modes whose vectors are given: the others stay refused, also where they are covered.
@@ -107,7 +108,7 @@ fn sample() {
     let (mode, count) = (arguments.next().unwrap(), arguments.next().unwrap());
     let frames = std::fs::read(format!("{sample}/frames")).unwrap();
     let mut sent = Vec::new();
-    second::commands::send(mode, count, &mut &frames[..], &mut sent).unwrap();
+    second::commands::send(mode, count, Without::default(), &mut &frames[..], &mut sent).unwrap();
     let mode = mode as u8;
     let lengths = matrices(mode);
     for frame in sent.chunks(lengths.iter().sum()) {

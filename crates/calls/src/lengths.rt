@@ -3,10 +3,12 @@ use runs::Extended;
 use runs::Kind;
 use runs::Main;
 ghost use mathlib.Core.Path.{_≡_};
-ghost use Prim.Native.Nat.{_≤_};
+ghost use mathlib.Core.List.{List};
+ghost use Prim.Native.Nat.{ℕ, _≤_};
 ghost use Rattle.runs.specs.Causes.{wrong};
 ghost use Rattle.runs.specs.MainChannels.{delayLen, lastAge, mainOf, p1Len, p2Len, p1′Len};
 ghost use Rattle.runs.specs.Lengths.{frameLen, kindOf, matrixLen, readerLen, senderLen, tableRow};
+ghost use Rattle.runs.specs.Lent.{orZeros};
 ghost use lib.ListN.{length};
 ghost use Rattle.runs.specs.declared.Extended.the-variants.{P3, P4};
 ghost use Rattle.calls.specs.Sizes.{placed, sizes, wanted};
@@ -192,6 +194,16 @@ pub fn reader_lengths(mode: u8) -> [usize; 12]
     let memory3 = reader_len(kind_of(mode, Extended::P3));
     let memory4 = reader_len(kind_of(mode, Extended::P4));
     lengths(mode, memory3, memory4)
+}
+
+// The length of what an input for P3 or P4 means, where this length is wanted (document 02, S-5): nothing means zeros in full.
+pub fn meant_len(have: usize, want: usize) -> usize
+    ensures { λ r. ⌜ ((b : List ℕ) → length b ≡ have → r ≡ length (orZeros want b)) ⌝ }
+{
+    if have == 0 {
+        return want;
+    }
+    have
 }
 
 // The first place at which a length is wrong, or their number.

@@ -14,6 +14,7 @@ pub use lengths::kind_of;
 pub use lengths::last_age;
 pub use lengths::main_of;
 pub use lengths::matrix_len;
+pub use lengths::meant_len;
 pub use lengths::p1_len;
 pub use lengths::reader_lengths;
 pub use lengths::sender_lengths;

@@ -3,19 +3,24 @@ use mathlib.Core.Path.{_≡_}
 use mathlib.Core.Logic.{_⊎_}
 use mathlib.Core.List.{List}
 use Prim.Native.Nat.{ℕ, _+_, _*_, _/_, _%_, _≤_, _<_}
-use lib.ListN.{length}
+use lib.ListN.{length, replicate}
 use Rattle.runs.specs.declared.Kind.{Kind}
 use Rattle.runs.specs.declared.Kind.the-variants.{Unused}
 use Rattle.runs.specs.declared.Main.{Main}
 use Rattle.runs.specs.declared.Main.the-variants.{Plain}
 use Rattle.runs.specs.Lengths.{frameLen, matrixLen, tableRow}
+use Rattle.runs.specs.Lent.{orZeros}
 
--- the eight frames of a channel that a mode uses, room for them scrambled, and for their coded bits
+-- the frames of an extended channel, or nothing for zeros (S-5), and room for them scrambled
+abbrev pub Meant : (frames scrambled : List ℕ) → Type 0
+Meant frames scrambled = length (orZeros (length scrambled) frames) ≡ length scrambled
+
+-- the eight frames of a channel that a mode uses, or nothing; room for them scrambled, and for their coded bits, which are zeros
 pub record Room (kind : Kind) (frames scrambled coded : List ℕ) : Type 0 where
   pub used : tableRow kind < 2
-  pub plain : length frames ≡ frameLen kind
+  pub plain : length (orZeros (frameLen kind) frames) ≡ frameLen kind
   pub between : length scrambled ≡ frameLen kind
-  pub long : length coded ≡ matrixLen kind
+  pub blank : coded ≡ replicate (matrixLen kind) 0
 
 -- eight P1 frames of n bytes, P2, room for both scrambled, and for their coded bits
 pub record Split (n : ℕ) (p1 p2 mixed u : List ℕ) : Type 0 where

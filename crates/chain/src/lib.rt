@@ -6,17 +6,19 @@ use runs::Kind;
 use runs::Main;
 ghost use mathlib.Core.Path.{_≡_};
 ghost use mathlib.Core.List.{List, _++_};
-ghost use Prim.Native.Nat.{ℕ, _+_, _-_, _*_, _<_};
-ghost use lib.ListN.{length, take};
+ghost use Prim.Native.Nat.{ℕ, _+_, _-_, _*_, _/_, _≤_, _<_};
+ghost use lib.ListN.{length, replicate, take};
 ghost use Rattle.bits.specs.Bits.{bitAt, packed};
 ghost use Rattle.scrambling.specs.Scrambler.{scrambledEach};
-ghost use Rattle.coding.specs.declared.Rate.the-variants.{TwoFifths};
+ghost use Rattle.coding.specs.declared.Rate.the-variants.{TwoFifths, Half};
+ghost use Rattle.coding.specs.Buffers.{Buffers};
 ghost use Rattle.coding.specs.Channel.{channel};
 ghost use Rattle.runs.specs.MainChannels.{delayLen, p1Len, p2Len, p1′Len};
 ghost use Rattle.runs.specs.Chain.{memOf, multiplexed, pmOf, pxOf};
 ghost use Rattle.runs.specs.Paths.{oldest, p1′Of, scrambledOf, waiting};
 ghost use Rattle.runs.specs.Lengths.{frameLen, matrixLen, senderLen};
-ghost use Rattle.chain.specs.Rooms.{Room, Split};
+ghost use Rattle.runs.specs.Lent.{orZeros};
+ghost use Rattle.chain.specs.Rooms.{Meant, Room, Split};
 
 // The vector U of MP5 and MP6 (Figure 10-5): eight P1 frames of n bytes, and P2, scrambled into `mixed` and coded.
 fn multiplex(n: usize, p1: &[u8], p2: &[u8], mixed: &mut [u8], u: &mut [u8])
@@ -65,7 +67,30 @@ pub fn write_pm(main: Main, p1: &[u8], p2: &[u8], pids: &[u8], delay: &mut [u8],
     pm::interleave(&coded, &coded16, pm);
 }
 
-// Writes the matrices of an extended channel that the mode uses, upon its memory (section 10.4.2); `scrambled` and `coded` are for the work between.
+// Scrambles the eight frames of an extended channel. Where there are no data, they are frames of zeros (document 02, S-5).
+fn scramble_px(frames: &[u8], zeros: &[u8], scrambled: &mut [u8])
+    requires { ⌜ Meant (now frames) (now scrambled) × (now zeros ≡ replicate (length (now scrambled)) 0) × (8 ≤ length (now scrambled)) ⌝ }
+    ensures { λ _. ⌜ now (scrambled .exit) ≡ packed (length (now (scrambled .entry))) (scrambledEach (8 * (length (now (scrambled .entry)) / 8)) (bitAt (orZeros (length (now (scrambled .entry))) (now (frames .entry))))) ⌝ }
+{
+    let n = scrambled.len() / 8;
+    if frames.len() == 0 {
+        scrambling::scramble_each(n, zeros, scrambled);
+        return;
+    }
+    scrambling::scramble_each(n, frames, scrambled);
+}
+
+// Codes the eight frames of an extended channel. `coded` comes in as zeros: they stand in for frames without data until it is written, which saves a buffer.
+fn encode_px(frames: &[u8], scrambled: &mut [u8], coded: &mut [u8])
+    requires { ⌜ Buffers Half (length (now scrambled) / 8) 8 (orZeros (length (now scrambled)) (now frames)) (now coded) × Meant (now frames) (now scrambled) × (now coded ≡ replicate (length (now coded)) 0) ⌝ }
+    ensures { λ _. ⌜ now (coded .exit) ≡ packed (length (now (coded .entry))) (channel Half (8 * (length (now (scrambled .entry)) / 8)) (bitAt (orZeros (length (now (scrambled .entry))) (now (frames .entry))))) ⌝ }
+{
+    let n = scrambled.len();
+    scramble_px(frames, &coded[..n], scrambled);
+    coding::encode(Rate::Half, n / 8, 8, scrambled, coded);
+}
+
+// Writes the matrices of an extended channel that the mode uses, upon its memory (section 10.4.2); `scrambled` and `coded`, zeros, are for the work between.
 fn interleave_px(
     kind: Kind,
     half: u8,
@@ -76,16 +101,16 @@ fn interleave_px(
     memory: &mut [u8],
 )
     requires { ⌜ (half < 2) × Room kind (now frames) (now scrambled) (now coded) × (length (now px) ≡ matrixLen kind) × (length (now memory) ≡ senderLen kind) ⌝ }
-    ensures { λ _. ⌜ (now (px .exit) ≡ pxOf kind half (now (memory .entry)) (now (frames .entry))) × (now (memory .exit) ≡ memOf kind half (now (memory .entry)) (now (frames .entry))) ⌝ }
+    ensures { λ _. ⌜ (now (px .exit) ≡ pxOf kind half (now (memory .entry)) (orZeros (frameLen kind) (now (frames .entry)))) × (now (memory .exit) ≡ memOf kind half (now (memory .entry)) (orZeros (frameLen kind) (now (frames .entry)))) ⌝ }
 {
-    coding::encode_channel(Rate::Half, frames.len() / 8, 8, frames, scrambled, coded);
+    encode_px(frames, scrambled, coded);
     px::pass(table_row(kind), half as usize, coded, memory, px);
 }
 
-// Writes the matrices of an extended channel, if the mode uses it.
+// Writes the matrices of an extended channel, if the mode uses it; nothing stands for eight frames of zeros (document 02, S-5).
 pub fn write_px(kind: Kind, half: u8, frames: &[u8], px: &mut [u8], memory: &mut [u8])
-    requires { ⌜ (half < 2) × (length (now frames) ≡ frameLen kind) × (length (now px) ≡ matrixLen kind) × (length (now memory) ≡ senderLen kind) ⌝ }
-    ensures { λ _. ⌜ (now (px .exit) ≡ pxOf kind half (now (memory .entry)) (now (frames .entry))) × (now (memory .exit) ≡ memOf kind half (now (memory .entry)) (now (frames .entry))) ⌝ }
+    requires { ⌜ (half < 2) × (length (orZeros (frameLen kind) (now frames)) ≡ frameLen kind) × (length (now px) ≡ matrixLen kind) × (length (now memory) ≡ senderLen kind) ⌝ }
+    ensures { λ _. ⌜ (now (px .exit) ≡ pxOf kind half (now (memory .entry)) (orZeros (frameLen kind) (now (frames .entry)))) × (now (memory .exit) ≡ memOf kind half (now (memory .entry)) (orZeros (frameLen kind) (now (frames .entry)))) ⌝ }
 {
     match kind {
         Kind::Unused => {}
@@ -112,9 +137,9 @@ pub fn write_px2(
     px2: &mut [u8],
     memory: &mut [u8],
 )
-    requires { ⌜ (half < 2) × (length (now p4) ≡ frameLen kind) × (length (now delay) ≡ delayLen main) × (length (now px2) ≡ matrixLen kind + p1′Len main) × (length (now memory) ≡ senderLen kind) ⌝ }
-    ensures { λ _. ⌜ ((s : List ℕ) → now (px2 .exit) ≡ pxOf kind half (now (memory .entry)) (now (p4 .entry)) ++ p1′Of main (oldest main (now (delay .entry)) s)) ⌝ }
-    ensures { λ _. ⌜ now (memory .exit) ≡ memOf kind half (now (memory .entry)) (now (p4 .entry)) ⌝ }
+    requires { ⌜ (half < 2) × (length (orZeros (frameLen kind) (now p4)) ≡ frameLen kind) × (length (now delay) ≡ delayLen main) × (length (now px2) ≡ matrixLen kind + p1′Len main) × (length (now memory) ≡ senderLen kind) ⌝ }
+    ensures { λ _. ⌜ ((s : List ℕ) → now (px2 .exit) ≡ pxOf kind half (now (memory .entry)) (orZeros (frameLen kind) (now (p4 .entry))) ++ p1′Of main (oldest main (now (delay .entry)) s)) ⌝ }
+    ensures { λ _. ⌜ now (memory .exit) ≡ memOf kind half (now (memory .entry)) (orZeros (frameLen kind) (now (p4 .entry))) ⌝ }
 {
     let k = matrix_len(kind);
     write_px(kind, half, p4, &mut px2[..k], memory);

@@ -25,7 +25,7 @@ use Rattle.runs.specs.declared.Main.the-variants.{Plain, Mp5, Mp6}
 use Rattle.runs.specs.MainChannels.{mainOf, p1Frames, p1′Len}
 use Rattle.runs.specs.Chain.{pidsBad}
 use Rattle.runs.specs.Lengths.{kindOf, matrixLen, pmLen, readerLen, senderLen}
-use Rattle.runs.specs.Lent.{Lent, Matrices, Memory, Signal}
+use Rattle.runs.specs.Lent.{Lent, Matrices, Memory, Signal, meant}
 use Rattle.runs.specs.Judged.{countedFirst, fillPlace, framePlace, mainPlace}
 use Rattle.runs.specs.Reading.{pushed, readAnswer, readStep, received}
 use Rattle.runs.specs.Sending.{lentSizes, sendAnswer, sendStep, sent}
@@ -162,7 +162,7 @@ send-place s m l =
     either (λ g. placeOf (g .answer)) _ (sent s m l) _ (omega arith)
     (judged (and (small-when (not (valid s)) StateNotValid refl)
     (and (small-when (not (ltb (l .frames .reserved) 8)) ReservedTooHigh refl)
-    (and (small-lengths (lentSizes (s .mode) l ++ memorySizes senderLen (s .mode) m) (omega arith)) end))))
+    (and (small-lengths (lentSizes (s .mode) (meant (s .mode) l) ++ memorySizes senderLen (s .mode) m) (omega arith)) end))))
 
 pub read-place : (s : State) (m : Memory) (l : Lent) → placeOf (readStep s m l .answer) < 2 ^ 24
 unfolding readStep readAnswer received lentSizes memorySizes

@@ -15,13 +15,12 @@ use Rattle.runs.specs.MainChannels.{mainOf, p1Len, p2Len, p1′Len}
 use Rattle.runs.specs.Lengths.{kindOf, frameLen, matrixLen, pidsLen, pmLen, px2Len, controlLen}
 use Rattle.runs.specs.declared.State.{State}
 use Rattle.runs.specs.Lent.{Frames, Memory, Signal}
-use Rattle.runs.specs.Sending.{sendStep}
 use Rattle.runs.specs.Reading.{readStep}
 use Rattle.calls.specs.declared.states.Outcome.{Outcome}
 use Rattle.calls.specs.declared.states.ReadOutcome.{ReadOutcome}
 use Rattle.calls.specs.Called.{frames, gave, readGave, signal}
 use Rattle.calls.specs.Sizes.{wanted}
-use Rattle.programs.specs.Inputs.{cut, framesIn, handed, signalIn}
+use Rattle.programs.specs.Inputs.{cut, framesIn, handed, inputStep, signalIn}
 
 -- a buffer of n bytes that should start at s starts at a and ends at b, where the input allows
 module _ (input : List ℕ) (s n a b : ℕ) (start : a ≡ min s (length input)) (end : b ≡ a + min n (length input - a)) where
@@ -70,21 +69,17 @@ module _ (mode m3 m4 : ℕ) (input want : List ℕ) (lengths : want ≡ wanted m
   entry-is : (k : ℕ) → entry k ≡ getD (wanted mode m3 m4) k 0
   entry-is k = ap (λ (l : List ℕ). getD l k 0) lengths
 
-  pub frames-are : (reserved z a b c d e : ℕ) → reserved ≡ getD input 0 0 → z ≡ 0 + min 1 (length input - 0) → a ≡ z + min (entry 0) (length input - z) → b ≡ a + min (entry 1) (length input - a)
-      → c ≡ b + min (entry 2) (length input - b) → d ≡ c + min (entry 3) (length input - c) → e ≡ d + min (entry 4) (length input - d)
+  pub frames-are : (n3 n4 reserved z a b c d e : ℕ) → reserved ≡ getD input 0 0 → z ≡ 0 + min 1 (length input - 0) → a ≡ z + min (entry 0) (length input - z) → b ≡ a + min (entry 1) (length input - a)
+      → c ≡ b + min (entry 2) (length input - b) → d ≡ c + min n3 (length input - c) → e ≡ d + min n4 (length input - d)
       → frames reserved (take (a - z) (drop z input)) (take (b - a) (drop a input)) (take (c - b) (drop b input)) (take (d - c) (drop c input)) (take (e - d) (drop d input))
-      ≡ framesIn mode input
+      ≡ framesIn mode n3 n4 input
   unfolding framesIn
-  frames-are reserved z a b c d e er ez ea eb ec ed ee =
+  frames-are n3 n4 reserved z a b c d e er ez ea eb ec fd fe =
       let n0 : ℕ = p1Len (mainOf mode) in
       let n2 : ℕ = p2Len (mainOf mode) in
-      let n3 : ℕ = frameLen (kindOf mode P3) in
-      let n4 : ℕ = frameLen (kindOf mode P4) in
       let fa : a ≡ z + min n0 (length input - z) = ea ∙ ap (λ (k : ℕ). z + min k (length input - z)) (entry-is 0) in
       let fb : b ≡ a + min pidsLen (length input - a) = eb ∙ ap (λ (k : ℕ). a + min k (length input - a)) (entry-is 1) in
       let fc : c ≡ b + min n2 (length input - b) = ec ∙ ap (λ (k : ℕ). b + min k (length input - b)) (entry-is 2) in
-      let fd : d ≡ c + min n3 (length input - c) = ed ∙ ap (λ (k : ℕ). c + min k (length input - c)) (entry-is 3) in
-      let fe : e ≡ d + min n4 (length input - d) = ee ∙ ap (λ (k : ℕ). d + min k (length input - d)) (entry-is 4) in
       let sz = first-end input 1 z ez in
       let sa = next-start input 1 n0 z a sz fa in
       let sb = next-start input (1 + n0) pidsLen a b sa fb in
@@ -158,9 +153,9 @@ lengths-small mode m3 m4 want e =
 
 -- ---- a call on these buffers
 
-module _ (o : Outcome) (m m₀ : Memory) (s : State) where
-  pub sent-in : (f g : Frames) (x y : Signal) → f ≡ g → gave o m (handed f x) ≡ sendStep s m₀ (handed f y) → gave o m (handed g x) ≡ sendStep s m₀ (handed g y)
-  sent-in f g x y e h = subst (λ (f : Frames). gave o m (handed f x) ≡ sendStep s m₀ (handed f y)) e h
+module _ (n3 n4 : ℕ) (o : Outcome) (m m₀ : Memory) (s : State) where
+  pub sent-in : (f g : Frames) (x y : Signal) → f ≡ g → gave o m (handed f x) ≡ inputStep n3 n4 s m₀ (handed f y) → gave o m (handed g x) ≡ inputStep n3 n4 s m₀ (handed g y)
+  sent-in f g x y e h = subst (λ (f : Frames). gave o m (handed f x) ≡ inputStep n3 n4 s m₀ (handed f y)) e h
 
 module _ (o : ReadOutcome) (m m₀ : Memory) (s : State) where
   pub read-in : (x y : Signal) (f g : Frames) → x ≡ y → readGave o m (handed f x) ≡ readStep s m₀ (handed g x) → readGave o m (handed f y) ≡ readStep s m₀ (handed g y)

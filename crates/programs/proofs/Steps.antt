@@ -10,11 +10,11 @@ use Rattle.runs.specs.declared.State.{State}
 use Rattle.runs.specs.Answers.{numberOf}
 use Rattle.runs.specs.Lengths.{senderLen}
 use Rattle.runs.specs.Lent.{Memory, Result, Signal}
-use Rattle.runs.specs.Sending.{sendStep}
 use Rattle.runs.specs.Starting.{Started, start}
 use Rattle.calls.specs.declared.states.Outcome.{Outcome}
 use Rattle.calls.specs.Called.{gave, startGave}
 use Rattle.programs.specs.declared.Step.{Step}
+use Rattle.programs.specs.Inputs.{inputStep}
 use Rattle.programs.specs.Steps.{SentStep, StartedStep, inputLent, stepAfter}
 
 -- the step that goes on as the test says
@@ -27,9 +27,9 @@ pub started-step : (mode : ℕ) (before after : Memory) (o : Outcome) (r : Step)
 started-step mode before after o r e h =
     record { step = h ∙ ap (λ (g : Started). stepAfter (g .answer) (g .state)) e; memory = ap (λ (g : Started). g .memory) e }
 
-pub sent-step : (s : State) (before after : Memory) (x y : Signal) (input : List ℕ) (n : ℕ) (o : Outcome) (r : Step) → n ≤ length input
-    → gave o after (inputLent s n input y) ≡ sendStep s before (inputLent s n input x) → r ≡ stepAfter (o .answer) (o .state) → SentStep s before x input r after y
-sent-step s before after x y input n o r w e h =
+pub sent-step : (n3 n4 : ℕ) (s : State) (before after : Memory) (x y : Signal) (input : List ℕ) (n : ℕ) (o : Outcome) (r : Step) → n ≤ length input
+    → gave o after (inputLent s n3 n4 n input y) ≡ inputStep n3 n4 s before (inputLent s n3 n4 n input x) → r ≡ stepAfter (o .answer) (o .state) → SentStep n3 n4 s before x input r after y
+sent-step n3 n4 s before after x y input n o r w e h =
     record {
       n = n;
       within = w;

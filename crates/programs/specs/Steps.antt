@@ -9,10 +9,9 @@ use Rattle.runs.specs.declared.State.{State}
 use Rattle.runs.specs.Answers.{numberOf}
 use Rattle.runs.specs.Lengths.{senderLen}
 use Rattle.runs.specs.Lent.{Lent, Memory, Result, Signal}
-use Rattle.runs.specs.Sending.{sendStep}
 use Rattle.runs.specs.Starting.{Started, start}
 use Rattle.programs.specs.declared.Step.{Step}
-use Rattle.programs.specs.Inputs.{framesIn, handed}
+use Rattle.programs.specs.Inputs.{framesIn, handed, inputStep}
 
 -- a refusal ends the run
 unfoldable pub stepAfter : Answer → State → Step
@@ -24,14 +23,14 @@ pub record StartedStep (mode : ℕ) (before : Memory) (r : Step) (after : Memory
   pub memory : after ≡ start senderLen mode before .memory
 
 -- what is lent for the sending of the frames in the first n bytes of the input buffer
-abbrev pub inputLent : State → (n : ℕ) → List ℕ → Signal → Lent
-inputLent s n input x = handed (framesIn (s .mode) (take n input)) x
+abbrev pub inputLent : State → (n3 n4 n : ℕ) → List ℕ → Signal → Lent
+inputLent s n3 n4 n input x = handed (framesIn (s .mode) n3 n4 (take n input)) x
 
 -- A sending of what came in. What the system puts into the input buffer no contract knows, nor how much of it: it is what stands in its first n bytes afterwards.
 -- All else follows from these: the step, the memory and the buffers of the signal are those of a sending.
-pub record SentStep (s : State) (before : Memory) (x : Signal) (input : List ℕ) (r : Step) (after : Memory) (y : Signal) : Type 0 where
+pub record SentStep (n3 n4 : ℕ) (s : State) (before : Memory) (x : Signal) (input : List ℕ) (r : Step) (after : Memory) (y : Signal) : Type 0 where
   pub n : ℕ
   pub within : n ≤ length input
-  pub step : r ≡ stepAfter (sendStep s before (inputLent s n input x) .answer) (sendStep s before (inputLent s n input x) .state)
-  pub memory : after ≡ sendStep s before (inputLent s n input x) .memory
-  pub lent : inputLent s n input y ≡ sendStep s before (inputLent s n input x) .lent
+  pub step : r ≡ stepAfter (inputStep n3 n4 s before (inputLent s n3 n4 n input x) .answer) (inputStep n3 n4 s before (inputLent s n3 n4 n input x) .state)
+  pub memory : after ≡ inputStep n3 n4 s before (inputLent s n3 n4 n input x) .memory
+  pub lent : inputLent s n3 n4 n input y ≡ inputStep n3 n4 s before (inputLent s n3 n4 n input x) .lent

@@ -34,10 +34,12 @@ pub fn start_sending(mode: u8, memory3: &mut [u8], memory4: &mut [u8], delay: &m
     step_after(answer, state, 0)
 }
 
-// Reads the number and the transfer frames of L1 frame `frame` into `input`, a buffer of their length, and sends them. An input that ends early lends a buffer that is too short, which `send` refuses.
+// Reads the number and the transfer frames of L1 frame `frame`, with these many bytes of P3 and P4, into `input`, a buffer of their length, and sends them. An input that ends early is refused.
 pub fn send_next(
     state: State,
     frame: u64,
+    n3: usize,
+    n4: usize,
     input: &mut [u8],
     pm: &mut [u8],
     px1: &mut [u8],
@@ -47,12 +49,14 @@ pub fn send_next(
     memory4: &mut [u8],
     delay: &mut [u8],
 ) -> Step
-    ensures { λ r. ⌜ SentStep state (memory (now (memory3 .entry)) (now (memory4 .entry)) (now (delay .entry))) (signal (now (pm .entry)) (now (px1 .entry)) (now (px2 .entry)) (now (control .entry))) (now (input .exit))
+    ensures { λ r. ⌜ SentStep n3 n4 state (memory (now (memory3 .entry)) (now (memory4 .entry)) (now (delay .entry))) (signal (now (pm .entry)) (now (px1 .entry)) (now (px2 .entry)) (now (control .entry))) (now (input .exit))
         r (memory (now (memory3 .exit)) (now (memory4 .exit)) (now (delay .exit))) (signal (now (pm .exit)) (now (px1 .exit)) (now (px2 .exit)) (now (control .exit))) ⌝ }
 {
     let n = io::read_full(STDIN_FILENO, input);
     let sent = send_input(
         state,
+        n3,
+        n4,
         &input[..n],
         pm,
         px1,

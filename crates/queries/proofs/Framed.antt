@@ -25,7 +25,7 @@ use Rattle.runs.specs.declared.State.{State}
 use Rattle.runs.specs.Lengths.{readerLen, senderLen}
 use Rattle.runs.specs.Answers.{numberOf, onSuccess}
 use Rattle.runs.specs.Causes.{at, judge, when, wrong}
-use Rattle.runs.specs.Lent.{Lent, Memory, Result, signalOf}
+use Rattle.runs.specs.Lent.{Lent, Memory, Result, filled, meant, signalOf}
 use Rattle.runs.specs.Starting.{memorySizes, valid}
 use Rattle.runs.specs.Sending.{lentSizes, refused, sendAnswer, sendStep, sent}
 use Rattle.runs.specs.Reading.{readAnswer, readStep, received, unnumbered}
@@ -103,12 +103,12 @@ clear-to-4 false o p rest h = absurd (h .0 refl)
 module _ (s : State) (m : Memory) (l : Lent) where
   send-clear : numberOf (sendAnswer s m l) ≡ 0 → (covered (s .mode) ≡ true) × (l .frames .reserved < 8)
   unfolding sendAnswer firstCause
-  send-clear e = let c = clear s (l .frames .reserved) (wrong 0 (lentSizes (s .mode) l ++ memorySizes senderLen (s .mode) m)) e in (valid-says s (c .0) .0, c .1)
+  send-clear e = let c = clear s (l .frames .reserved) (wrong 0 (lentSizes (s .mode) (meant (s .mode) l) ++ memorySizes senderLen (s .mode) m)) e in (valid-says s (c .0) .0, c .1)
 
   -- The control of every sending is accepted, with the mode and the number that were sent.
   pub accepts-sent : numberOf (sendStep s m l .answer) ≡ 0
       → lookupFrameOf (sendStep s m l .lent .signal .control) ≡ Found (s .mode) (l .frames .reserved)
-  unfolding sendStep sent signalOf
+  unfolding sendStep sent signalOf filled
   accepts-sent e =
       let d = done-is (sendAnswer s m l) (sent s m l) (refused s m l (sendAnswer s m l)) refl e in
       let c = send-clear (ap numberOf (d .0)) in

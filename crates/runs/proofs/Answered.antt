@@ -1,5 +1,5 @@
 -- A call either succeeds or is refused. Assumes nothing.
-use mathlib.Core.Path.{_≡_, refl, ap, _∙_}
+use mathlib.Core.Path.{_≡_, refl, sym, ap, _∙_}
 use mathlib.Core.Logic.{_⊎_, inl, inr, _≢_}
 use native.Mathlib.Omega.{arith}
 use Rattle.runs.specs.declared.Answer.{Answer}
@@ -30,6 +30,23 @@ either WrongBudget = inr (λ x y. refl)
 on-done : (done refused : Result) → onSuccess Success done refused ≡ done
 unfolding onSuccess
 on-done done refused = refl
+
+-- what holds of both outcomes holds of the one that comes, and what is made of each is made of it
+pub on-both : (P : Result → Type 0) (a : Answer) (done refused : Result) → P done → P refused → P (onSuccess a done refused)
+unfolding onSuccess
+on-both P a done refused p q = go (either a)
+  where
+    go : (a ≡ Success) ⊎ ((x y : Result) → onSuccess a x y ≡ y) → P (onSuccess a done refused)
+    go (inl e) = rw e p
+    go (inr f) = rw (f done refused) q
+
+pub on-each : (g : Result → Result) (a : Answer) (done refused : Result) → g (onSuccess a done refused) ≡ onSuccess a (g done) (g refused)
+unfolding onSuccess
+on-each g a done refused = go (either a)
+  where
+    go : (a ≡ Success) ⊎ ((x y : Result) → onSuccess a x y ≡ y) → g (onSuccess a done refused) ≡ onSuccess a (g done) (g refused)
+    go (inl e) = rw e
+    go (inr f) = ap g (f done refused) ∙ sym (f (g done) (g refused))
 
 -- a call whose number is not 0 was refused
 pub refused-is : (a : Answer) (done refused : Result) → numberOf (done .answer) ≡ 0 → numberOf (onSuccess a done refused .answer) ≢ 0

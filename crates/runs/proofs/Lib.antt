@@ -13,6 +13,7 @@ pub mod Passing
 pub mod Beside
 pub mod States
 pub mod Succeeds
+pub mod Filled
 pub mod Sender
 pub mod Fixed
 pub mod Shown
@@ -22,6 +23,7 @@ pub mod Reader
 pub mod ReaderRun
 pub mod Readable
 pub mod Sendable
+pub mod NoData
 pub mod Whole
 pub mod Probes
 pub mod ProbesTwoPaths

@@ -10,6 +10,10 @@ pub length-map {ℓ κ} : {A : Type ℓ} {B : Type κ} (f : A → B) (l : List A
 length-map f [] = refl
 length-map f (x ∷ xs) = ap suc (length-map f xs)
 
+pub map-map : {A B C : Type 0} (g : B → C) (f : A → B) (l : List A) → map g (map f l) ≡ map (λ (x : A). g (f x)) l
+map-map g f [] = refl
+map-map {A} {B} {C} g f (x ∷ xs) = ap (λ (r : List C). g (f x) ∷ r) (map-map g f xs)
+
 pub table-shift {ℓ} : {A : Type ℓ} (t n : ℕ) (f : ℕ → A) → table (suc t) n f ≡ table t n (λ k. f (suc k))
 unfolding table
 table-shift t zero f = refl

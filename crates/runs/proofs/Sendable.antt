@@ -10,11 +10,12 @@ use Rattle.control.specs.Modes.{covered}
 use Rattle.runs.specs.declared.State.{State}
 use Rattle.runs.specs.declared.Extended.the-variants.{P3, P4}
 use Rattle.runs.specs.Lengths.{kindOf, matrixLen, senderLen, pmLen, px2Len, controlLen}
-use Rattle.runs.specs.Lent.{Frames, Lent, Memory, Result, ByteFrames, memoryNext}
+use Rattle.runs.specs.Lent.{Frames, Lent, Memory, Result, ByteFrames, filled, memoryNext}
 use Rattle.runs.specs.Causes.{wrong}
-use Rattle.runs.specs.Starting.{Started, stateAt, memorySizes, zeros}
+use Rattle.runs.specs.Starting.{Started, next, stateAt, memorySizes, zeros}
 use Rattle.runs.specs.Sending.{lentSizes, sendStep, sent}
 use Rattle.runs.specs.Runs.{calls, succeeded, Every, Fitting, SenderRun, sendings, framesSent}
+use Rattle.runs.proofs.Filled.{filled-right}
 use Rattle.runs.proofs.Passing.{wrong-append, wrong-cons, wrong-nil}
 use Rattle.runs.proofs.States.{fresh-at, next-at, start-ok, valid-at}
 use Rattle.runs.proofs.Succeeds.{send-succeeds}
@@ -53,20 +54,22 @@ send-sends : (mode : ℕ) → covered mode ≡ true → (z : ℕ) → z < 8 → 
 unfolding memorySizes lending
 send-sends mode cov z hz T m f mr fr =
     send-succeeds (stateAt mode z T) m (lending mode f) (valid-at mode cov z hz T) (fr .reserved-right)
-    (wrong-append 0 _ _ (lending-fits mode f fr) (λ j. wrong-cons _ _ _ _ (mr .extended P3) (wrong-cons _ _ _ _ (mr .extended P4) (wrong-cons _ _ _ _ (mr .delay) (wrong-nil _)))))
+    (rw (filled-right mode f fr)
+    (wrong-append 0 _ _ (lending-fits mode f fr) (λ j. wrong-cons _ _ _ _ (mr .extended P3) (wrong-cons _ _ _ _ (mr .extended P4) (wrong-cons _ _ _ _ (mr .delay) (wrong-nil _))))))
 
 -- the frames of the calls that succeeded, where the first gave r
 sentAfter : ℕ → Frames → List Frames → Result → List Frames
 sentAfter mode f fs r =
-    framesIn (succeeded (record { lent = lending mode f; result = r } ∷ calls sendStep (r .state) (r .memory) (map (lending mode) fs)))
+    framesIn mode (succeeded (record { lent = lending mode f; result = r } ∷ calls sendStep (r .state) (r .memory) (map (lending mode) fs)))
 
 send-each : (mode : ℕ) → covered mode ≡ true → (fs : List Frames) → Every (Fitting mode) fs → (z : ℕ) → z < 8 → (T : ℕ) (m : Memory) → MemoryRight senderLen mode m
-    → framesIn (succeeded (calls sendStep (stateAt mode z T) m (map (lending mode) fs))) ≡ fs
+    → framesIn mode (succeeded (calls sendStep (stateAt mode z T) m (map (lending mode) fs))) ≡ fs
 unfolding calls succeeded sent sentAfter lending
 send-each mode cov [] each z hz T m mr = refl
 send-each mode cov (f ∷ fs) each z hz T m mr =
     ap (sentAfter mode f fs) (send-sends mode cov z hz T m f mr (each .0))
-    ∙ ap (λ (r : State). f ∷ framesIn (succeeded (calls sendStep r (memoryNext mode (T % 2) m f) (map (lending mode) fs)))) (next-at mode z (f .reserved) T)
+    ∙ ap (λ (g : Frames). g ∷ framesIn mode (succeeded (calls sendStep (next (f .reserved) (stateAt mode z T)) (memoryNext mode (T % 2) m g) (map (lending mode) fs)))) (filled-right mode f (each .0))
+    ∙ ap (λ (r : State). f ∷ framesIn mode (succeeded (calls sendStep r (memoryNext mode (T % 2) m f) (map (lending mode) fs)))) (next-at mode z (f .reserved) T)
     ∙ ap (λ (l : List Frames). f ∷ l)
     (send-each mode cov fs (each .1) (f .reserved) (each .0 .reserved-right) (suc T) (memoryNext mode (T % 2) m f) (memory-right mode cov T m f mr (each .0)))
 
@@ -80,7 +83,7 @@ unfolding framesSent sendings
 can-send mode cov fs each =
     let go = start-clear senderLen mode cov in (
       record { upon = zeros senderLen mode; started = go; lents = map (lending mode) fs; bytes = all-bytes mode fs each },
-      ap (λ (s : Started). framesIn (succeeded (calls sendStep (s .state) (s .memory) (map (lending mode) fs)))) (start-ok senderLen mode (zeros senderLen mode) go .1)
-          ∙ ap (λ (s : State). framesIn (succeeded (calls sendStep s (zeros senderLen mode) (map (lending mode) fs)))) (sym (fresh-at mode))
+      ap (λ (s : Started). framesIn mode (succeeded (calls sendStep (s .state) (s .memory) (map (lending mode) fs)))) (start-ok senderLen mode (zeros senderLen mode) go .1)
+          ∙ ap (λ (s : State). framesIn mode (succeeded (calls sendStep s (zeros senderLen mode) (map (lending mode) fs)))) (sym (fresh-at mode))
           ∙ send-each mode cov fs each 0 (omega arith) 0 (zeros senderLen mode) (zeros-right senderLen mode),
     )

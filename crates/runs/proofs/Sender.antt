@@ -18,7 +18,7 @@ use Rattle.runs.specs.declared.Extended.the-variants.{P3, P4}
 use Rattle.runs.specs.declared.Kind.{Kind}
 use Rattle.runs.specs.MainChannels.{mainOf, delayLen}
 use Rattle.runs.specs.Lengths.{kindOf, senderLen}
-use Rattle.runs.specs.Lent.{Frames, Signal, Lent, Memory, Result, memoryOf, ByteFrames, signalOf, memoryNext}
+use Rattle.runs.specs.Lent.{Frames, Signal, Lent, Memory, Result, memoryOf, ByteFrames, filled, meant, signalOf, memoryNext}
 use Rattle.runs.specs.Answers.{numberOf, onSuccess}
 use Rattle.runs.specs.Causes.{Size, at, judge, when, wrong}
 use Rattle.runs.specs.Starting.{fresh, stateAt, memorySizes, zeros}
@@ -28,6 +28,7 @@ use Rattle.runs.specs.Defined.{defined, table}
 use Rattle.runs.proofs.PX.{memory-length}
 use Rattle.runs.proofs.PM.{scrambled-length}
 use Rattle.runs.proofs.Delay.{waiting-length}
+use Rattle.runs.proofs.Filled.{filled-bytes}
 use Rattle.runs.proofs.Lists.{length-map, table-at, table-shift}
 use Rattle.runs.proofs.Passing.{wrong-head}
 use Rattle.runs.proofs.States.{defined-shift, defined-start, definedFrom, fresh-at, memoryFrom, next-at, start-ok, valid-at}
@@ -50,8 +51,8 @@ pub zeros-right : (len : Kind → ℕ) (mode : ℕ) → MemoryRight len mode (ze
 zeros-right len mode =
     record { extended = λ x. elim x [ P3 ↦ length-replicate _ 0 | P4 ↦ length-replicate _ 0 ]; delay = length-replicate _ 0 }
 
-abbrev pub framesIn : List Call → List Frames
-framesIn ss = map (λ (c : Call). c .lent .frames) ss
+abbrev pub framesIn : ℕ → List Call → List Frames
+framesIn mode ss = map (λ (c : Call). filled mode (c .lent .frames)) ss
 
 abbrev signalsIn : List Call → List Signal
 signalsIn ss = map (λ (c : Call). c .result .lent .signal) ss
@@ -60,15 +61,15 @@ abbrev pub statesIn : List Call → List State
 statesIn ss = map (λ (c : Call). c .result .state) ss
 
 record Ran (mode T : ℕ) (m : Memory) (ss : List Call) : Type 0 where
-  signals : signalsIn ss ≡ table 0 (length ss) (definedFrom mode T m (λ t. getD (framesIn ss) t noFrames))
-  rights : (t : ℕ) → t < length ss → Fitting mode (getD (framesIn ss) t noFrames)
-  states : (t : ℕ) → t < length ss → getD (statesIn ss) t (fresh mode) ≡ stateAt mode (getD (framesIn ss) t noFrames .reserved) (suc (T + t))
+  signals : signalsIn ss ≡ table 0 (length ss) (definedFrom mode T m (λ t. getD (framesIn mode ss) t noFrames))
+  rights : (t : ℕ) → t < length ss → Fitting mode (getD (framesIn mode ss) t noFrames)
+  states : (t : ℕ) → t < length ss → getD (statesIn ss) t (fresh mode) ≡ stateAt mode (getD (framesIn mode ss) t noFrames .reserved) (suc (T + t))
 
 -- one more call that succeeded, in front
-ran-cons : (mode z T : ℕ) (m : Memory) (l : Lent) (ss : List Call) → Fitting mode (l .frames)
-    → Ran mode (suc T) (memoryNext mode (T % 2) m (l .frames)) ss
+ran-cons : (mode z T : ℕ) (m : Memory) (l : Lent) (ss : List Call) → Fitting mode (filled mode (l .frames))
+    → Ran mode (suc T) (memoryNext mode (T % 2) m (filled mode (l .frames))) ss
     → Ran mode T m (record { lent = l; result = sent (stateAt mode z T) m l } ∷ ss)
-unfolding table sent definedFrom memoryFrom
+unfolding table sent definedFrom memoryFrom filled
 ran-cons mode z T m l ss right ih =
     record {
       signals = ap₂ (λ (x : Signal) (xs : List Signal). x ∷ xs) here (ih .signals ∙ rest);
@@ -80,12 +81,12 @@ ran-cons mode z T m l ss right ih =
     }
   where
     F : ℕ → Frames
-    F t = getD (l .frames ∷ framesIn ss) t noFrames
+    F t = getD (filled mode (l .frames) ∷ framesIn mode ss) t noFrames
 
-    here : signalOf mode (T % 2) m (l .frames) ≡ definedFrom mode T m F 0
-    here = ap (λ (k : ℕ). signalOf mode (k % 2) m (l .frames)) (sym (add-zero T))
+    here : signalOf mode (T % 2) m (filled mode (l .frames)) ≡ definedFrom mode T m F 0
+    here = ap (λ (k : ℕ). signalOf mode (k % 2) m (filled mode (l .frames))) (sym (add-zero T))
 
-    rest : table 0 (length ss) (definedFrom mode (suc T) (memoryNext mode (T % 2) m (l .frames)) (λ k. F (suc k)))
+    rest : table 0 (length ss) (definedFrom mode (suc T) (memoryNext mode (T % 2) m (filled mode (l .frames))) (λ k. F (suc k)))
         ≡ table 1 (length ss) (definedFrom mode T m F)
     rest = ap (table 0 (length ss)) (fun-ext (λ t. sym (defined-shift mode T m F t))) ∙ sym (table-shift 0 (length ss) (definedFrom mode T m F))
 
@@ -105,13 +106,13 @@ memory-right mode cov t m f mr fr =
 send-cases : (mode : ℕ) → covered mode ≡ true → (z : ℕ) → z < 8 → (T : ℕ) (m : Memory) (l : Lent) → ByteFrames (l .frames) → (A : Result → Type 0)
     → A (refused (stateAt mode z T) m l ReservedTooHigh)
     → ((k : ℕ) → A (refused (stateAt mode z T) m l (WrongLength k)))
-    → (Fitting mode (l .frames) → A (sent (stateAt mode z T) m l))
+    → (Fitting mode (filled mode (l .frames)) → A (sent (stateAt mode z T) m l))
     → A (sendStep (stateAt mode z T) m l)
-unfolding sendStep sendAnswer judge onSuccess
+unfolding sendStep sendAnswer judge onSuccess filled
 send-cases mode cov z hz T m l bytes A high bad good = rw (valid-at mode cov z hz T) (go (ltb (l .frames .reserved) 8) refl (wrong 0 sizes) refl)
   where
     sizes : List Size
-    sizes = lentSizes mode l ++ memorySizes senderLen mode m
+    sizes = lentSizes mode (meant mode l) ++ memorySizes senderLen mode m
 
     gives : Answer → Result
     gives a = onSuccess a (sent (stateAt mode z T) m l) (refused (stateAt mode z T) m l a)
@@ -119,12 +120,12 @@ send-cases mode cov z hz T m l bytes A high bad good = rw (valid-at mode cov z h
     go : (b : Bool) → ltb (l .frames .reserved) 8 ≡ b → (o : Option ℕ) → wrong 0 sizes ≡ o
         → A (gives (judge (none ∷ when (not b) ReservedTooHigh ∷ at WrongLength o ∷ [])))
     go false low o e = high
-    go true low none e = good (lent-right mode l _ (ltb-true _ 8 low) bytes e)
+    go true low none e = good (lent-right mode (meant mode l) _ (ltb-true _ 8 low) (filled-bytes mode (l .frames) bytes) e)
     go true low (some k) e = bad k
 
 send-run : (mode : ℕ) → covered mode ≡ true → (ls : List Lent) → Every (λ (l : Lent). ByteFrames (l .frames)) ls
     → (z : ℕ) → z < 8 → (T : ℕ) (m : Memory) → MemoryRight senderLen mode m → Ran mode T m (succeeded (calls sendStep (stateAt mode z T) m ls))
-unfolding calls succeeded table sent
+unfolding calls succeeded table sent filled
 send-run mode cov [] s z hz T m right = record { signals = refl; rights = λ t h. absurd (not-suc-le-zero h); states = λ t h. absurd (not-suc-le-zero h) }
 send-run mode cov (l ∷ ls) s z hz T m right =
     send-cases mode cov z hz T m l (s .0)
@@ -134,7 +135,7 @@ send-run mode cov (l ∷ ls) s z hz T m right =
     (send-run mode cov ls (s .1) z hz T m right)
     (λ k. send-run mode cov ls (s .1) z hz T m right)
     (λ fr. ran-cons mode z T m l _ fr
-    (rw (next-at mode z (l .frames .reserved) T) (send-run mode cov ls (s .1) (l .frames .reserved) (fr .reserved-right) (suc T) (memoryNext mode (T % 2) m (l .frames)) (memory-right mode cov T m (l .frames) right fr))))
+    (rw (next-at mode z (l .frames .reserved) T) (send-run mode cov ls (s .1) (l .frames .reserved) (fr .reserved-right) (suc T) (memoryNext mode (T % 2) m (filled mode (l .frames))) (memory-right mode cov T m (filled mode (l .frames)) right fr))))
 
 -- ---- what a sender's run has sent
 
@@ -148,14 +149,14 @@ sent-facts mode a =
 
 count-is : (mode : ℕ) (a : SenderRun mode) → count mode a ≡ length (succeeded (sendings mode a))
 unfolding count framesSent
-count-is mode a = length-map (λ (c : Call). c .lent .frames) (succeeded (sendings mode a))
+count-is mode a = length-map (λ (c : Call). filled mode (c .lent .frames)) (succeeded (sendings mode a))
 
 pub as-defined-is : (mode : ℕ) (a : SenderRun mode)
     → signalsSent mode a ≡ table 0 (count mode a) (defined mode (frameAt mode a))
 unfolding signalsSent frameAt framesSent
 as-defined-is mode a =
     rw (count-is mode a)
-    (sent-facts mode a .signals ∙ ap (table 0 _) (fun-ext (λ t. defined-start mode (λ t. getD (framesIn (succeeded (sendings mode a))) t noFrames) t)))
+    (sent-facts mode a .signals ∙ ap (table 0 _) (fun-ext (λ t. defined-start mode (λ t. getD (framesIn mode (succeeded (sendings mode a))) t noFrames) t)))
 
 pub right-at : (mode : ℕ) (a : SenderRun mode) (t : ℕ) → t < count mode a → Fitting mode (frameAt mode a t)
 unfolding frameAt framesSent

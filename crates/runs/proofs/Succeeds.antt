@@ -18,7 +18,7 @@ use Rattle.runs.specs.Lengths.{senderLen, readerLen}
 use Rattle.runs.specs.Chain.{pidsBad}
 use Rattle.runs.specs.Answers.{onSuccess}
 use Rattle.runs.specs.Causes.{first, judge, wrong}
-use Rattle.runs.specs.Lent.{Lent, Memory, frameOf}
+use Rattle.runs.specs.Lent.{Lent, Memory, frameOf, meant}
 use Rattle.runs.specs.Starting.{memorySizes, start, startAnswer, started, valid}
 use Rattle.runs.specs.Sending.{lentSizes, sendAnswer, sendStep, sent}
 use Rattle.runs.specs.Judged.{mainPlace, fillPlace, framePlace}
@@ -30,9 +30,9 @@ pub start-succeeds : (len : Kind → ℕ) (mode : ℕ) (m : Memory) → covered 
 unfolding start startAnswer judge onSuccess
 start-succeeds len mode m cov lengths = rw (cov, lengths)
 
--- a sending with a valid state, a number up to 7 and the right lengths
+-- a sending with a valid state, a number up to 7 and the right lengths, of what is meant
 pub send-succeeds : (s : State) (m : Memory) (l : Lent) → valid s ≡ true → l .frames .reserved < 8
-    → wrong 0 (lentSizes (s .mode) l ++ memorySizes senderLen (s .mode) m) ≡ none → sendStep s m l ≡ sent s m l
+    → wrong 0 (lentSizes (s .mode) (meant (s .mode) l) ++ memorySizes senderLen (s .mode) m) ≡ none → sendStep s m l ≡ sent s m l
 unfolding sendStep sendAnswer judge onSuccess
 send-succeeds s m l state number lengths = rw (state, lt-ltb (l .frames .reserved) 8 number, lengths)
 

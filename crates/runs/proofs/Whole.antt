@@ -6,11 +6,13 @@ use Rattle.runs.proofs.Sender.{as-defined-is}
 use Rattle.runs.proofs.Fixed.{differ-extended-is, fixed-extended-is, fixed-is, number-fixed, pm-fixed}
 use Rattle.runs.proofs.Readable.{can-read, read-all}
 use Rattle.runs.proofs.Sendable.{can-send}
+use Rattle.runs.proofs.NoData.{runs-alike}
 
 pub whole-runs : (mode : ℕ) → WholeRuns mode
 whole-runs mode =
     record {
       as-defined = as-defined-is mode;
+      alike = runs-alike mode;
       fixed = fixed-is mode;
       fixed-extended = fixed-extended-is mode;
       differ = λ a b t ha hb ne e. ne (pm-fixed mode a b t ha hb e);

@@ -1,7 +1,7 @@
 -- Documents 01 and 02, "Lent lengths" and "Operations of a run": what is lent to a call, what a run holds, and what goes out for an L1 frame.
 use Prim.Native.Nat.{ℕ}
-use mathlib.Core.List.{_++_}
-use lib.ListN.{take, drop}
+use mathlib.Core.List.{[], _∷_, _++_}
+use lib.ListN.{take, drop, replicate}
 use Rattle.bits.specs.Bits.{Bytes}
 use Rattle.control.specs.Control.{controlOf}
 use Rattle.runs.specs.declared.Answer.{Answer}
@@ -9,7 +9,7 @@ use Rattle.runs.specs.declared.State.{State}
 use Rattle.runs.specs.declared.Extended.{Extended}
 use Rattle.runs.specs.declared.Extended.the-variants.{P3, P4}
 use Rattle.runs.specs.MainChannels.{mainOf}
-use Rattle.runs.specs.Lengths.{kindOf, matrixLen}
+use Rattle.runs.specs.Lengths.{kindOf, frameLen, matrixLen}
 use Rattle.runs.specs.Chain.{Buffer, pmOf, pxOf, memOf}
 use Rattle.runs.specs.Paths.{scrambledOf, oldest, waiting, p1′Of}
 
@@ -68,6 +68,26 @@ memoryOf m P4 = m .for4
 -- the matrices of P1'
 abbrev pub p1′In : ℕ → Matrices → Buffer
 p1′In mode x = drop (matrixLen (kindOf mode P4)) (x .px2)
+
+-- document 02, S-5: the frames that a sending is handed mean themselves, but nothing for P3 or P4 means its eight frames of zeros
+abbrev pub orZeros : ℕ → Buffer → Buffer
+orZeros n [] = replicate n 0
+orZeros n (x ∷ b) = x ∷ b
+
+unfoldable pub filled : ℕ → Frames → Frames
+filled mode f =
+    record {
+      reserved = f .reserved;
+      p1 = f .p1;
+      pids = f .pids;
+      p2 = f .p2;
+      p3 = orZeros (frameLen (kindOf mode P3)) (f .p3);
+      p4 = orZeros (frameLen (kindOf mode P4)) (f .p4);
+    }
+
+-- what is lent to a sending, with the frames that are meant
+abbrev pub meant : ℕ → Lent → Lent
+meant mode l = record { frames = filled mode (l .frames); signal = l .signal }
 
 -- bytes below 256, as every lent buffer has
 pub record ByteFrames (f : Frames) : Type 0 where

@@ -11,7 +11,7 @@ use Rattle.runs.specs.MainChannels.{mainOf, p1Len, p2Len}
 use Rattle.runs.specs.Lengths.{kindOf, frameLen, senderLen, readerLen, pidsLen}
 use Rattle.runs.specs.Chain.{Buffer}
 use Rattle.runs.specs.Answers.{numberOf}
-use Rattle.runs.specs.Lent.{Frames, Matrices, Signal, Lent, Memory, Result, frameOf, ByteFrames}
+use Rattle.runs.specs.Lent.{Frames, Matrices, Signal, Lent, Memory, Result, frameOf, filled, ByteFrames}
 use Rattle.runs.specs.Sending.{sendStep}
 use Rattle.runs.specs.Starting.{start}
 use Rattle.runs.specs.Reading.{readStep}
@@ -67,9 +67,9 @@ unfoldable pub readings : (mode : ℕ) → ReaderRun mode → List Call
 readings mode b =
     calls readStep (start readerLen mode (b .upon) .state) (start readerLen mode (b .upon) .memory) (b .lents)
 
--- the frames and numbers handed to the successful sendings, and the matrices and control sequences that they wrote
+-- the numbers and the frames meant by what was handed to the successful sendings (S-5), and the matrices and control sequences that they wrote
 unfoldable pub framesSent : (mode : ℕ) → SenderRun mode → List Frames
-framesSent mode a = map (λ (c : Call). c .lent .frames) (succeeded (sendings mode a))
+framesSent mode a = map (λ (c : Call). filled mode (c .lent .frames)) (succeeded (sendings mode a))
 
 unfoldable pub signalsSent : (mode : ℕ) → SenderRun mode → List Signal
 signalsSent mode a = map (λ (c : Call). c .result .lent .signal) (succeeded (sendings mode a))

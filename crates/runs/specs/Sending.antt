@@ -12,7 +12,7 @@ use Rattle.runs.specs.MainChannels.{mainOf, p1Len, p2Len}
 use Rattle.runs.specs.Lengths.{kindOf, frameLen, matrixLen, senderLen, pidsLen, pmLen, px2Len, controlLen}
 use Rattle.runs.specs.Answers.{onSuccess}
 use Rattle.runs.specs.Causes.{Size, at, judge, size, when, wrong}
-use Rattle.runs.specs.Lent.{Lent, Memory, Result, memoryNext, signalOf}
+use Rattle.runs.specs.Lent.{Lent, Memory, Result, filled, meant, memoryNext, signalOf}
 use Rattle.runs.specs.Starting.{memorySizes, next, valid}
 
 -- the lent buffers in the order of the table: P1, PIDS, P2, P3, P4, PM, PX1, PX2, control
@@ -29,23 +29,23 @@ lentSizes mode l =
     ∷ size (length (l .signal .control)) controlLen
     ∷ []
 
--- sending meets only 2, 9 and 3, in this order (S-2)
+-- sending meets only 2, 9 and 3, in this order (S-2). The lengths are those of what is meant (S-5): no data for P3 or P4 has the right one
 unfoldable pub sendAnswer : State → Memory → Lent → Answer
 sendAnswer s m l =
     judge
     (when (not (valid s)) StateNotValid
     ∷ when (not (ltb (l .frames .reserved) 8)) ReservedTooHigh
-    ∷ at WrongLength (wrong 0 (lentSizes (s .mode) l ++ memorySizes senderLen (s .mode) m))
+    ∷ at WrongLength (wrong 0 (lentSizes (s .mode) (meant (s .mode) l) ++ memorySizes senderLen (s .mode) m))
     ∷ [])
 
--- a success writes the matrices and the control sequences, and the memory; the state holds the number sent
+-- a success writes the matrices and the control sequences of the frames that are meant, and the memory; the state holds the number sent
 unfoldable pub sent : State → Memory → Lent → Result
 sent s m l =
     record {
       answer = Success;
       state = next (l .frames .reserved) s;
-      memory = memoryNext (s .mode) (s .half) m (l .frames);
-      lent = record { frames = l .frames; signal = signalOf (s .mode) (s .half) m (l .frames) };
+      memory = memoryNext (s .mode) (s .half) m (filled (s .mode) (l .frames));
+      lent = record { frames = l .frames; signal = signalOf (s .mode) (s .half) m (filled (s .mode) (l .frames)) };
     }
 
 -- a refusal leaves the state, the memory and all buffers as they were

@@ -3,17 +3,17 @@ use Prim.Native.Nat.{ℕ, _+_, _*_, _≤_, _<_}
 use mathlib.Core.Path.{_≡_}
 use mathlib.Core.Logic.{_≢_}
 use mathlib.Core.Bool.{true}
-use mathlib.Core.List.{List, []}
+use mathlib.Core.List.{List, [], map}
 use lib.ListN.{length, getD}
 use Rattle.control.specs.Modes.{covered}
 use Rattle.runs.specs.declared.Answer.the-variants.{StateNotValid}
 use Rattle.runs.specs.declared.Extended.{Extended}
 use Rattle.runs.specs.MainChannels.{mainOf, delayFrames}
 use Rattle.runs.specs.Answers.{numberOf, placeOf}
-use Rattle.runs.specs.Lent.{Frames, Lent, Result, frameOf, matrixOf}
+use Rattle.runs.specs.Lent.{Frames, Lent, Result, frameOf, matrixOf, meant}
 use Rattle.runs.specs.Starting.{fresh}
 use Rattle.runs.specs.Sending.{refused}
-use Rattle.runs.specs.Runs.{Call, Every, Fitting, SenderRun, ReaderRun, readings, framesSent, signalsSent, count, frameAt, matricesAt, controlAt, noFrames, noSignal}
+use Rattle.runs.specs.Runs.{Call, Every, Fitting, SenderRun, ReaderRun, sendings, readings, framesSent, signalsSent, count, frameAt, matricesAt, controlAt, noFrames, noSignal}
 use Rattle.runs.specs.Defined.{defined, table, eighth}
 use Rattle.runs.specs.Handed.{Handed}
 
@@ -39,6 +39,19 @@ pub record Returned (mode : ℕ) (F : ℕ → Frames) (t : ℕ) (lent : Frames) 
   pub extended-early : (e : Extended) → t < 2 → frameOf (g .lent .frames) e ≡ frameOf lent e
   pub extended-is : (e : Extended) (s : ℕ) → t ≡ s + 2 → frameOf (g .lent .frames) e ≡ frameOf (F s) e
 
+-- S-5: what was lent to the calls of two runs differs only in that zeros for P3 or P4 are handed in full or as nothing
+abbrev pub Alike : (mode : ℕ) → SenderRun mode → SenderRun mode → Type 0
+Alike mode a b = map (meant mode) (a .lents) ≡ map (meant mode) (b .lents)
+
+-- a call, with the frames that are meant
+abbrev pub callMeant : ℕ → Call → Call
+callMeant mode c =
+    let r = c .result in
+    record {
+      lent = meant mode (c .lent);
+      result = record { answer = r .answer; state = r .state; memory = r .memory; lent = meant mode (r .lent) };
+    }
+
 -- no call: a refusal
 abbrev pub noCall : Call
 noCall =
@@ -49,6 +62,11 @@ pub record WholeRuns (mode : ℕ) : Type 0 where
   -- the matrices and control sequences sent are those of the definition
   pub as-defined : (a : SenderRun mode)
       → signalsSent mode a ≡ table 0 (count mode a) (defined mode (frameAt mode a))
+  -- S-5: runs that are alike give the same call by call, answers, states, memory and buffers, and have sent the same frames, matrices and control sequences
+  pub alike : (a b : SenderRun mode) → Alike mode a b
+      → (map (callMeant mode) (sendings mode a) ≡ map (callMeant mode) (sendings mode b))
+      × (framesSent mode a ≡ framesSent mode b)
+      × (signalsSent mode a ≡ signalsSent mode b)
   -- the matrices fix every P1, PIDS and P2 frame at once
   pub fixed : (a b : SenderRun mode) (n : ℕ) → n ≤ count mode a → n ≤ count mode b → SameMatrices mode n a b
       → (t : ℕ) → t < n → SameMain (frameAt mode a t) (frameAt mode b t)

@@ -1,5 +1,5 @@
-// sender MODE COUNT: reads COUNT L1 frames, each its reserved number, one byte, and its transfer frames, P1, PIDS, P2, P3, P4, and writes for each its PM, PX1, PX2 and control.
-use programs::Arguments;
+// sender MODE COUNT [without P3|P4|P3 P4]: reads COUNT L1 frames, each its reserved number, one byte, and its transfer frames, P1, PIDS, P2, P3, P4, but not of a channel without data, and writes for each its PM, PX1, PX2 and control.
+use programs::Sending;
 use programs::Step;
 use runs::State;
 
@@ -7,6 +7,8 @@ use runs::State;
 fn turn(
     state: State,
     frame: u64,
+    n3: usize,
+    n4: usize,
     input: &mut [u8],
     pm: &mut [u8],
     px1: &mut [u8],
@@ -19,6 +21,8 @@ fn turn(
     let sent = programs::send_next(
         state,
         frame,
+        n3,
+        n4,
         input,
         pm,
         px1,
@@ -40,6 +44,8 @@ fn turn(
 fn send_all(
     mode: u8,
     count: u64,
+    n3: usize,
+    n4: usize,
     input: &mut [u8],
     pm: &mut [u8],
     px1: &mut [u8],
@@ -59,6 +65,8 @@ fn send_all(
         let step = turn(
             state,
             count - left,
+            n3,
+            n4,
             input,
             pm,
             px1,
@@ -74,7 +82,7 @@ fn send_all(
 }
 
 // The buffers of a run in MP1, MP2, MP3 and MP11, each of its length in this mode: no P2, and no delay memory.
-fn run_plain(mode: u8, count: u64) {
+fn run_plain(mode: u8, count: u64, n3: usize, n4: usize) {
     let want = layer1::sender_lengths(mode);
     let mut input = [0u8; 27649];
     let mut pm = [0u8; 46080];
@@ -83,7 +91,7 @@ fn run_plain(mode: u8, count: u64) {
     let mut control = [0u8; 4096];
     let mut memory3 = [0u8; 18432];
     let mut memory4 = [0u8; 18432];
-    let a = programs::within(programs::frames_length(mode), &input);
+    let a = programs::within(programs::frames_length(mode, n3, n4), &input);
     let b = programs::within(want[6], &px1);
     let c = programs::within(want[7], &px2);
     let d = programs::within(want[9], &memory3);
@@ -91,6 +99,8 @@ fn run_plain(mode: u8, count: u64) {
     send_all(
         mode,
         count,
+        n3,
+        n4,
         &mut input[..a],
         &mut pm,
         &mut px1[..b],
@@ -103,7 +113,7 @@ fn run_plain(mode: u8, count: u64) {
 }
 
 // The buffers of a run in MP5: no P4.
-fn run_mp5(count: u64) {
+fn run_mp5(count: u64, n3: usize) {
     let mut input = [0u8; 23041];
     let mut pm = [0u8; 46080];
     let mut px1 = [0u8; 9216];
@@ -111,10 +121,13 @@ fn run_mp5(count: u64) {
     let mut control = [0u8; 4096];
     let mut memory3 = [0u8; 18432];
     let mut delay = [0u8; 13824];
+    let a = programs::within(programs::frames_length(5, n3, 0), &input);
     send_all(
         5,
         count,
-        &mut input,
+        n3,
+        0,
+        &mut input[..a],
         &mut pm,
         &mut px1,
         &mut px2,
@@ -135,6 +148,8 @@ fn run_mp6(count: u64) {
     send_all(
         6,
         count,
+        0,
+        0,
         &mut input,
         &mut pm,
         &mut [0u8; 0],
@@ -147,17 +162,22 @@ fn run_mp6(count: u64) {
 }
 
 // A run. The buffers of one mode and of another share the stack, since they stand in functions of their own.
-fn run(mode: u8, count: u64) {
+fn run(mode: u8, count: u64, n3: usize, n4: usize) {
     match mode {
-        5 => run_mp5(count),
+        5 => run_mp5(count, n3),
         6 => run_mp6(count),
-        _ => run_plain(mode, count),
+        _ => run_plain(mode, count, n3, n4),
     }
 }
 
 fn main() {
-    match programs::read_arguments(3) {
-        Arguments::Run { mode, count } => run(mode, count),
-        Arguments::Wrong => programs::usage(b"sender MODE COUNT"),
+    match programs::read_sending() {
+        Sending::Run {
+            mode,
+            count,
+            n3,
+            n4,
+        } => run(mode, count, n3, n4),
+        Sending::Wrong => programs::usage(b"sender MODE COUNT [without P3|P4|P3 P4]"),
     }
 }

@@ -3,6 +3,7 @@ use calls::Outcome;
 use calls::admit;
 use calls::kind_of;
 use calls::main_of;
+use calls::meant_len;
 use calls::next_of;
 use calls::number;
 use calls::sender_lengths;
@@ -10,7 +11,7 @@ use runs::Extended;
 use runs::State;
 ghost use mathlib.Core.Path.{_≡_};
 ghost use Rattle.runs.specs.Lengths.{senderLen};
-ghost use Rattle.runs.specs.Lent.{memoryNext, signalOf};
+ghost use Rattle.runs.specs.Lent.{filled, meant, memoryNext, signalOf};
 ghost use Rattle.runs.specs.Sending.{sendStep};
 ghost use Rattle.calls.specs.Fits.{Fits};
 ghost use Rattle.calls.specs.Called.{frames, gave, lent, memory, signal};
@@ -32,9 +33,9 @@ fn write(
     memory4: &mut [u8],
     delay: &mut [u8],
 )
-    requires { ⌜ Fits senderLen state (memory (now memory3) (now memory4) (now delay)) (lent reserved (now p1) (now pids) (now p2) (now p3) (now p4) (now pm) (now px1) (now px2) (now control)) ⌝ }
-    ensures { λ _. ⌜ signal (now (pm .exit)) (now (px1 .exit)) (now (px2 .exit)) (now (control .exit)) ≡ signalOf (state .mode) (state .half) (memory (now (memory3 .entry)) (now (memory4 .entry)) (now (delay .entry))) (frames reserved (now (p1 .entry)) (now (pids .entry)) (now (p2 .entry)) (now (p3 .entry)) (now (p4 .entry))) ⌝ }
-    ensures { λ _. ⌜ memory (now (memory3 .exit)) (now (memory4 .exit)) (now (delay .exit)) ≡ memoryNext (state .mode) (state .half) (memory (now (memory3 .entry)) (now (memory4 .entry)) (now (delay .entry))) (frames reserved (now (p1 .entry)) (now (pids .entry)) (now (p2 .entry)) (now (p3 .entry)) (now (p4 .entry))) ⌝ }
+    requires { ⌜ Fits senderLen state (memory (now memory3) (now memory4) (now delay)) (meant (state .mode) (lent reserved (now p1) (now pids) (now p2) (now p3) (now p4) (now pm) (now px1) (now px2) (now control))) ⌝ }
+    ensures { λ _. ⌜ signal (now (pm .exit)) (now (px1 .exit)) (now (px2 .exit)) (now (control .exit)) ≡ signalOf (state .mode) (state .half) (memory (now (memory3 .entry)) (now (memory4 .entry)) (now (delay .entry))) (filled (state .mode) (frames reserved (now (p1 .entry)) (now (pids .entry)) (now (p2 .entry)) (now (p3 .entry)) (now (p4 .entry)))) ⌝ }
+    ensures { λ _. ⌜ memory (now (memory3 .exit)) (now (memory4 .exit)) (now (delay .exit)) ≡ memoryNext (state .mode) (state .half) (memory (now (memory3 .entry)) (now (memory4 .entry)) (now (delay .entry))) (filled (state .mode) (frames reserved (now (p1 .entry)) (now (pids .entry)) (now (p2 .entry)) (now (p3 .entry)) (now (p4 .entry)))) ⌝ }
 {
     let main = main_of(state.mode);
     let half = state.half;
@@ -52,7 +53,7 @@ fn write(
     control::fill_control(state.mode, reserved, control);
 }
 
-// Sends an L1 frame: writes its matrices and control sequences from the transfer frames lent and its reserved number, and the sender's memory.
+// Sends an L1 frame: writes its matrices and control sequences from the transfer frames lent and its reserved number, and the sender's memory. Nothing lent for P3 or P4 stands for eight frames of zeros (document 02, S-5).
 pub fn send(
     state: State,
     reserved: u8,
@@ -72,12 +73,13 @@ pub fn send(
     ensures { λ r. ⌜ gave r (memory (now (memory3 .exit)) (now (memory4 .exit)) (now (delay .exit))) (lent reserved (now (p1 .entry)) (now (pids .entry)) (now (p2 .entry)) (now (p3 .entry)) (now (p4 .entry)) (now (pm .exit)) (now (px1 .exit)) (now (px2 .exit)) (now (control .exit)))
         ≡ sendStep state (memory (now (memory3 .entry)) (now (memory4 .entry)) (now (delay .entry))) (lent reserved (now (p1 .entry)) (now (pids .entry)) (now (p2 .entry)) (now (p3 .entry)) (now (p4 .entry)) (now (pm .entry)) (now (px1 .entry)) (now (px2 .entry)) (now (control .entry))) ⌝ }
 {
+    let want = sender_lengths(state.mode);
     let have = [
         p1.len(),
         pids.len(),
         p2.len(),
-        p3.len(),
-        p4.len(),
+        meant_len(p3.len(), want[3]),
+        meant_len(p4.len(), want[4]),
         pm.len(),
         px1.len(),
         px2.len(),
@@ -86,7 +88,6 @@ pub fn send(
         memory4.len(),
         delay.len(),
     ];
-    let want = sender_lengths(state.mode);
     let answer = admit(state, reserved, &have, &want);
     let next = next_of(state, reserved);
     if number(answer) != 0 {

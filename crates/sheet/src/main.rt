@@ -1,4 +1,4 @@
-// sheet MODE COUNT: reads a cell list, an empty line and COUNT L1 frames, each its reserved number and its transfer frames, as `sender` does, and prints whose coded bit stands in each listed cell, and the bit.
+// sheet MODE COUNT [without P3|P4|P3 P4]: reads a cell list, an empty line and COUNT L1 frames, each its reserved number and its transfer frames, as `sender` does, and prints whose coded bit stands in each listed cell, and the bit.
 mod answers;
 mod list;
 
@@ -7,7 +7,7 @@ use crate::answers::print_lines;
 use crate::list::no_list;
 use crate::list::no_sheet;
 use crate::list::read_list;
-use programs::Arguments;
+use programs::Sending;
 use programs::Step;
 use runs::State;
 
@@ -18,6 +18,8 @@ fn turn(
     list: &[u8],
     state: State,
     frame: u64,
+    n3: usize,
+    n4: usize,
     input: &mut [u8],
     pm: &mut [u8],
     px1: &mut [u8],
@@ -29,6 +31,8 @@ fn turn(
     let sent = programs::send_next(
         state,
         frame,
+        n3,
+        n4,
         input,
         pm,
         px1,
@@ -52,6 +56,8 @@ fn send_all(
     count: u64,
     list: &[u8],
     start: State,
+    n3: usize,
+    n4: usize,
     input: &mut [u8],
     pm: &mut [u8],
     px1: &mut [u8],
@@ -69,6 +75,8 @@ fn send_all(
             list,
             state,
             count - left,
+            n3,
+            n4,
             input,
             pm,
             px1,
@@ -88,6 +96,8 @@ fn answer_all(
     count: u64,
     list: &[u8],
     start: State,
+    n3: usize,
+    n4: usize,
     memory3: &mut [u8],
     memory4: &mut [u8],
 ) {
@@ -97,7 +107,7 @@ fn answer_all(
     let mut px1 = [0u8; 9216];
     let mut px2 = [0u8; 9216];
     let mut control = [0u8; 4096];
-    let a = programs::within(programs::frames_length(mode), &input);
+    let a = programs::within(programs::frames_length(mode, n3, n4), &input);
     let c = programs::within(want[6], &px1);
     let d = programs::within(want[7], &px2);
     if !print_lines(Pass::Refusals, mode, count, list, &pm, &px1, &px2) {
@@ -108,6 +118,8 @@ fn answer_all(
         count,
         list,
         start,
+        n3,
+        n4,
         &mut input[..a],
         &mut pm,
         &mut px1[..c],
@@ -119,7 +131,7 @@ fn answer_all(
 }
 
 // Starts the sender, and reads the cell list.
-fn start(mode: u8, count: u64, memory3: &mut [u8], memory4: &mut [u8]) {
+fn start(mode: u8, count: u64, n3: usize, n4: usize, memory3: &mut [u8], memory4: &mut [u8]) {
     let started = programs::start_sending(mode, memory3, memory4, &mut [0u8; 0]);
     if !started.go_on {
         return;
@@ -132,11 +144,11 @@ fn start(mode: u8, count: u64, memory3: &mut [u8], memory4: &mut [u8]) {
         return;
     }
     let end = n - 1;
-    answer_all(mode, count, &text[..end], state, memory3, memory4);
+    answer_all(mode, count, &text[..end], state, n3, n4, memory3, memory4);
 }
 
 // The memory of a run, of its length in this mode. The finders, and so a sheet, keep to the modes without P1'.
-fn run(mode: u8, count: u64) {
+fn run(mode: u8, count: u64, n3: usize, n4: usize) {
     if calls::delay_len(calls::main_of(mode)) > 0 {
         no_sheet();
         return;
@@ -146,12 +158,17 @@ fn run(mode: u8, count: u64) {
     let mut memory4 = [0u8; 18432];
     let e = programs::within(want[9], &memory3);
     let f = programs::within(want[10], &memory4);
-    start(mode, count, &mut memory3[..e], &mut memory4[..f]);
+    start(mode, count, n3, n4, &mut memory3[..e], &mut memory4[..f]);
 }
 
 fn main() {
-    match programs::read_arguments(3) {
-        Arguments::Run { mode, count } => run(mode, count),
-        Arguments::Wrong => programs::usage(b"sheet MODE COUNT"),
+    match programs::read_sending() {
+        Sending::Run {
+            mode,
+            count,
+            n3,
+            n4,
+        } => run(mode, count, n3, n4),
+        Sending::Wrong => programs::usage(b"sheet MODE COUNT [without P3|P4|P3 P4]"),
     }
 }

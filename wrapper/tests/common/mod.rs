@@ -251,11 +251,28 @@ pub fn sent_of(draw: &mut Draw, mode: u8, frames: &[Buffers]) -> Vec<Buffers> {
     frames.iter().map(send).collect()
 }
 
+/// Drawn buffers of a sending; now and then nothing is handed for P3 or P4 (document 02, S-5).
+pub fn drawn_to_send(draw: &mut Draw, mode: u8) -> Buffers {
+    let mut buffers = drawn(draw, Side::Sender, mode);
+    for place in [P3, P4] {
+        if draw.below(3) == 0 {
+            buffers[place].clear();
+        }
+    }
+    buffers
+}
+
+/// The transfer frames that a sending of these buffers means: zeros where it is handed nothing.
+pub fn meant(mode: u8, buffers: &Buffers, place: usize) -> Vec<u8> {
+    match buffers[place].is_empty() {
+        true => vec![0; layer1::length(Side::Sender, mode, place)],
+        false => buffers[place].clone(),
+    }
+}
+
 /// A sender's run of drawn frames and numbers: the buffers after each sending.
 pub fn sent(draw: &mut Draw, mode: u8, count: usize) -> Vec<Buffers> {
-    let frames: Vec<Buffers> = (0..count)
-        .map(|_| drawn(draw, Side::Sender, mode))
-        .collect();
+    let frames: Vec<Buffers> = (0..count).map(|_| drawn_to_send(draw, mode)).collect();
     sent_of(draw, mode, &frames)
 }
 

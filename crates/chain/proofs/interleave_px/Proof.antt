@@ -10,8 +10,8 @@ use borrow.Author.Needs.{needs}
 use Rattle.chain.proofs.interleave_px.Statement.{statement}
 use Rattle.chain.proofs.interleave_px.Tie as tie
 
-encode-channel-requires : tie.Need-encode-channel-requires
-encode-channel-requires c κs =
+encode-px-requires : tie.Need-encode-px-requires
+encode-px-requires c κs =
     let s = c .before .before .before .before .before .before .before in
     buffers (s .args .kind) (now (s .args .frames)) (now (s .args .scrambled)) (now (s .args .coded)) (s .pre .1)
 
@@ -25,7 +25,7 @@ pass-requires c κs =
     let t = c .before .before .before .table-row .ensures in
     let k = s .args .kind in
     let room = s .pre .1 in
-    let code = coded-length k (now (s .args .frames)) (now (s .args .scrambled)) (now (s .args .coded)) room _ (e .encode-channel .ensures .1) in (
+    let code = coded-length k (now (s .args .frames)) (now (s .args .scrambled)) (now (s .args .coded)) room _ (e .encode-px .ensures) in (
       (rw t (room .used), omega arith),
       (code ∙ ap codedBytes (sym t), s .pre .3 ∙ sym (memory-bytes k) ∙ ap (λ (x : ℕ). 2 * codedBytes x) (sym t), s .pre .2 ∙ sym (matrix-bytes k) ∙ ap codedBytes (sym t)),
     )
@@ -47,14 +47,14 @@ returns c =
     let p = c .before .before .before .before in
     let e = p .before .before .before .before .before .before .before .before .before in
     let s = e .before .before .before .before .before .before .before .before in
-    passed (s .args .kind) (now (s .args .frames)) (now (s .args .scrambled)) (now (s .args .coded)) (s .pre .1) _ (e .encode-channel .ensures .1)
+    passed (s .args .kind) (now (s .args .frames)) (now (s .args .scrambled)) (now (s .args .coded)) (s .pre .1) _ (e .encode-px .ensures)
     _ (s .args .half) (now (s .args .memory)) _ _ (p .before .before .before .before .table-row .ensures) (p .pass .ensures .0) (p .pass .ensures .1)
 
 pub interleave-px-spec : {M : Type 1} → statement M
 interleave-px-spec =
     tie.close
     (tie.spec
-    encode-channel-requires
+    encode-px-requires
     table-row-requires
     pass-requires
     same-length

@@ -1,6 +1,8 @@
 -- `write_px` meets its contract: nothing is to be written where the channel is not used. Assumes nothing.
 use native.Mathlib.Omega.{arith}
 use denote.Ref.{now}
+use Rattle.runs.specs.Lengths.{frameLen}
+use Rattle.runs.specs.Lent.{orZeros}
 use Rattle.chain.proofs.Extends.{room-of, unused}
 use borrow.Author.Needs.{needs}
 use Rattle.chain.proofs.write_px.Statement.{statement}
@@ -42,7 +44,7 @@ interleave-px-requires-2 c κs =
 returns : tie.Need-returns
 returns c =
     let s = c .before .before .before .before .before in
-    unused (s .args .kind) (s .args .half) (now (s .args .frames)) (now (s .args .px)) (now (s .args .memory)) (c .enum-told .given .1) (s .pre .2) (s .pre .3)
+    unused (s .args .kind) (s .args .half) (orZeros (frameLen (s .args .kind)) (now (s .args .frames))) (now (s .args .px)) (now (s .args .memory)) (c .enum-told .given .1) (s .pre .2) (s .pre .3)
 
 same-length : tie.Need-same-length
 same-length c = search needs

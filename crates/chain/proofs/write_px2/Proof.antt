@@ -3,6 +3,8 @@ use mathlib.Core.Path.{sym, _∙_}
 use native.Mathlib.Omega.{arith}
 use denote.Ref.{now}
 use lib.Seq.{length-take-le}
+use Rattle.runs.specs.Lengths.{frameLen}
+use Rattle.runs.specs.Lent.{orZeros}
 use Rattle.chain.proofs.Parts.{put-px2}
 use borrow.Author.Needs.{needs}
 use Rattle.chain.proofs.write_px2.Statement.{statement}
@@ -48,7 +50,7 @@ returns c =
     let k = x .before .before .before .matrix-len in
     let a = x .before .before .before .before .before .before .before .before .args in
     let d = c .before .before .write-delayed in (
-      (λ t. put-px2 (a .kind) (a .half) (now (a .memory)) (now (a .p4)) (k .result) (w .last .1 .1 .1 .0) (d .last .1 .1 .0) (now (a .px2)) _ (k .ensures .0) (w .ensures .0) (d .ensures t)),
+      (λ t. put-px2 (a .kind) (a .half) (now (a .memory)) (orZeros (frameLen (a .kind)) (now (a .p4))) (k .result) (w .last .1 .1 .1 .0) (d .last .1 .1 .0) (now (a .px2)) _ (k .ensures .0) (w .ensures .0) (d .ensures t)),
       w .ensures .1,
     )
 

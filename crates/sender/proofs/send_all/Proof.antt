@@ -8,7 +8,7 @@ use Rattle.sender.proofs.send_all.Statement.{statement}
 use Rattle.sender.proofs.send_all.Tie as tie
 
 abbrev Inv-loop : tie.InvT-loop
-Inv-loop mode count input₀ pm₀ px1₀ px2₀ control₀ memory3₀ memory4₀ delay₀ state₀ left₀ input pm px1 px2 control memory3 memory4 delay state left =
+Inv-loop mode count n3 n4 input₀ pm₀ px1₀ px2₀ control₀ memory3₀ memory4₀ delay₀ state₀ left₀ input pm px1 px2 control memory3 memory4 delay state left =
     (left ≤ count)
     × (length input ≡ length input₀)
     × (length pm ≡ length pm₀)
@@ -20,7 +20,7 @@ Inv-loop mode count input₀ pm₀ px1₀ px2₀ control₀ memory3₀ memory4�
     × (length delay ≡ length delay₀)
 
 abbrev μ-loop : tie.MeasureT-loop
-μ-loop mode count input₀ pm₀ px1₀ px2₀ control₀ memory3₀ memory4₀ delay₀ state₀ left₀ input pm px1 px2 control memory3 memory4 delay state left = left
+μ-loop mode count n3 n4 input₀ pm₀ px1₀ px2₀ control₀ memory3₀ memory4₀ delay₀ state₀ left₀ input pm px1 px2 control memory3 memory4 delay state left = left
 
 start-sending-requires : tie.Need-start-sending-requires Inv-loop μ-loop
 start-sending-requires c κs = search needs
@@ -57,14 +57,14 @@ loop-again c =
     let x = c .before .before .before .before .before .before .before .before .before .before .before .before .before .before .before .before .before .before in
     let y = x .before .before .before .before .before .before .before .before .before .before in (
       omega (arith, c .left-after .ensures .0, y .loop .inv .0),
-      x .turn .kept .1 .1 .0 ∙ y .loop .inv .1,
-      x .turn .kept .1 .1 .1 .0 ∙ y .loop .inv .2,
-      x .turn .kept .1 .1 .1 .1 .0 ∙ y .loop .inv .3,
-      x .turn .kept .1 .1 .1 .1 .1 .0 ∙ y .loop .inv .4,
-      x .turn .kept .1 .1 .1 .1 .1 .1 .0 ∙ y .loop .inv .5,
-      x .turn .kept .1 .1 .1 .1 .1 .1 .1 .0 ∙ y .loop .inv .6,
-      x .turn .kept .1 .1 .1 .1 .1 .1 .1 .1 .0 ∙ y .loop .inv .7,
-      x .turn .kept .1 .1 .1 .1 .1 .1 .1 .1 .1 .0 ∙ y .loop .inv .8,
+      x .turn .kept .1 .1 .1 .1 .0 ∙ y .loop .inv .1,
+      x .turn .kept .1 .1 .1 .1 .1 .0 ∙ y .loop .inv .2,
+      x .turn .kept .1 .1 .1 .1 .1 .1 .0 ∙ y .loop .inv .3,
+      x .turn .kept .1 .1 .1 .1 .1 .1 .1 .0 ∙ y .loop .inv .4,
+      x .turn .kept .1 .1 .1 .1 .1 .1 .1 .1 .0 ∙ y .loop .inv .5,
+      x .turn .kept .1 .1 .1 .1 .1 .1 .1 .1 .1 .0 ∙ y .loop .inv .6,
+      x .turn .kept .1 .1 .1 .1 .1 .1 .1 .1 .1 .1 .0 ∙ y .loop .inv .7,
+      x .turn .kept .1 .1 .1 .1 .1 .1 .1 .1 .1 .1 .1 .0 ∙ y .loop .inv .8,
     )
 
 same-length-4 : tie.Need-same-length-4 Inv-loop μ-loop

@@ -3,7 +3,7 @@ use mathlib.Core.Path.{refl, sym, _∙_}
 use denote.Ref.{now}
 use Rattle.runs.specs.Lent.{Lent, Memory}
 use Rattle.calls.specs.Called.{lent, memory}
-use Rattle.sending.proofs.SendCases.{kept, sendable, written}
+use Rattle.sending.proofs.SendCases.{kept, meant-lengths, sendable, written}
 use borrow.Author.Needs.{needs}
 use Rattle.sending.proofs.send.Statement.{statement}
 use Rattle.sending.proofs.send.Tie as tie
@@ -19,6 +19,18 @@ memoryAt s = memory (now (s .args .memory3)) (now (s .args .memory4)) (now (s .a
 
 sender-lengths-requires : tie.Need-sender-lengths-requires
 sender-lengths-requires c κs = search needs
+
+array-read-meant-len : tie.Need-array-read-meant-len
+array-read-meant-len c = search needs
+
+meant-len-requires : tie.Need-meant-len-requires
+meant-len-requires c κs = search needs
+
+array-read-meant-len-2 : tie.Need-array-read-meant-len-2
+array-read-meant-len-2 c = search needs
+
+meant-len-requires-2 : tie.Need-meant-len-requires-2
+meant-len-requires-2 c κs = search needs
 
 slice-aggregate-admit : tie.Need-slice-aggregate-admit
 slice-aggregate-admit c = search needs
@@ -38,15 +50,21 @@ number-requires c κs = search needs
 returns : tie.Need-returns
 returns c =
     let a = c .before .before .before in
-    let s = a .before .before .before .before .before .before .before .before .before .before .before .before .before .before .before .before in
-    kept (s .args .state) (memoryAt s) (lentAt s) _ _ _ refl (a .before .before .before .sender-lengths .ensures) (a .admit .ensures) (λ z. c .if1 .taken (c .before .number .ensures ∙ z))
+    let f = a .before .before .before in
+    let r = f .before .before in
+    let s = r .before .before .before .before .before .before .before .before .before .before .before .before .before in
+    let h = meant-lengths (s .args .state) (memoryAt s) (lentAt s) _ (r .sender-lengths .ensures) _ _ (f .before .meant-len .ensures) (f .meant-len2 .ensures) in
+    kept (s .args .state) (memoryAt s) (lentAt s) _ _ _ h (r .sender-lengths .ensures) (a .admit .ensures) (λ z. c .if1 .taken (c .before .number .ensures ∙ z))
 
 write-requires : tie.Need-write-requires
 write-requires c κs =
     let t = c .before .before .before .before .before .before .before in
     let a = t .before .before .before in
-    let s = a .before .before .before .before .before .before .before .before .before .before .before .before .before .before .before .before in
-    sendable (s .args .state) (memoryAt s) (lentAt s) _ _ _ refl (a .before .before .before .sender-lengths .ensures) (a .admit .ensures) (sym (t .before .number .ensures) ∙ t .if1 .left)
+    let f = a .before .before .before in
+    let r = f .before .before in
+    let s = r .before .before .before .before .before .before .before .before .before .before .before .before .before in
+    let h = meant-lengths (s .args .state) (memoryAt s) (lentAt s) _ (r .sender-lengths .ensures) _ _ (f .before .meant-len .ensures) (f .meant-len2 .ensures) in
+    sendable (s .args .state) (memoryAt s) (lentAt s) _ _ _ h (r .sender-lengths .ensures) (a .admit .ensures) (sym (t .before .number .ensures) ∙ t .if1 .left)
 
 same-length : tie.Need-same-length
 same-length c = search needs
@@ -74,8 +92,11 @@ returns-2 c =
     let w = c .before .before .before .before .before .before .before .before .before .before .before .before .before .before in
     let t = w .before .before .before .before .before .before .before .before in
     let a = t .before .before .before in
-    let s = a .before .before .before .before .before .before .before .before .before .before .before .before .before .before .before .before in
-    written (s .args .state) (memoryAt s) (lentAt s) _ _ _ refl (a .before .before .before .sender-lengths .ensures) (a .admit .ensures) (sym (t .before .number .ensures) ∙ t .if1 .left)
+    let f = a .before .before .before in
+    let r = f .before .before in
+    let s = r .before .before .before .before .before .before .before .before .before .before .before .before .before in
+    let h = meant-lengths (s .args .state) (memoryAt s) (lentAt s) _ (r .sender-lengths .ensures) _ _ (f .before .meant-len .ensures) (f .meant-len2 .ensures) in
+    written (s .args .state) (memoryAt s) (lentAt s) _ _ _ h (r .sender-lengths .ensures) (a .admit .ensures) (sym (t .before .number .ensures) ∙ t .if1 .left)
     _ _ _ (t .before .before .next-of .ensures) (w .write .ensures .0) (w .write .ensures .1)
 
 pub send-spec : {M : Type 1} → statement M
@@ -83,6 +104,10 @@ send-spec =
     tie.close
     (tie.spec
     sender-lengths-requires
+    array-read-meant-len
+    meant-len-requires
+    array-read-meant-len-2
+    meant-len-requires-2
     slice-aggregate-admit
     slice-aggregate-admit-2
     admit-requires

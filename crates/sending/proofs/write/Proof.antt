@@ -1,17 +1,23 @@
 -- `write` meets its contract: what the parts of the work ensure is the definition's. Assumes nothing.
-use mathlib.Core.Path.{sym, ap, ap₂, _∙_}
+use mathlib.Core.Path.{_≡_, sym, ap, ap₂, subst, _∙_}
 use Prim.Native.Nat.{_+_}
 use native.Mathlib.Omega.{arith}
 use denote.Ref.{now}
+use lib.ListN.{length}
 use Rattle.runs.specs.declared.Kind.{Kind}
 use Rattle.runs.specs.declared.Main.{Main}
 use Rattle.runs.specs.MainChannels.{delayLen, p1Len, p2Len, p1′Len}
 use Rattle.runs.specs.Lengths.{frameLen, matrixLen, senderLen}
-use Rattle.calls.specs.Called.{frames, memory}
+use Rattle.runs.specs.Lent.{filled, orZeros}
+use Rattle.calls.specs.Called.{Buffer, frames, memory}
 use Rattle.sending.proofs.SendCases.{worked}
 use borrow.Author.Needs.{needs}
 use Rattle.sending.proofs.write.Statement.{statement}
 use Rattle.sending.proofs.write.Tie as tie
+
+-- the length of what is meant, for the kind that was found
+meant-right : (b : Buffer) {k k′ : Kind} → k ≡ k′ → length (orZeros (frameLen k) b) ≡ frameLen k → length (orZeros (frameLen k′) b) ≡ frameLen k′
+meant-right b = subst (λ (k : Kind). length (orZeros (frameLen k) b) ≡ frameLen k)
 
 main-of-requires : tie.Need-main-of-requires
 main-of-requires c κs = search needs
@@ -20,6 +26,7 @@ kind-of-requires : tie.Need-kind-of-requires
 kind-of-requires c κs = search needs
 
 write-px2-requires : tie.Need-write-px2-requires
+unfolding filled
 write-px2-requires c κs =
     let x = c .before .before .before in
     let y = x .before in
@@ -27,9 +34,10 @@ write-px2-requires c κs =
     let f = s .pre in
     let k = sym (y .main-of .ensures) in
     let k4 = sym (x .kind-of .ensures) in
-    (f .half-lt, f .p4 ∙ ap frameLen k4, f .delay ∙ ap delayLen k, f .px2 ∙ ap₂ (λ (x : Kind) (y : Main). matrixLen x + p1′Len y) k4 k, f .memory4 ∙ ap senderLen k4)
+    (f .half-lt, meant-right (now (s .args .p4)) k4 (f .p4), f .delay ∙ ap delayLen k, f .px2 ∙ ap₂ (λ (x : Kind) (y : Main). matrixLen x + p1′Len y) k4 k, f .memory4 ∙ ap senderLen k4)
 
 write-pm-requires : tie.Need-write-pm-requires
+unfolding filled
 write-pm-requires c κs =
     let x = c .before .before .before .before .before .before .before .before .before .before .before in
     let s = x .before .before .before .before .before .before .before .before .before .before .before .before .before in
@@ -41,14 +49,16 @@ kind-of-requires-2 : tie.Need-kind-of-requires-2
 kind-of-requires-2 c κs = search needs
 
 write-px-requires : tie.Need-write-px-requires
+unfolding filled
 write-px-requires c κs =
     let x = c .before .before in
     let s = x .before .before .before .before .before .before .before .before .before .before .before .before .before .before .before .before .before .before .before .before .before .before .before .before .before .before .before .before .before .before in
     let f = s .pre in
     let k = sym (x .kind-of2 .ensures) in
-    (omega (arith, f .half-lt), f .p3 ∙ ap frameLen k, f .px1 ∙ ap matrixLen k, f .memory3 ∙ ap senderLen k)
+    (omega (arith, f .half-lt), meant-right (now (s .args .p3)) k (f .p3), f .px1 ∙ ap matrixLen k, f .memory3 ∙ ap senderLen k)
 
 fill-control-requires : tie.Need-fill-control-requires
+unfolding filled
 fill-control-requires c κs =
     let s = c .before .before .before .before .before .before .before .before .before .before .before .before .before .before .before .before .before .before .before .before .before .before .before .before .before .before .before .before .before .before .before .before .before .before .before .before .before .before in
     let f = s .pre in (f .mode-lt, f .reserved-lt, f .control)

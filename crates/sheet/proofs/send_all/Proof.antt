@@ -8,7 +8,7 @@ use Rattle.sheet.proofs.send_all.Statement.{statement}
 use Rattle.sheet.proofs.send_all.Tie as tie
 
 abbrev Inv-loop : tie.InvT-loop
-Inv-loop mode count list input₀ pm₀ px1₀ px2₀ control₀ memory3₀ memory4₀ state₀ left₀ input pm px1 px2 control memory3 memory4 state left =
+Inv-loop mode count list n3 n4 input₀ pm₀ px1₀ px2₀ control₀ memory3₀ memory4₀ state₀ left₀ input pm px1 px2 control memory3 memory4 state left =
     (left ≤ count)
     × (length input ≡ length input₀)
     × (length pm ≡ length pm₀)
@@ -19,7 +19,7 @@ Inv-loop mode count list input₀ pm₀ px1₀ px2₀ control₀ memory3₀ memo
     × (length memory4 ≡ length memory4₀)
 
 abbrev μ-loop : tie.MeasureT-loop
-μ-loop mode count list input₀ pm₀ px1₀ px2₀ control₀ memory3₀ memory4₀ state₀ left₀ input pm px1 px2 control memory3 memory4 state left = left
+μ-loop mode count list n3 n4 input₀ pm₀ px1₀ px2₀ control₀ memory3₀ memory4₀ state₀ left₀ input pm px1 px2 control memory3 memory4 state left = left
 
 loop-holds : tie.Need-loop-holds Inv-loop μ-loop
 loop-holds c = search needs
@@ -41,13 +41,13 @@ loop-again c =
     let x = c .before .before .before .before .before .before .before .before .before .before .before .before .before .before .before .before in
     let y = x .before .before .before .before .before .before .before .before .before in (
       omega (arith, c .left-after .ensures .0, y .loop .inv .0),
-      x .turn .kept .1 .1 .1 .1 .1 .0 ∙ y .loop .inv .1,
-      x .turn .kept .1 .1 .1 .1 .1 .1 .0 ∙ y .loop .inv .2,
-      x .turn .kept .1 .1 .1 .1 .1 .1 .1 .0 ∙ y .loop .inv .3,
-      x .turn .kept .1 .1 .1 .1 .1 .1 .1 .1 .0 ∙ y .loop .inv .4,
-      x .turn .kept .1 .1 .1 .1 .1 .1 .1 .1 .1 .0 ∙ y .loop .inv .5,
-      x .turn .kept .1 .1 .1 .1 .1 .1 .1 .1 .1 .1 .0 ∙ y .loop .inv .6,
-      x .turn .kept .1 .1 .1 .1 .1 .1 .1 .1 .1 .1 .1 .0 ∙ y .loop .inv .7,
+      x .turn .kept .1 .1 .1 .1 .1 .1 .1 .0 ∙ y .loop .inv .1,
+      x .turn .kept .1 .1 .1 .1 .1 .1 .1 .1 .0 ∙ y .loop .inv .2,
+      x .turn .kept .1 .1 .1 .1 .1 .1 .1 .1 .1 .0 ∙ y .loop .inv .3,
+      x .turn .kept .1 .1 .1 .1 .1 .1 .1 .1 .1 .1 .0 ∙ y .loop .inv .4,
+      x .turn .kept .1 .1 .1 .1 .1 .1 .1 .1 .1 .1 .1 .0 ∙ y .loop .inv .5,
+      x .turn .kept .1 .1 .1 .1 .1 .1 .1 .1 .1 .1 .1 .1 .0 ∙ y .loop .inv .6,
+      x .turn .kept .1 .1 .1 .1 .1 .1 .1 .1 .1 .1 .1 .1 .1 .0 ∙ y .loop .inv .7,
     )
 
 same-length : tie.Need-same-length Inv-loop μ-loop

@@ -19,12 +19,11 @@ send-input-requires c κs = search needs
 step-after-requires : tie.Need-step-after-requires
 step-after-requires c κs = search needs
 
--- the input buffer is as long as it was lent
 same-length : tie.Need-same-length
 same-length c =
     let sent = c .before .before .before .before .before .before .before .before .before .before .before .before .before .before .before .before in
-    let came = sent .before .before .before .before .before .before .before .before .before .before in
-    came .input .given
+    let came = sent .before .before .before .before .before .before .before .before .before .before .before in
+    came .read-full .kept .1 .0
 
 same-length-2 : tie.Need-same-length-2
 same-length-2 c = search needs
@@ -51,7 +50,7 @@ returns : tie.Need-returns
 returns c =
     let sent = c .before .before .before .before .before .before .before .before .before .before .before .before .before .before .before .before in
     let came = sent .before .before .before .before .before .before .before .before .before .before .before in
-    sent-step _ _ _ _ _ _ (came .read-full .result) (sent .send-input .result) _ (came .read-full .ensures .0) (sent .send-input .ensures) (c .step-after .ensures)
+    sent-step _ _ _ _ _ _ _ _ (came .read-full .result) (sent .send-input .result) _ (came .read-full .ensures .0) (sent .send-input .ensures) (c .step-after .ensures)
 
 pub send-next-spec : {M : Type 1} → statement M
 send-next-spec =

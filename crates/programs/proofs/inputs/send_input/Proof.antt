@@ -30,14 +30,8 @@ array-read-end-of-3 c = search needs
 end-of-requires-4 : tie.Need-end-of-requires-4
 end-of-requires-4 c κs = search needs
 
-array-read-end-of-4 : tie.Need-array-read-end-of-4
-array-read-end-of-4 c = search needs
-
 end-of-requires-5 : tie.Need-end-of-requires-5
 end-of-requires-5 c κs = search needs
-
-array-read-end-of-5 : tie.Need-array-read-end-of-5
-array-read-end-of-5 c = search needs
 
 end-of-requires-6 : tie.Need-end-of-requires-6
 end-of-requires-6 c κs = search needs
@@ -45,53 +39,53 @@ end-of-requires-6 c κs = search needs
 number-of-requires : tie.Need-number-of-requires
 number-of-requires c κs = search needs
 
-sub-send : tie.Need-sub-send
-sub-send c = search needs
+sub-send-whole : tie.Need-sub-send-whole
+sub-send-whole c = search needs
 
-part-send-start : tie.Need-part-send-start
-part-send-start c = search needs
+part-send-whole-start : tie.Need-part-send-whole-start
+part-send-whole-start c = search needs
 
-part-send-end : tie.Need-part-send-end
-part-send-end c = search needs
+part-send-whole-end : tie.Need-part-send-whole-end
+part-send-whole-end c = search needs
 
-sub-send-2 : tie.Need-sub-send-2
-sub-send-2 c = search needs
+sub-send-whole-2 : tie.Need-sub-send-whole-2
+sub-send-whole-2 c = search needs
 
-part-send-start-2 : tie.Need-part-send-start-2
-part-send-start-2 c = search needs
+part-send-whole-start-2 : tie.Need-part-send-whole-start-2
+part-send-whole-start-2 c = search needs
 
-part-send-end-2 : tie.Need-part-send-end-2
-part-send-end-2 c = search needs
+part-send-whole-end-2 : tie.Need-part-send-whole-end-2
+part-send-whole-end-2 c = search needs
 
-sub-send-3 : tie.Need-sub-send-3
-sub-send-3 c = search needs
+sub-send-whole-3 : tie.Need-sub-send-whole-3
+sub-send-whole-3 c = search needs
 
-part-send-start-3 : tie.Need-part-send-start-3
-part-send-start-3 c = search needs
+part-send-whole-start-3 : tie.Need-part-send-whole-start-3
+part-send-whole-start-3 c = search needs
 
-part-send-end-3 : tie.Need-part-send-end-3
-part-send-end-3 c = search needs
+part-send-whole-end-3 : tie.Need-part-send-whole-end-3
+part-send-whole-end-3 c = search needs
 
-sub-send-4 : tie.Need-sub-send-4
-sub-send-4 c = search needs
+sub-send-whole-4 : tie.Need-sub-send-whole-4
+sub-send-whole-4 c = search needs
 
-part-send-start-4 : tie.Need-part-send-start-4
-part-send-start-4 c = search needs
+part-send-whole-start-4 : tie.Need-part-send-whole-start-4
+part-send-whole-start-4 c = search needs
 
-part-send-end-4 : tie.Need-part-send-end-4
-part-send-end-4 c = search needs
+part-send-whole-end-4 : tie.Need-part-send-whole-end-4
+part-send-whole-end-4 c = search needs
 
-sub-send-5 : tie.Need-sub-send-5
-sub-send-5 c = search needs
+sub-send-whole-5 : tie.Need-sub-send-whole-5
+sub-send-whole-5 c = search needs
 
-part-send-start-5 : tie.Need-part-send-start-5
-part-send-start-5 c = search needs
+part-send-whole-start-5 : tie.Need-part-send-whole-start-5
+part-send-whole-start-5 c = search needs
 
-part-send-end-5 : tie.Need-part-send-end-5
-part-send-end-5 c = search needs
+part-send-whole-end-5 : tie.Need-part-send-whole-end-5
+part-send-whole-end-5 c = search needs
 
-send-requires : tie.Need-send-requires
-send-requires c κs = search needs
+send-whole-requires : tie.Need-send-whole-requires
+send-whole-requires c κs = search needs
 
 same-length : tie.Need-same-length
 same-length c = search needs
@@ -119,10 +113,10 @@ returns c =
     let e = c .before .before .before .before .before .before .before .before .before .before .before .before .before .before .before .before .before .before .before .before .before .before .before .before .before .before .before .before in
     let l = c .before .before .before .before .before .before .before .before .before .before .before .before .before .before .before .before .before .before .before .before .before .before .before .before .before .before .before .before .before .before .before .before .before .before in
     let a = c .before .before .before .before .before .before .before .before .before .before .before .before .before .before .before .before .before .before .before .before .before .before .before .before .before .before .before .before .before .before .before .before .before .before .before .before .before .before .before .before .before .before .before .args in
-    sent-in _ _ _ _ _ _ _ _
-    (frames-are (a .state .mode) _ _ (now (a .input)) _ (l .sender-lengths .ensures) _ _ _ _ _ _ _ (c .before .before .before .before .before .before .before .before .before .before .before .before .before .before .before .before .before .before .before .before .before .before .before .before .before .before .before .number-of .ensures)
+    sent-in _ _ _ _ _ _ _ _ _ _
+    (frames-are (a .state .mode) _ _ (now (a .input)) _ (l .sender-lengths .ensures) _ _ _ _ _ _ _ _ _ (c .before .before .before .before .before .before .before .before .before .before .before .before .before .before .before .before .before .before .before .before .before .before .before .before .before .before .before .number-of .ensures)
     (e .before .before .before .before .before .end-of .ensures .2) (e .before .before .before .before .end-of2 .ensures .2) (e .before .before .before .end-of3 .ensures .2) (e .before .before .end-of4 .ensures .2) (e .before .end-of5 .ensures .2) (e .end-of6 .ensures .2))
-    (c .before .before .before .before .before .before .before .before .before .before .before .before .before .before .send .ensures)
+    (c .before .before .before .before .before .before .before .before .before .before .before .before .before .before .send-whole .ensures)
 
 pub send-input-spec : {M : Type 1} → statement M
 send-input-spec =
@@ -136,27 +130,25 @@ send-input-spec =
     end-of-requires-3
     array-read-end-of-3
     end-of-requires-4
-    array-read-end-of-4
     end-of-requires-5
-    array-read-end-of-5
     end-of-requires-6
     number-of-requires
-    sub-send
-    part-send-start
-    part-send-end
-    sub-send-2
-    part-send-start-2
-    part-send-end-2
-    sub-send-3
-    part-send-start-3
-    part-send-end-3
-    sub-send-4
-    part-send-start-4
-    part-send-end-4
-    sub-send-5
-    part-send-start-5
-    part-send-end-5
-    send-requires
+    sub-send-whole
+    part-send-whole-start
+    part-send-whole-end
+    sub-send-whole-2
+    part-send-whole-start-2
+    part-send-whole-end-2
+    sub-send-whole-3
+    part-send-whole-start-3
+    part-send-whole-end-3
+    sub-send-whole-4
+    part-send-whole-start-4
+    part-send-whole-end-4
+    sub-send-whole-5
+    part-send-whole-start-5
+    part-send-whole-end-5
+    send-whole-requires
     same-length
     same-length-2
     same-length-3
