@@ -59,7 +59,7 @@ module _ (k : Main) (s : ℕ → Buffer) (fits : (t : ℕ) → length (s t) ≡ 
       let e : t + delayFrames k - delayFrames k ≡ t = omega arith in
       rw (le-ltb (t + delayFrames k) (delayFrames k) (omega arith), e)
 
-  goes-length : (t : ℕ) → length (goesOn t) ≡ p1Len k
+  pub goes-length : (t : ℕ) → length (goesOn t) ≡ p1Len k
   unfolding goesOn
   goes-length t = go (ltb t (delayFrames k))
     where

@@ -16,7 +16,7 @@ zeros-at zero j = refl
 zeros-at (suc n) zero = refl
 zeros-at (suc n) (suc j) = zeros-at n j
 
-or-zeros-bytes : (n : ℕ) (b : Buffer) → Bytes b → Bytes (orZeros n b)
+pub or-zeros-bytes : (n : ℕ) (b : Buffer) → Bytes b → Bytes (orZeros n b)
 or-zeros-bytes n [] h j = omega (arith, zeros-at n j)
 or-zeros-bytes n (x ∷ b) h j = h j
 

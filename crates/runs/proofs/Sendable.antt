@@ -22,7 +22,7 @@ use Rattle.runs.proofs.Succeeds.{send-succeeds}
 use Rattle.runs.proofs.Sender.{MemoryRight, framesIn, memory-right, zeros-right}
 use Rattle.runs.proofs.Readable.{start-clear}
 
-lending : ℕ → Frames → Lent
+pub lending : ℕ → Frames → Lent
 lending mode f =
     record {
       frames = f;
@@ -62,7 +62,7 @@ sentAfter : ℕ → Frames → List Frames → Result → List Frames
 sentAfter mode f fs r =
     framesIn mode (succeeded (record { lent = lending mode f; result = r } ∷ calls sendStep (r .state) (r .memory) (map (lending mode) fs)))
 
-send-each : (mode : ℕ) → covered mode ≡ true → (fs : List Frames) → Every (Fitting mode) fs → (z : ℕ) → z < 8 → (T : ℕ) (m : Memory) → MemoryRight senderLen mode m
+pub send-each : (mode : ℕ) → covered mode ≡ true → (fs : List Frames) → Every (Fitting mode) fs → (z : ℕ) → z < 8 → (T : ℕ) (m : Memory) → MemoryRight senderLen mode m
     → framesIn mode (succeeded (calls sendStep (stateAt mode z T) m (map (lending mode) fs))) ≡ fs
 unfolding calls succeeded sent sentAfter lending
 send-each mode cov [] each z hz T m mr = refl
@@ -73,7 +73,7 @@ send-each mode cov (f ∷ fs) each z hz T m mr =
     ∙ ap (λ (l : List Frames). f ∷ l)
     (send-each mode cov fs (each .1) (f .reserved) (each .0 .reserved-right) (suc T) (memoryNext mode (T % 2) m f) (memory-right mode cov T m f mr (each .0)))
 
-all-bytes : (mode : ℕ) (fs : List Frames) → Every (Fitting mode) fs → Every (λ (l : Lent). ByteFrames (l .frames)) (map (lending mode) fs)
+pub all-bytes : (mode : ℕ) (fs : List Frames) → Every (Fitting mode) fs → Every (λ (l : Lent). ByteFrames (l .frames)) (map (lending mode) fs)
 unfolding lending
 all-bytes mode [] each = tt
 all-bytes mode (f ∷ fs) each = (each .0 .bytes, all-bytes mode fs (each .1))

@@ -23,15 +23,15 @@ use Rattle.runs.specs.Answers.{numberOf, onSuccess}
 use Rattle.runs.specs.Causes.{Size, at, judge, when, wrong}
 use Rattle.runs.specs.Starting.{fresh, stateAt, memorySizes, zeros}
 use Rattle.runs.specs.Sending.{lentSizes, refused, sendAnswer, sendStep, sent}
-use Rattle.runs.specs.Runs.{Call, calls, succeeded, Every, Fitting, SenderRun, sendings, framesSent, signalsSent, noFrames, noSignal, count, frameAt, matricesAt, controlAt}
-use Rattle.runs.specs.Defined.{defined, table}
+use Rattle.runs.specs.Runs.{Call, calls, succeeded, Every, Fitting, SenderRun, sendings, framesSent, signalsSent, noFrames, noSignal, count, frameAt, matricesAt, controlAt, memoryAfter}
+use Rattle.runs.specs.Defined.{memoryBefore, defined, table}
 use Rattle.runs.proofs.PX.{memory-length}
 use Rattle.runs.proofs.PM.{scrambled-length}
 use Rattle.runs.proofs.Delay.{waiting-length}
 use Rattle.runs.proofs.Filled.{filled-bytes}
 use Rattle.runs.proofs.Lists.{length-map, table-at, table-shift}
 use Rattle.runs.proofs.Passing.{wrong-head}
-use Rattle.runs.proofs.States.{defined-shift, defined-start, definedFrom, fresh-at, memoryFrom, next-at, start-ok, valid-at}
+use Rattle.runs.proofs.States.{defined-shift, defined-start, definedFrom, fresh-at, memory-shift, memory-start, memoryFrom, next-at, start-ok, valid-at}
 
 lent-right : (mode : ℕ) (l : Lent) (rest : List Size) → l .frames .reserved < 8 → ByteFrames (l .frames) → wrong 0 (lentSizes mode l ++ rest) ≡ none → Fitting mode (l .frames)
 unfolding lentSizes
@@ -60,10 +60,18 @@ signalsIn ss = map (λ (c : Call). c .result .lent .signal) ss
 abbrev pub statesIn : List Call → List State
 statesIn ss = map (λ (c : Call). c .result .state) ss
 
+abbrev pub memoriesIn : List Call → List Memory
+memoriesIn ss = map (λ (c : Call). c .result .memory) ss
+
+-- past the end of a list of memories
+abbrev pub noMemory : Memory
+noMemory = record { for3 = []; for4 = []; delayed = [] }
+
 record Ran (mode T : ℕ) (m : Memory) (ss : List Call) : Type 0 where
   signals : signalsIn ss ≡ table 0 (length ss) (definedFrom mode T m (λ t. getD (framesIn mode ss) t noFrames))
   rights : (t : ℕ) → t < length ss → Fitting mode (getD (framesIn mode ss) t noFrames)
   states : (t : ℕ) → t < length ss → getD (statesIn ss) t (fresh mode) ≡ stateAt mode (getD (framesIn mode ss) t noFrames .reserved) (suc (T + t))
+  memories : (t : ℕ) → t < suc (length ss) → getD (m ∷ memoriesIn ss) t noMemory ≡ memoryFrom mode T m (λ t. getD (framesIn mode ss) t noFrames) t
 
 -- one more call that succeeded, in front
 ran-cons : (mode z T : ℕ) (m : Memory) (l : Lent) (ss : List Call) → Fitting mode (filled mode (l .frames))
@@ -78,6 +86,7 @@ ran-cons mode z T m l ss right ih =
         | zero ↦ λ h. next-at mode z (l .frames .reserved) T ∙ ap (λ (k : ℕ). stateAt mode (l .frames .reserved) (suc k)) (sym (add-zero T))
         | suc k ↦ λ h. ih .states k (le-of-suc-le-suc h) ∙ ap (λ (j : ℕ). stateAt mode (F (suc k) .reserved) (suc j)) (suc-add T k ∙ sym (add-suc T k))
       ];
+      memories = λ t. elim t [ zero ↦ λ h. refl | suc k ↦ λ h. ih .memories k (le-of-suc-le-suc h) ∙ sym (memory-shift mode T m F k) ];
     }
   where
     F : ℕ → Frames
@@ -103,7 +112,7 @@ memory-right mode cov t m f mr fr =
     }
 
 -- a sending in L1 frame T's state is refused for its number or a length, and then changes nothing, or it succeeds with right ones
-send-cases : (mode : ℕ) → covered mode ≡ true → (z : ℕ) → z < 8 → (T : ℕ) (m : Memory) (l : Lent) → ByteFrames (l .frames) → (A : Result → Type 0)
+pub send-cases : (mode : ℕ) → covered mode ≡ true → (z : ℕ) → z < 8 → (T : ℕ) (m : Memory) (l : Lent) → ByteFrames (l .frames) → (A : Result → Type 0)
     → A (refused (stateAt mode z T) m l ReservedTooHigh)
     → ((k : ℕ) → A (refused (stateAt mode z T) m l (WrongLength k)))
     → (Fitting mode (filled mode (l .frames)) → A (sent (stateAt mode z T) m l))
@@ -125,8 +134,14 @@ send-cases mode cov z hz T m l bytes A high bad good = rw (valid-at mode cov z h
 
 send-run : (mode : ℕ) → covered mode ≡ true → (ls : List Lent) → Every (λ (l : Lent). ByteFrames (l .frames)) ls
     → (z : ℕ) → z < 8 → (T : ℕ) (m : Memory) → MemoryRight senderLen mode m → Ran mode T m (succeeded (calls sendStep (stateAt mode z T) m ls))
-unfolding calls succeeded table sent filled
-send-run mode cov [] s z hz T m right = record { signals = refl; rights = λ t h. absurd (not-suc-le-zero h); states = λ t h. absurd (not-suc-le-zero h) }
+unfolding calls succeeded table sent filled memoryFrom
+send-run mode cov [] s z hz T m right =
+    record {
+      signals = refl;
+      rights = λ t h. absurd (not-suc-le-zero h);
+      states = λ t h. absurd (not-suc-le-zero h);
+      memories = λ t. elim t [ zero ↦ λ h. refl | suc k ↦ λ h. absurd (not-suc-le-zero (le-of-suc-le-suc h)) ];
+    }
 send-run mode cov (l ∷ ls) s z hz T m right =
     send-cases mode cov z hz T m l (s .0)
     (λ r. Ran mode T m
@@ -170,7 +185,17 @@ state-after mode a t h =
     sent-facts mode a .states t (rw (count-is mode a) at h)
     ∙ ap (λ (k : ℕ). stateAt mode (frameAt mode a t .reserved) (suc k)) (zero-add t)
 
-signal-at : (mode : ℕ) (a : SenderRun mode) (t : ℕ) → t < count mode a
+-- the memory that the start zeroed, and then the one that each sending returned
+pub memory-after : (mode : ℕ) (a : SenderRun mode) (t : ℕ) → t < suc (count mode a)
+    → getD (zeros senderLen mode ∷ memoriesIn (succeeded (sendings mode a))) t noMemory ≡ memoryBefore mode (frameAt mode a) t
+unfolding frameAt framesSent
+memory-after mode a t h = sent-facts mode a .memories t (rw (count-is mode a) at h) ∙ memory-start mode _ t
+
+pub memory-at : (mode : ℕ) (a : SenderRun mode) (t : ℕ) → t < suc (count mode a) → memoryAfter mode a t ≡ memoryBefore mode (frameAt mode a) t
+unfolding memoryAfter
+memory-at mode a t h = rw (start-ok senderLen mode (a .upon) (a .started) .1) (memory-after mode a t h)
+
+pub signal-at : (mode : ℕ) (a : SenderRun mode) (t : ℕ) → t < count mode a
     → getD (signalsSent mode a) t noSignal ≡ defined mode (frameAt mode a) t
 signal-at mode a t h =
     ap (λ (xs : List Signal). getD xs t noSignal) (as-defined-is mode a) ∙ table-at (count mode a) (defined mode (frameAt mode a)) noSignal t h

@@ -32,7 +32,7 @@ use Rattle.runs.proofs.Fixed.{matrixIn, matrix-of, memory-of, pm-at, px
 -- ---- an extended channel from a fresh start, L1 frame t bringing the frames A t
 
 module _ (k : Kind) (A : ℕ → Buffer) where
-  abbrev shown : ℕ → Buffer
+  abbrev pub shown : ℕ → Buffer
   shown = matrices k 0 (replicate (senderLen k) 0) A
 
   module _ (u : tableRow k < 2) (t c : ℕ) (l : c < bitsOf k) where
@@ -49,7 +49,7 @@ module _ (k : Kind) (A : ℕ → Buffer) where
     lh : t % 2 < 2
     lh = omega arith
 
-    coded-in : n ≤ t → bitAt (shown t) c ≡ codedOf k (A (t - n)) j
+    pub coded-in : n ≤ t → bitAt (shown t) c ≡ codedOf k (A (t - n)) j
     unfolding codedOf
     coded-in h =
         matrices-are k 0 (replicate (senderLen k) 0) A t c l
@@ -68,7 +68,7 @@ module _ (k : Kind) (A : ℕ → Buffer) where
         cell : later kind ((0 + (t - n)) % 2) j % codedBits kind ≡ c
         cell = mod-of (codedBits kind) n c _ at l
 
-    fill-in : min 2 t < n → bitAt (shown t) c ≡ 0
+    pub fill-in : min 2 t < n → bitAt (shown t) c ≡ 0
     fill-in h =
         fill-zero k A t c two l
         (rw (mod-eq-of-lt two) (unreached-when kind t c u two l ∙ lt-ltb t (earlier kind t c) (rw (mod-eq-of-lt two) at below)))
@@ -82,7 +82,7 @@ module _ (k : Kind) (A : ℕ → Buffer) where
 -- ---- the matrices of a run
 
 module _ (mode : ℕ) (F : ℕ → Frames) (e : Extended) where
-  memory-in : (t : ℕ) → memoryOf (memoryBefore mode F t) e ≡ memories (kindOf mode e) 0 (replicate (senderLen (kindOf mode e)) 0) (λ i. frameOf (F i) e) t
+  pub memory-in : (t : ℕ) → memoryOf (memoryBefore mode F t) e ≡ memories (kindOf mode e) 0 (replicate (senderLen (kindOf mode e)) 0) (λ i. frameOf (F i) e) t
   unfolding memoryBefore memories
   memory-in zero = elim e [ P3 ↦ refl | P4 ↦ refl ]
   memory-in (suc t) = memory-of mode (t % 2) (memoryBefore mode F t) (F t) e ∙ rw (zero-add t, memory-in t)

@@ -100,7 +100,7 @@ memoryFrom mode T m F (suc t) = memoryNext mode ((T + t) % 2) (memoryFrom mode T
 unfoldable pub definedFrom : ℕ → ℕ → Memory → (ℕ → Frames) → ℕ → Signal
 definedFrom mode T m F t = signalOf mode ((T + t) % 2) (memoryFrom mode T m F t) (F t)
 
-memory-shift : (mode T : ℕ) (m : Memory) (F : ℕ → Frames) (t : ℕ)
+pub memory-shift : (mode T : ℕ) (m : Memory) (F : ℕ → Frames) (t : ℕ)
     → memoryFrom mode T m F (suc t) ≡ memoryFrom mode (suc T) (memoryNext mode (T % 2) m (F 0)) (λ k. F (suc k)) t
 unfolding memoryFrom
 memory-shift mode T m F zero = ap (λ (k : ℕ). memoryNext mode (k % 2) m (F 0)) (add-zero T)
@@ -113,7 +113,7 @@ unfolding definedFrom
 defined-shift mode T m F t =
     ap₂ (λ (k : ℕ) (x : Memory). signalOf mode (k % 2) x (F (suc t))) (add-suc T t ∙ sym (suc-add T t)) (memory-shift mode T m F t)
 
-memory-start : (mode : ℕ) (F : ℕ → Frames) (t : ℕ)
+pub memory-start : (mode : ℕ) (F : ℕ → Frames) (t : ℕ)
     → memoryFrom mode 0 (zeros senderLen mode) F t ≡ memoryBefore mode F t
 unfolding memoryFrom memoryBefore
 memory-start mode F zero = refl

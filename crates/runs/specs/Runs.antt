@@ -92,3 +92,9 @@ matricesAt mode a t = getD (signalsSent mode a) t noSignal .matrices
 
 unfoldable pub controlAt : (mode : ℕ) → SenderRun mode → ℕ → Buffer
 controlAt mode a t = getD (signalsSent mode a) t noSignal .control
+
+-- the memory after t L1 frames: as the start left it, and then as each successful sending did
+unfoldable pub memoryAfter : (mode : ℕ) → SenderRun mode → ℕ → Memory
+memoryAfter mode a t =
+    getD (start senderLen mode (a .upon) .memory ∷ map (λ (c : Call). c .result .memory) (succeeded (sendings mode a))) t
+    (record { for3 = []; for4 = []; delayed = [] })

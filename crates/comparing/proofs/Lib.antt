@@ -1,0 +1,10 @@
+pub mod Defined
+pub mod Waiting
+pub mod Unsent
+pub mod Delay
+pub mod Steps
+pub mod Further
+pub mod Same
+pub mod LastBits
+pub mod Finer
+pub mod Likeness
