@@ -444,6 +444,24 @@ pub fn compare(mode: u64, count: u64, a: &[u8], b: &[u8]) -> Result<(), Stop> {
     Ok(())
 }
 
+/// Document 02, S-14: adds buffers of one length modulo 2, bit by bit.
+pub fn add(buffers: &[Vec<u8>], output: &mut impl Write) -> Result<(), Stop> {
+    let Some((first, others)) = buffers.split_first() else {
+        return Err(Stop::Usage);
+    };
+    if let Some(other) = others.iter().find(|other| other.len() != first.len()) {
+        let lengths = format!("lengths {} and {}", first.len(), other.len());
+        return Err(Stop::Different(lengths));
+    }
+    let mut sum = unpack(first);
+    for other in others {
+        for (bit, more) in sum.iter_mut().zip(unpack(other)) {
+            *bit = *bit != more;
+        }
+    }
+    Ok(output.write_all(&pack(&sum))?)
+}
+
 /// Document 01, lent lengths: the L1 frame, matrix, row and column of a bit of send's output.
 fn name_of_bit(mode: &Mode, bit: usize) -> String {
     let lengths = mode.matrix_lengths();

@@ -9,7 +9,7 @@ use second::modes::Without;
 use second::{cells, nearest, places, restoring, run::Refusal, vector};
 
 /// The commands with their operands.
-const COMMANDS: [(&str, &str); 24] = [
+const COMMANDS: [(&str, &str); 25] = [
     ("draw", "SEED MODE COUNT [without P3|P4|P3 P4]"),
     ("fill", "MODE COUNT [without P3|P4|P3 P4]"),
     ("send", "MODE COUNT [without P3|P4|P3 P4]"),
@@ -34,6 +34,7 @@ const COMMANDS: [(&str, &str); 24] = [
     ("draw-unread", "SEED"),
     ("vector", "MODE SYMBOL LOWER UPPER"),
     ("draw-scales", "SEED COUNT"),
+    ("add", "FILES"),
 ];
 
 /// No section: runs one command; 0 if it did its work, 1 if refused or different, 2 otherwise.
@@ -92,12 +93,15 @@ fn split_without<'a>(
 }
 
 /// The operands that are no whole numbers; they stand last.
-const WORDS: [&str; 4] = ["FILE_A", "FILE_B", "LOWER", "UPPER"];
+const WORDS: [&str; 5] = ["FILE_A", "FILE_B", "LOWER", "UPPER", FILES];
+
+/// The operand that stands for any number of files.
+const FILES: &str = "FILES";
 
 /// No section: the operands as numbers and words; none if they do not fit the usage.
 fn split<'a>(operands: &str, given: &'a [OsString]) -> Option<(Vec<u64>, &'a [OsString])> {
     let names: Vec<&str> = operands.split_whitespace().collect();
-    if names.len() != given.len() {
+    if names.len() != given.len() && !names.contains(&FILES) {
         return None;
     }
     let numbers = names.iter().filter(|name| !WORDS.contains(name)).count();
@@ -163,6 +167,10 @@ fn dispatch(
             commands::vector(mode, symbol, [lower, upper], &mut input, output)
         }
         ("draw-scales", &[seed, count]) => Ok(vector::drawn_scales(seed, count, output)?),
+        ("add", _) => {
+            let read: io::Result<Vec<Vec<u8>>> = files.iter().map(std::fs::read).collect();
+            commands::add(&read?, output)
+        }
         _ => Err(Stop::Trouble(io::Error::other("no such command"))),
     }
 }

@@ -88,7 +88,7 @@ fn sending_of(mode: u8, count: u64, without3: bool, without4: bool) -> Sending
 }
 
 // An argument of the program. One longer than the buffer is not taken as a number.
-fn operand(i: usize) -> Operand {
+pub fn operand(i: usize) -> Operand {
     let mut text = io::buffer();
     let n = os::arg(i, &mut text);
     operands::decimal(&text[..n])

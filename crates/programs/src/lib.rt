@@ -11,6 +11,7 @@ pub use buffers::write_two;
 pub use command_line::Arguments;
 pub use command_line::Sending;
 pub use command_line::argument_is;
+pub use command_line::operand;
 pub use command_line::read_arguments;
 pub use command_line::read_number;
 pub use command_line::read_sending;
