@@ -3,7 +3,7 @@ ghost use mathlib.Core.Path.{_≡_};
 ghost use mathlib.Core.List.{List};
 ghost use Prim.Native.Nat.{ℕ, _+_, _*_, _/_, _%_, _<_, _≤_};
 ghost use lib.ListN.{length};
-ghost use Rattle.bits.specs.Bits.{bitAt, packed, byteOf};
+ghost use Rattle.bits.specs.Bits.{bitAt, packed, byteOf, put as «put-bit»};
 ghost use Rattle.interleaving.specs.InverseIV.{missed as «missed-of», count, index};
 ghost use Rattle.interleaving.specs.PX.{partitions as «partitions-of», runs as «runs-of», codedBytes, codedBits, cells};
 ghost use Rattle.interleaving.specs.PX.{place as «place-of», stepOf, after, read, later as «later-of», isFill, firstFill};
@@ -207,6 +207,16 @@ fn cell_in_byte(
     entry(kind, at, parts[u], turn, n + counts[u])
 }
 
+// 10.2.2.2, one step: the coded bit b is written to cell c, and then cell i is read.
+fn exchange(memory: &mut [u8], c: usize, b: u8, i: usize) -> u8
+    requires { ⌜ (c < 8 * length (now memory)) × (b < 2) × (i < 8 * length (now memory)) ⌝ }
+    ensures { λ r. ⌜ bitAt (now (memory .exit)) ≡ «put-bit» c b (bitAt (now (memory .entry))) ⌝ }
+    ensures { λ r. ⌜ r ≡ bitAt (now (memory .exit)) i ⌝ }
+{
+    bits::put(memory, c, b);
+    bits::get(memory, i)
+}
+
 // 10.2.2.2, the eight steps of the byte j of an L1 frame: each writes its coded bit, and then reads the cell of its own number. The bits read, as a byte.
 fn exchange_byte(
     kind: usize,
@@ -229,8 +239,7 @@ fn exchange_byte(
     while u < 8 {
         let c = cell_in_byte(kind, at, parts, counts, t.turn, t.entry, u);
         let b = bits::get(coded, 8 * j + u);
-        bits::put(memory, c, b);
-        a = (a << 1) | bits::get(memory, 8 * q + u);
+        a = (a << 1) | exchange(memory, c, b, 8 * q + u);
         u += 1;
     }
     a

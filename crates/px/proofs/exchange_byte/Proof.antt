@@ -50,24 +50,25 @@ add-get c = omega (arith, codedBytes-le (c .before .before .before .before .befo
 get-requires : tie.Need-get-requires Inv-loop μ-loop
 get-requires c κs = search needs
 
-put-requires : tie.Need-put-requires Inv-loop μ-loop
-put-requires c κs =
+mul-exchange : tie.Need-mul-exchange Inv-loop μ-loop
+mul-exchange c =
+    let start = c .before .before .before .before .before .before .before .before .before in
+    omega (arith, c .before .before .before .before .before .before .byte-of .ensures .1, codedBytes-le (start .args .kind) (start .pre .0 .0))
+
+add-exchange : tie.Need-add-exchange Inv-loop μ-loop
+add-exchange c =
+    let start = c .before .before .before .before .before .before .before .before .before in
+    omega (arith, c .before .before .before .before .before .before .byte-of .ensures .1, codedBytes-le (start .args .kind) (start .pre .0 .0))
+
+exchange-requires : tie.Need-exchange-requires Inv-loop μ-loop
+exchange-requires c κs =
     let start = c .before .before .before .before .before .before .before .before .before in
     let a = start .args in
     let q = c .before .before .before .before .before .before .byte-of in
     let u = c .before .before .before .before .loop .u in
     let below : 8 * q .result + u < cells (a .kind) = omega (arith, q .ensures .1) in
     let cell = c .before .before .cell-in-byte .ensures (q .result) (c .before .before .before .before .before .turn-of .ensures .0) in
-    (omega (arith, place-lt (a .kind) (start .pre .0 .0) (8 * q .result + u) below), omega (arith, bitAt-lt (a .coded .now) (8 * a .j + u)))
-
-mul-get-2 : tie.Need-mul-get-2 Inv-loop μ-loop
-mul-get-2 c = omega (arith, c .before .before .before .before .before .before .before .before .before .before .byte-of .ensures .1, codedBytes-le (c .before .before .before .before .before .before .before .before .before .before .before .before .before .args .kind) (c .before .before .before .before .before .before .before .before .before .before .before .before .before .pre .0 .0))
-
-add-get-2 : tie.Need-add-get-2 Inv-loop μ-loop
-add-get-2 c = omega (arith, c .before .before .before .before .before .before .before .before .before .before .byte-of .ensures .1, codedBytes-le (c .before .before .before .before .before .before .before .before .before .before .before .before .before .args .kind) (c .before .before .before .before .before .before .before .before .before .before .before .before .before .pre .0 .0))
-
-get-requires-2 : tie.Need-get-requires-2 Inv-loop μ-loop
-get-requires-2 c κs = search needs
+    (omega (arith, place-lt (a .kind) (start .pre .0 .0) (8 * q .result + u) below), omega (arith, bitAt-lt (a .coded .now) (8 * a .j + u)), omega arith)
 
 add-u : tie.Need-add-u Inv-loop μ-loop
 add-u c = search needs
@@ -77,15 +78,16 @@ loop-less c = search needs
 
 loop-again : tie.Need-loop-again Inv-loop μ-loop
 loop-again c =
-    let a = c .before .before .before .before .before .before .before .before .before .before .before .before .before .before .args in
-    let loop = c .before .before .before .before .before .before .before .before .before .loop in
+    let loop-c = c .before .before .before .before .before .before .before in
+    let loop = loop-c .loop in
+    let a = loop-c .before .before .before .before .before .args in
     let n : ℕ = 8 * a .j + loop .u in
-    let q = c .before .before .before .before .before .before .before .before .before .before .before .byte-of in
+    let q = loop-c .before .before .byte-of in
     let i : 8 * q .result + loop .u ≡ stepOf (a .kind) (a .half) n = omega (arith, q .ensures .0) in
-    let cell = c .before .before .before .before .before .before .before .cell-in-byte .ensures (q .result) (c .before .before .before .before .before .before .before .before .before .before .turn-of .ensures .0) ∙ ap (place (a .kind)) i in
-    let bit = c .before .before .before .before .before .before .get .ensures in
-    let stored = c .before .before .before .before .put .ensures in
-    let read-cell = c .get2 .ensures ∙ ap (λ (g : ℕ → ℕ). g (8 * q .result + loop .u)) stored in
+    let cell = c .before .before .before .before .before .cell-in-byte .ensures (q .result) (loop-c .before .turn-of .ensures .0) ∙ ap (place (a .kind)) i in
+    let bit = c .before .before .before .before .get .ensures in
+    let stored = c .before .before .exchange .ensures .0 in
+    let read-cell = c .before .before .exchange .ensures .1 ∙ ap (λ (g : ℕ → ℕ). g (8 * q .result + loop .u)) stored in
     let f = bitAt (a .coded .now) in
     let next : 8 * a .j + (loop .u + 1) ≡ n + 1 = omega arith in (
       search needs,
@@ -120,10 +122,9 @@ exchange-byte-spec =
     mul-get
     add-get
     get-requires
-    put-requires
-    mul-get-2
-    add-get-2
-    get-requires-2
+    mul-exchange
+    add-exchange
+    exchange-requires
     add-u
     loop-less
     loop-again
