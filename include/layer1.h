@@ -107,6 +107,10 @@ size_t layer1_reader_length(uint8_t mode, size_t place);
 /* Whose coded bit stands in a cell of PM, in the modes without P2. Returns a finding word. */
 uint64_t layer1_find(size_t row, size_t column);
 
+/* Where a row and a column of PM stand (document 02, S-3): block, row in the block, partition and column in the partition. Refused as
+ * layer1_find is. Returns a position word. */
+uint64_t layer1_place_of(size_t row, size_t column);
+
 /* Whose coded bit stands in a cell of PX1 (channel 3) or PX2 (channel 4), in a block pair's matrix, of the L1 frame that this state comes
  * before. Returns a finding word. Refused under 3: a channel that the mode does not have, or any in MP5 and MP6, at place 0, the block pair
  * at 1, the row at 2, the column at 3. */
@@ -176,6 +180,13 @@ static inline unsigned layer1_found_frame(uint64_t word) { return word >> 16 & 0
 static inline unsigned layer1_found_before(uint64_t word) { return word >> 24 & 0xff; }
 static inline unsigned layer1_found_place(uint64_t word) { return word >> 32 & 0xff; }
 static inline uint32_t layer1_found_bit(uint64_t word) { return (uint32_t)(word >> 40); }
+
+/* A position word. */
+static inline unsigned layer1_placed_block(uint64_t word) { return word >> 8 & 0xff; }
+static inline unsigned layer1_placed_row(uint64_t word) { return word >> 16 & 0xff; }
+static inline unsigned layer1_placed_partition(uint64_t word) { return word >> 24 & 0xff; }
+static inline unsigned layer1_placed_place(uint64_t word) { return word >> 32 & 0xff; }
+static inline unsigned layer1_placed_column(uint64_t word) { return (unsigned)(word >> 40); }
 
 /* A lookup word. */
 static inline uint8_t layer1_looked_up_mode(uint64_t word) { return (uint8_t)(word >> 8); }

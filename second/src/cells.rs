@@ -4,7 +4,7 @@ use std::io::{self, BufRead, Write};
 use std::sync::OnceLock;
 
 use crate::interleaving::{
-    pm_matrix, ALL_PIDS_CODED_BITS, PIDS_CODED_BITS, PM_COLUMNS, PM_ROWS, U_BITS,
+    pm_matrix, pm_position, ALL_PIDS_CODED_BITS, PIDS_CODED_BITS, PM_COLUMNS, PM_ROWS, U_BITS,
 };
 
 /// The channels that meet in the PM matrix.
@@ -61,6 +61,39 @@ pub fn find(row: usize, column: usize) -> Found {
         channel: owner.map(|(channel, _, _)| channel),
         frame: owner.map_or(0, |(_, frame, _)| frame),
         bit: owner.map_or(0, |(_, _, bit)| bit),
+    }
+}
+
+/// Document 02, S-3: block, row in the block, partition and column in the partition; zeros when
+/// it is refused.
+#[derive(Clone, Copy, Debug, Default, PartialEq, Eq)]
+pub struct Placed {
+    pub number: u32,
+    pub place: usize,
+    pub block: usize,
+    pub row: usize,
+    pub partition: usize,
+    pub column: usize,
+}
+
+/// Document 02, S-3: where a PM row and column stand, refused as by the cell finder.
+pub fn place_of(row: usize, column: usize) -> Placed {
+    let found = find(row, column);
+    if found.number != 0 {
+        return Placed {
+            number: found.number,
+            place: found.place,
+            ..Placed::default()
+        };
+    }
+    let [block, row, partition, column] = pm_position(row, column);
+    Placed {
+        number: 0,
+        place: 0,
+        block,
+        row,
+        partition,
+        column,
     }
 }
 

@@ -120,6 +120,18 @@ pub fn interleaver_two(i: usize) -> usize {
     PM.cell(partition, block, k)
 }
 
+/// Document 02, S-3: the block that holds a row of PM and the row in it, the partition that holds
+/// a column and the column in it.
+pub fn pm_position(row: usize, column: usize) -> [usize; 4] {
+    let (block, partition) = (row / BLOCK_ROWS, column / PM.columns);
+    [
+        block,
+        row - block * BLOCK_ROWS,
+        partition,
+        column - partition * PM.columns,
+    ]
+}
+
 /// Section 10.4.1: the PM cells of all bits of U and then of all PIDS bits, worked out once.
 pub fn pm_cells() -> &'static [usize] {
     static CELLS: OnceLock<Vec<usize>> = OnceLock::new();

@@ -3,7 +3,7 @@
 mod common;
 
 use common::{Buffers, MODES};
-use second::cells::{find, list, Channel};
+use second::cells::{find, list, place_of, Channel, Placed};
 use second::coding::{decode, encode, Rate};
 use second::control::{block, control, differential, lookup, sequence, COLUMNS};
 use second::draw::Draw;
@@ -55,6 +55,35 @@ fn every_pm_cell_once() {
         written[cell] += 1;
     }
     assert!(written.iter().all(|&times| times == 1));
+}
+
+/// Document 02, S-3: blocks of 32 rows below each other, partitions of 36 columns side by side.
+#[test]
+fn positions_of_pm() {
+    for cell in 0..16 * 32 * 20 * 36 {
+        let (block, row) = (cell / 36 / 20 / 32, cell / 36 / 20 % 32);
+        let (partition, column) = (cell / 36 % 20, cell % 36);
+        let expected = Placed {
+            number: 0,
+            place: 0,
+            block,
+            row,
+            partition,
+            column,
+        };
+        assert_eq!(
+            place_of(32 * block + row, 36 * partition + column),
+            expected
+        );
+    }
+    for (row, column, place) in [(512, 720, 0), (0, 720, 1), (usize::MAX, 0, 0)] {
+        let expected = Placed {
+            number: 3,
+            place,
+            ..Placed::default()
+        };
+        assert_eq!(place_of(row, column), expected, "row {row} column {column}");
+    }
 }
 
 /// Probe points: entries of the MP3 partitions.

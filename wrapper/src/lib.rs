@@ -100,6 +100,23 @@ pub struct Found {
     pub bit: u32,
 }
 
+/// Document 02, S-3: where a row and a column of PM stand.
+#[derive(Clone, Copy, Debug, PartialEq, Eq)]
+pub struct Position {
+    pub block: u8,
+    pub row: u8,
+    pub partition: u8,
+    pub column: u8,
+}
+
+/// The position of a row and a column of PM; zeros when refused.
+#[derive(Clone, Copy, Debug, PartialEq, Eq)]
+pub struct Placed {
+    pub number: u8,
+    pub place: u8,
+    pub position: Position,
+}
+
 /// What stands in a cell of PX1 or PX2.
 #[derive(Clone, Copy, Debug, PartialEq, Eq)]
 pub enum Content {
@@ -324,6 +341,22 @@ pub fn find(row: usize, column: usize) -> Found {
         },
         frame: byte(word, 16),
         bit: (word >> 40) as u32,
+    }
+}
+
+/// Gives block, row in the block, partition and column in the partition of a row and a column of PM.
+pub fn place_of(row: usize, column: usize) -> Placed {
+    // SAFETY: only numbers cross.
+    let word = unsafe { raw::layer1_place_of(row, column) };
+    Placed {
+        number: byte(word, 0),
+        place: byte(word, 32),
+        position: Position {
+            block: byte(word, 8),
+            row: byte(word, 16),
+            partition: byte(word, 24),
+            column: byte(word, 40),
+        },
     }
 }
 

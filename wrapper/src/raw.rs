@@ -89,6 +89,7 @@ extern "C" {
     pub fn layer1_sender_length(mode: u8, place: usize) -> usize;
     pub fn layer1_reader_length(mode: u8, place: usize) -> usize;
     pub fn layer1_find(row: usize, column: usize) -> u64;
+    pub fn layer1_place_of(row: usize, column: usize) -> u64;
     pub fn layer1_find_px(
         mode: u8,
         half: u8,

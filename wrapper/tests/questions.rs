@@ -3,7 +3,7 @@
 mod common;
 
 use common::{drawn, drawn_number, seed, valid, MODES, PM, PX1, PX2, TWO_PATHS};
-use layer1::{Channel, Content, Found, FoundPx, LookedUp, Side, State};
+use layer1::{Channel, Content, Found, FoundPx, LookedUp, Placed, Position, Side, State};
 use second::draw::Draw;
 use second::interleaving::PxRow;
 use second::modes::Mode;
@@ -28,6 +28,32 @@ fn cells_of_pm() {
             };
             assert_eq!(
                 layer1::find(row, column),
+                expected,
+                "row {row} column {column}"
+            );
+        }
+    }
+}
+
+/// All rows and columns of PM, and those around its borders.
+#[test]
+fn places_of_pm() {
+    let far = [usize::MAX / 720, 1 << 32, usize::MAX];
+    for row in (0..514).chain(far) {
+        for column in (0..722).chain(far) {
+            let theirs = second::cells::place_of(row, column);
+            let expected = Placed {
+                number: theirs.number as u8,
+                place: theirs.place as u8,
+                position: Position {
+                    block: theirs.block as u8,
+                    row: theirs.row as u8,
+                    partition: theirs.partition as u8,
+                    column: theirs.column as u8,
+                },
+            };
+            assert_eq!(
+                layer1::place_of(row, column),
                 expected,
                 "row {row} column {column}"
             );

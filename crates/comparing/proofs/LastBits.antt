@@ -18,7 +18,7 @@ use Rattle.scrambling.specs.Scrambler.{sequence, scrambled}
 use Rattle.coding.specs.Coder.{Pattern, back, output, kept, coded, rate12}
 use Rattle.coding.specs.Channel.{channel}
 use Rattle.coding.proofs.Coder.{tapped-same}
-use Rattle.interleaving.specs.Matrix.{cell}
+use Rattle.interleaving.specs.Matrix.{cell, cellOf, matrixColumn, matrixRow}
 use Rattle.interleaving.specs.EquationsIV as IV
 use Rattle.interleaving.specs.InverseIV.{missed}
 use Rattle.interleaving.specs.PX.{v4, partitions, runs, order, codedBytes, codedBits, place, later}
@@ -121,7 +121,7 @@ later-by j =
     (ap (λ (n : ℕ). j + (cell 4 36 p (IV.blockAt 4 32 36 2 v4 p n) (IV.rowAt 4 32 36 2 v4 n) (IV.columnAt 4 32 36 2 v4 n) + 147456 - j) % 147456) (counted j))
 
 last-wait : T (all 16 (λ i. ltb 73727 (73712 + i + (placeBy (73712 + i) + 147456 - (73712 + i)) % 147456)))
-unfolding all placeBy counterBy IV.partition IV.partIndex IV.blockAt IV.rowAt IV.columnAt cell v4
+unfolding all placeBy counterBy IV.partition IV.partIndex IV.blockAt IV.rowAt IV.columnAt cell cellOf matrixRow matrixColumn v4
 last-wait = tt
 
 pub late : (j : ℕ) → 73712 ≤ j → j < 73728 → 73728 ≤ later 1 0 j

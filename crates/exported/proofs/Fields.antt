@@ -10,12 +10,13 @@ use Rattle.runs.specs.declared.State.{State}
 use Rattle.runs.specs.Answers.{numberOf, placeOf}
 use Rattle.queries.specs.Finder.{Channel, none, p1, pids}
 use Rattle.queries.specs.Finder as Finder
+use Rattle.queries.specs.Places as Places
 use Rattle.queries.specs.FinderPX.{Content, none as nothing, coded, fill}
 use Rattle.queries.specs.FinderPX as FinderPX
 use Rattle.queries.specs.Lookup as Lookup
 use Rattle.queries.specs.LookupFrame as LookupFrame
-use Rattle.exported.specs.Words.{answerWord, channelNumber, contentNumber, numberRead, outcomeWord, foundWord, foundPxWord, lookedUpWord, lookedUpFrameWord}
-use Rattle.exported.proofs.Findings.{Small, SmallPX}
+use Rattle.exported.specs.Words.{answerWord, channelNumber, contentNumber, foundPxWord, foundWord, lookedUpFrameWord, lookedUpWord, numberRead, outcomeWord, placedWord}
+use Rattle.exported.proofs.Findings.{Small, SmallPlace, SmallPX}
 
 pub number-lt : (a : Answer) → numberOf a < 2 ^ 8
 number-lt Success = omega arith
@@ -83,6 +84,20 @@ unfolding foundWord
 found-fields v n (p, f, b) =
     let c = channel-lt (v .channel) in
     (omega arith, omega arith, omega arith, omega arith, omega arith)
+
+pub placed-fields : (v : Places.Values) → v .number < 2 ^ 8 → SmallPlace v
+    → (placedWord v % 2 ^ 8 ≡ v .number)
+    × (byte (placedWord v) (2 ^ 8) ≡ v .position .block)
+    × (byte (placedWord v) (2 ^ 16) ≡ v .position .row)
+    × (byte (placedWord v) (2 ^ 24) ≡ v .position .partition)
+    × (byte (placedWord v) (2 ^ 32) ≡ v .place)
+    × (placedWord v / 2 ^ 40 ≡ v .position .column)
+unfolding placedWord
+placed-fields v n (p, at) =
+    let b = at .block-lt in
+    let r = at .row-lt in
+    let q = at .partition-lt in
+    (omega arith, omega arith, omega arith, omega arith, omega arith, omega arith)
 
 pub found-px-fields : (v : FinderPX.Values) → v .number < 2 ^ 8 → SmallPX v
     → (foundPxWord v % 2 ^ 8 ≡ v .number)

@@ -3,13 +3,15 @@ use Prim.Native.Nat.{ℕ, _+_, _*_, _/_, _%_, _^_, _<_, _≤_}
 use mathlib.Core.Path.{_≡_, refl}
 use mathlib.Core.Bool.{Bool, true, false, cond, true≢false}
 use mathlib.Core.List.{List}
+use native.Mathlib.Decide.{decLt}
 use native.Mathlib.Omega.{arith}
 use lib.Dec.{eqb, ltb}
 use lib.ListN.{length}
 use borrow.Author.Tests.{ltb-true}
 use Rattle.interleaving.specs.FinderPM.{source}
 use Rattle.interleaving.specs.Source.{Source, Either, first, second}
-use Rattle.interleaving.proofs.OncePM.{pm-each-once}
+use Rattle.interleaving.specs.Matrix.{Inside, positionAt}
+use Rattle.interleaving.proofs.PositionsPM.{positions-pm}
 use Rattle.control.specs.declared.Looked.{Looked}
 use Rattle.control.specs.declared.Looked.the-variants.{Found, NotABlock}
 use Rattle.control.specs.Lookup.{lookedUp}
@@ -38,6 +40,9 @@ use Rattle.queries.specs.Finder.{found, told, values}
 use Rattle.queries.specs.Lookup.{lookupOf, values as valuesOfBlock, told as toldOfBlock}
 use Rattle.queries.specs.LookupFrame.{lookupFrameOf, values as valuesOfFrame, told as toldOfFrame}
 use Rattle.queries.specs.Finder as Finder
+use Rattle.queries.specs.Places.{placed}
+use Rattle.queries.specs.Places as Places
+use Rattle.queries.proofs.Placing.{row-out, column-out, within, found-row-out, found-column-out, found-within}
 
 abbrev pub Small : Finder.Values → Type 0
 Small v = (v .place < 2 ^ 8) × (v .frame < 2 ^ 8) × (v .bit < 2 ^ 24)
@@ -46,16 +51,37 @@ told-small : (s : Source) → Either 365440 3200 s → Small (values (told s))
 told-small (first i) h = (omega arith, omega arith, omega arith)
 told-small (second i) h = (omega arith, omega arith, omega arith)
 
+refused-row-column : (row column : ℕ) {A : Type 0} → (512 ≤ row → A) → (row < 512 → 720 ≤ column → A) → (row < 512 → column < 720 → A) → A
+refused-row-column row column low high within =
+    elim (decLt row 512) [
+      | no h ↦ low (omega arith)
+      | yes h ↦ elim (decLt column 720) [
+        | no l ↦ high h (omega arith)
+        | yes l ↦ within h l
+      ]
+    ]
+
 pub found-small : (row column : ℕ) → Small (values (found row column))
-unfolding found
-found-small row column = go (ltb row 512) (ltb column 720) refl refl
-  where
-    go : (t u : Bool) → ltb row 512 ≡ t → ltb column 720 ≡ u
-        → Small (values (cond t (cond u (told (source (row * 720 + column))) (Refused (WrongLength 1))) (Refused (WrongLength 0))))
-    go true true e f =
-        told-small (source (row * 720 + column)) (pm-each-once .back _ (omega (arith, ltb-true row 512 e, ltb-true column 720 f)))
-    go true false e f = (omega arith, omega arith, omega arith)
-    go false u e f = (omega arith, omega arith, omega arith)
+found-small row column =
+    refused-row-column row column
+    (λ h. rw (found-row-out row column h) (omega arith, omega arith, omega arith))
+    (λ h l. rw (found-column-out row column h l) (omega arith, omega arith, omega arith))
+    (λ h l. rw (found-within row column h l) (told-small (source (positionAt 36 row column)) (positions-pm .once .back _ (positions-pm .inside row column h l))))
+
+-- ---- the position of a row and a column
+
+abbrev pub SmallPlace : Places.Values → Type 0
+SmallPlace v = (v .place < 2 ^ 8) × Inside 20 16 36 (v .position)
+
+zeros : Inside 20 16 36 (record { block = 0; row = 0; partition = 0; column = 0 })
+zeros = record { block-lt = omega arith; row-lt = omega arith; partition-lt = omega arith; column-lt = omega arith }
+
+pub placed-small : (row column : ℕ) → SmallPlace (Places.values (placed row column))
+placed-small row column =
+    refused-row-column row column
+    (λ h. rw (← row-out row column h) (omega arith, zeros))
+    (λ h l. rw (← column-out row column h l) (omega arith, zeros))
+    (λ h l. rw (← within row column h l) (omega arith, positions-pm .inside row column h l))
 
 -- ---- PX1 and PX2
 

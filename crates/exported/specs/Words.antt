@@ -10,6 +10,7 @@ use Rattle.runs.specs.declared.State.{State}
 use Rattle.runs.specs.Answers.{numberOf, placeOf}
 use Rattle.queries.specs.Finder.{Channel, none, p1, pids}
 use Rattle.queries.specs.Finder as Finder
+use Rattle.queries.specs.Places as Places
 use Rattle.queries.specs.FinderPX.{Content, none as nothing, coded, fill}
 use Rattle.queries.specs.FinderPX as FinderPX
 use Rattle.queries.specs.Lookup as Lookup
@@ -32,6 +33,12 @@ channelNumber pids = 2
 -- the cell finder of PM
 unfoldable pub foundWord : Finder.Values → ℕ
 foundWord v = v .number + 2 ^ 8 * channelNumber (v .channel) + 2 ^ 16 * v .frame + 2 ^ 32 * v .place + 2 ^ 40 * v .bit
+
+-- the position of a row and a column of PM
+unfoldable pub placedWord : Places.Values → ℕ
+placedWord v =
+    let p = v .position in
+    v .number + 2 ^ 8 * p .block + 2 ^ 16 * p .row + 2 ^ 24 * p .partition + 2 ^ 32 * v .place + 2 ^ 40 * p .column
 
 -- what stands in a cell of PX1 or PX2
 abbrev pub contentNumber : Content → ℕ

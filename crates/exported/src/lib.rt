@@ -18,6 +18,7 @@ pub use questions::layer1_find;
 pub use questions::layer1_find_px;
 pub use questions::layer1_lookup;
 pub use questions::layer1_lookup_frame;
+pub use questions::layer1_place_of;
 pub use reads::layer1_read;
 pub use restored::layer1_restore;
 pub use rows::layer1_pm_row;

@@ -1,16 +1,18 @@
-// Documents 01 and 02: the cell finders, and what a control block or the sixteen of an L1 frame say.
+// Documents 01 and 02: the cell finders, where a row and a column of PM stand, and what a control block or the sixteen of an L1 frame say.
 use crate::words::found_px_word;
 use crate::words::found_word;
 use crate::words::looked_up_frame_word;
 use crate::words::looked_up_word;
+use crate::words::placed_word;
 use layer1::State;
 ghost use mathlib.Core.Path.{_≡_};
 ghost use Rattle.queries.specs.Finder.{found, values};
+ghost use Rattle.queries.specs.Places.{placed, values as valuesOfPlace};
 ghost use Rattle.queries.specs.FinderPX.{foundPX, values as valuesPX};
 ghost use Rattle.queries.specs.Lookup.{lookupOf, values as valuesOfBlock};
 ghost use Rattle.queries.specs.LookupFrame.{lookupFrameOf, values as valuesOfFrame};
 ghost use Rattle.exported.specs.Left.{stateOf};
-ghost use Rattle.exported.specs.Words.{foundPxWord, foundWord, lookedUpFrameWord, lookedUpWord};
+ghost use Rattle.exported.specs.Words.{foundPxWord, foundWord, lookedUpFrameWord, lookedUpWord, placedWord};
 
 // Whose coded bit stands in a cell of PM.
 #[no_mangle]
@@ -19,6 +21,15 @@ pub extern "C" fn layer1_find(row: usize, column: usize) -> u64
 {
     let cell = layer1::find(row, column);
     found_word(cell)
+}
+
+// Where a row and a column of PM stand.
+#[no_mangle]
+pub extern "C" fn layer1_place_of(row: usize, column: usize) -> u64
+    ensures { λ r. ⌜ r ≡ placedWord (valuesOfPlace (placed row column)) ⌝ }
+{
+    let place = layer1::place_of(row, column);
+    placed_word(place)
 }
 
 // Whose coded bit stands in a cell of PX1 (channel 3) or PX2 (channel 4) of the L1 frame that a state comes before.

@@ -4,6 +4,7 @@ use layer1::Found;
 use layer1::FoundPx;
 use layer1::LookedUp;
 use layer1::LookedUpFrame;
+use layer1::Placed;
 use layer1::State;
 use layer1::number;
 use layer1::place;
@@ -14,10 +15,12 @@ ghost use lib.Dec.{eqb};
 ghost use lib.ListN.{length};
 ghost use Rattle.runs.specs.Answers.{numberOf, placeOf};
 ghost use Rattle.queries.specs.Finder.{values};
+ghost use Rattle.queries.specs.Places.{values as valuesOfPlace};
+ghost use Rattle.interleaving.specs.Matrix.{Inside};
 ghost use Rattle.queries.specs.FinderPX.{values as valuesPX};
 ghost use Rattle.queries.specs.Lookup.{values as valuesOfBlock};
 ghost use Rattle.queries.specs.LookupFrame.{values as valuesOfFrame};
-ghost use Rattle.exported.specs.Words.{answerWord, eightOf, foundPxWord, foundWord, lookedUpFrameWord, lookedUpWord, numberRead, outcomeWord, rowWord};
+ghost use Rattle.exported.specs.Words.{answerWord, eightOf, foundPxWord, foundWord, lookedUpFrameWord, lookedUpWord, numberRead, outcomeWord, placedWord, rowWord};
 
 // The word of a start, a sending or a reading.
 pub fn outcome_word(answer: Answer, state: State) -> u64
@@ -41,6 +44,23 @@ pub fn found_word(cell: Found) -> u64
             512 + 65536 * (frame as u64) + 1099511627776 * (bit as u64)
         }
         Found::Refused { answer } => number(answer) as u64 + 4294967296 * (place(answer) as u64),
+    }
+}
+
+// The word of a position.
+pub fn placed_word(found: Placed) -> u64
+    requires { ⌜ (valuesOfPlace found .place < 2 ^ 8) × Inside 20 16 36 (valuesOfPlace found .position) ⌝ }
+    ensures { λ r. ⌜ r ≡ placedWord (valuesOfPlace found) ⌝ }
+{
+    match found {
+        Placed::At { position } => {
+            let low = 256 * (position.block as u64) + 65536 * (position.row as u64);
+            let high = 16777216 * (position.partition as u64);
+            low + high + 1099511627776 * (position.column as u64)
+        }
+        Placed::Refused { answer } => {
+            number(answer) as u64 + 4294967296 * (place(answer) as u64)
+        }
     }
 }
 

@@ -8,6 +8,7 @@ use Rattle.bits.specs.Once.{EachOnce, Below}
 use Rattle.bits.specs.Tests.{all}
 use Rattle.bits.proofs.Once.{new, read-written}
 use Rattle.bits.proofs.Written.{written-lt, written-zero}
+use Rattle.interleaving.specs.Matrix.{positionOf}
 use Rattle.interleaving.specs.EquationsI as I
 use Rattle.interleaving.specs.PX.{v4}
 use Rattle.interleaving.specs.PX2.{partitions, runs, v8, order, frameBits, place, matrix}
@@ -25,8 +26,8 @@ perm8 = permutes 8 v8 v8 tt tt
 
 -- the bit of a cell of one matrix
 unfoldable pub sourceIn : (row c : ℕ) → ℕ
-sourceIn zero c = sourceBy (More.assignment 4 36 2 v4 v4) 4 4 c
-sourceIn (suc row) c = sourceBy (One.assignment 8 2 36 v8 v8) 8 4 c
+sourceIn zero c = sourceBy (More.assignment 4 36 2 v4 v4) 4 (positionOf 4 36 c)
+sourceIn (suc row) c = sourceBy (One.assignment 8 2 36 v8 v8) 4 (positionOf 8 36 c)
 
 pub one-each-once : (row : ℕ) → row < 2
     → EachOnce (Below (frameBits row)) (frameBits row) (I.place (partitions row) 2 36 (runs row) (order row)) (sourceIn row)

@@ -7,7 +7,7 @@ use Rattle.bits.proofs.Written.{written-lt, written-mem}
 use Rattle.bits.proofs.Packed.{bitAt-packed, packed-cong}
 use Rattle.interleaving.specs.Source.{Source, first, second, at, Either}
 use Rattle.interleaving.specs.PM.{p1Place, pidsPlace, matrix}
-use Rattle.interleaving.specs.FinderPM.{source}
+use Rattle.interleaving.specs.FinderPM.{sourceIn}
 use Rattle.interleaving.proofs.OncePM.{place, pm-each-once, filled}
 
 -- the second pass over what the first left in the buffer
@@ -23,7 +23,7 @@ both-passes p1 pids m hp hm =
 -- a matrix whose bits were read, each at its cell, is written again
 pub matrix-again : (x : ℕ → ℕ) (c : ℕ) → c < 368640 → matrix (λ i. x (p1Place i)) (λ i. x (pidsPlace i)) c ≡ x c
 unfolding matrix
-matrix-again x c h = filled _ _ (λ c. 0) c h ∙ each (source c) ∙ ap x (pm-each-once .back-there c h)
+matrix-again x c h = filled _ _ (λ c. 0) c h ∙ each (sourceIn c) ∙ ap x (pm-each-once .back-there c h)
   where
     each : (s : Source) → at (λ i. x (p1Place i)) (λ i. x (pidsPlace i)) s ≡ x (place s)
     each (first i) = refl

@@ -8,10 +8,9 @@ use lib.ListN.{getD}
 use Rattle.bits.specs.Tests.{all}
 use Rattle.bits.proofs.Tests.{all-at, both}
 use Rattle.interleaving.specs.EquationsI.{row, column}
-use Rattle.interleaving.specs.Matrix.{rowOf, columnOf}
-use Rattle.interleaving.specs.InverseI.{kAt, kOfCell}
+use Rattle.interleaving.specs.declared.Position.{Position}
+use Rattle.interleaving.specs.InverseI.{kAt, kOfPosition}
 use Rattle.interleaving.specs.TableI.{ks, kFor, Together}
-use Rattle.interleaving.proofs.Matrix.{rowOf-lt, columnOf-lt}
 use Rattle.interleaving.proofs.Block.{column-lt, kAt-is}
 
 -- the entry n is a k whose row and column are those of n, and the entry at the row and the column of n is n
@@ -53,11 +52,11 @@ together =
       back = λ k h. eqb→eq (getD ks (36 * row k + column 36 k) 0) k (both (small k && placed k) (found k) (tested k h) .1);
     }
 
--- the table gives what the formula gives at g = 4, and so the k of a cell
+-- the table gives what the formula gives at g = 4, and so the k of a position
 kFor-is : (r c : ℕ) → r < 32 → c < 36 → kFor r c ≡ kAt 4 r c
 kFor-is r c hr hc =
     sym (kAt-is 4 8 refl (kFor r c) (together .below r c hr hc)) ∙ ap₂ (kAt 4) (together .in-row r c hr hc) (together .in-column r c hr hc)
 
-pub kFor-cell : (x : ℕ) → kFor (rowOf 20 36 x) (columnOf 20 36 x) ≡ kOfCell 20 4 x
-unfolding kOfCell
-kFor-cell x = kFor-is (rowOf 20 36 x) (columnOf 20 36 x) (rowOf-lt 20 36 x (omega arith)) (columnOf-lt 20 36 x (omega arith))
+pub kFor-position : (at : Position) → at .row < 32 → at .column < 36 → kFor (at .row) (at .column) ≡ kOfPosition 4 at
+unfolding kOfPosition
+kFor-position at hr hc = kFor-is (at .row) (at .column) hr hc

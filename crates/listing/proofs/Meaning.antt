@@ -2,15 +2,15 @@
 use mathlib.Core.Path.{_≡_, refl, sym, ap, ap₂, _∙_}
 use Prim.Native.Nat.{ℕ, _≤_, min}
 use native.Mathlib.Nat.{min-eq-right}
+use native.Mathlib.Decide.{decLt}
 use native.Mathlib.Omega.{arith}
 use mathlib.Core.Bool.{Bool, true, false, cond, _&&_}
 use mathlib.Core.List.{List, [], _∷_}
-use borrow.Author.Tests.{le-ltb, ltb-true, ltb-false}
+use borrow.Author.Tests.{ltb-true, ltb-false}
 use lib.Dec.{ltb}
 use Rattle.queries.specs.Finder.{found}
 use Rattle.queries.specs.declared.finder.Found.{Found}
-use Rattle.queries.specs.declared.finder.Found.the-variants.{Refused}
-use Rattle.runs.specs.declared.Answer.the-variants.{WrongLength}
+use Rattle.queries.proofs.Placing.{found-row-out, found-column-out}
 use Rattle.listing.specs.Numbers.{isNumber, value}
 use Rattle.listing.specs.Lines.{before, after}
 use Rattle.listing.specs.Printed.{told, refused, printed}
@@ -25,16 +25,14 @@ numbered (b ∷ bytes) = refl
 
 module _ (number r s : ℕ) where
   row-out : (row column : ℕ) → 512 ≤ row → told number r s (found row column) ≡ refused number
-  unfolding found
-  row-out row column h = rw (le-ltb row 512 h)
+  row-out row column h = ap (told number r s) (found-row-out row column h)
 
   column-out : (row column : ℕ) → 720 ≤ column → told number r s (found row column) ≡ refused number
-  unfolding found
-  column-out row column h = rw (le-ltb column 720 h) (either (ltb row 512))
-    where
-      either : (t : Bool) → told number r s (cond t (Refused (WrongLength 1)) (Refused (WrongLength 0))) ≡ refused number
-      either true = refl
-      either false = refl
+  column-out row column h =
+      elim (decLt row 512) [
+        | yes l ↦ ap (told number r s) (found-column-out row column l h)
+        | no l ↦ row-out row column (omega arith)
+      ]
 
 -- numbers up to 1000 are told apart, and the others are out of range all the same
 module _ (number v w : ℕ) where

@@ -3,14 +3,16 @@ mod table;
 
 pub use crate::table::index_table;
 use crate::table::k_at;
+pub use interleaving::Position;
 ghost use mathlib.Core.Path.{_≡_};
 ghost use Prim.Native.Nat.{ℕ, _+_, _*_, _/_, _<_};
 ghost use lib.ListN.{length, getD, take};
 ghost use Rattle.bits.specs.Bits.{bitAt, packed, written, byteOf};
+ghost use Rattle.interleaving.specs.Matrix.{Inside, cellOf, positionAt};
 ghost use Rattle.interleaving.specs.InverseI.{spot as «spot-of»};
 ghost use Rattle.interleaving.specs.Source.{at};
 ghost use Rattle.interleaving.specs.TableI.{ks};
-ghost use Rattle.interleaving.specs.PM.{v, p1Place, pidsPlace, matrix};
+ghost use Rattle.interleaving.specs.PM.{v, p1Position, pidsPosition, p1Place, pidsPlace, matrix};
 ghost use Rattle.interleaving.specs.FinderPM.{w, source};
 ghost use Rattle.pm.specs.FirstCells.{FirstCells, shiftOf};
 
@@ -77,30 +79,71 @@ fn turn(p: usize) -> usize
     TURN[p]
 }
 
-// 10.2.3.3: the cell of a partition, a block and a k.
-fn spot(p: usize, b: usize, k: usize) -> usize
+// 10.2.3.3: the position of a partition, a block and a k.
+fn spot(p: usize, b: usize, k: usize) -> Position
     requires { ⌜ (p < 20) × (b < 16) × (k < 1152) ⌝ }
-    ensures { λ r. ⌜ r ≡ «spot-of» 20 36 p b k ⌝ }
+    ensures { λ r. ⌜ r ≡ «spot-of» 36 p b k ⌝ }
 {
-    (32 * b + k * 11 % 32) * 720 + (36 * p + (k * 11 + k / 288) % 36)
+    Position {
+        block: b,
+        row: k * 11 % 32,
+        partition: p,
+        column: (k * 11 + k / 288) % 36,
+    }
 }
 
-// 10.2.3: the cell of the P1 bit i.
-pub fn p1_cell(i: usize) -> usize
+// 10.2.3: the position of the P1 bit i.
+pub fn p1_position(i: usize) -> Position
     requires { ⌜ i < 365440 ⌝ }
-    ensures { λ r. ⌜ r ≡ p1Place i ⌝ }
+    ensures { λ r. ⌜ r ≡ p1Position i ⌝ }
 {
     let p = partition(i % 20);
     spot(p, (i / 20 + p * 7) % 16, i / 320)
 }
 
-// 10.2.4: the cell of the PIDS bit i.
-pub fn pids_cell(i: usize) -> usize
+// 10.2.4: the position of the PIDS bit i.
+pub fn pids_position(i: usize) -> Position
     requires { ⌜ i < 3200 ⌝ }
-    ensures { λ r. ⌜ r ≡ pidsPlace i ⌝ }
+    ensures { λ r. ⌜ r ≡ pidsPosition i ⌝ }
 {
     let p = partition(i % 20);
     spot(p, i / 200, i / 20 % 10 + 1142)
+}
+
+// The position of a row and a column of the matrix.
+pub fn position_of(row: usize, column: usize) -> Position
+    ensures { λ r. ⌜ r ≡ positionAt 36 row column ⌝ }
+{
+    Position {
+        block: row / 32,
+        row: row % 32,
+        partition: column / 36,
+        column: column % 36,
+    }
+}
+
+// The cell of a position.
+fn cell_of(p: Position) -> usize
+    requires { ⌜ Inside 20 16 36 p ⌝ }
+    ensures { λ r. ⌜ r ≡ cellOf 20 36 p ⌝ }
+{
+    (32 * p.block + p.row) * 720 + (36 * p.partition + p.column)
+}
+
+// The cell of the P1 bit i.
+fn p1_cell(i: usize) -> usize
+    requires { ⌜ i < 365440 ⌝ }
+    ensures { λ r. ⌜ r ≡ p1Place i ⌝ }
+{
+    cell_of(p1_position(i))
+}
+
+// The cell of the PIDS bit i.
+fn pids_cell(i: usize) -> usize
+    requires { ⌜ i < 3200 ⌝ }
+    ensures { λ r. ⌜ r ≡ pidsPlace i ⌝ }
+{
+    cell_of(pids_position(i))
 }
 
 // A bit of the coded P1 frame, or of the sixteen coded PIDS frames laid end to end.
@@ -109,23 +152,14 @@ pub enum Bit {
     Pids(usize),
 }
 
-// 10.4.1 turned round: the bit that stands in the cell c.
-pub fn find(c: usize) -> Bit
-    requires { ⌜ c < 368640 ⌝ }
-    ensures { λ r. ⌜ r ≡ at Bit.P1 Bit.Pids (source c) ⌝ }
+// 10.4.1 turned round: the bit that stands at a position; the table of S-1 is lent.
+pub fn find_by(table: &[u16; 1152], position: Position) -> Bit
+    requires { ⌜ (now table ≡ ks) × Inside 20 16 36 position ⌝ }
+    ensures { λ r. ⌜ r ≡ at Bit.P1 Bit.Pids (source position) ⌝ }
 {
-    let table = index_table();
-    find_by(&table, c)
-}
-
-// The same by a table that is lent.
-pub fn find_by(table: &[u16; 1152], c: usize) -> Bit
-    requires { ⌜ (now table ≡ ks) × (c < 368640) ⌝ }
-    ensures { λ r. ⌜ r ≡ at Bit.P1 Bit.Pids (source c) ⌝ }
-{
-    let p = c % 720 / 36;
-    let b = c / 720 / 32;
-    let k = k_at(table, c / 720 % 32, c % 720 % 36);
+    let p = position.partition;
+    let b = position.block;
+    let k = k_at(table, position.row, position.column);
     let s = turn(p);
     if k < 1142 {
         return Bit::P1((k * 16 + (b + (16 - p * 7 % 16)) % 16) * 20 + s);
@@ -146,12 +180,12 @@ fn first_cells() -> [usize; 320]
     cells
 }
 
-// How far on the cells of k lie from those of 0.
+// How far on the cells of k lie from those of 0: the first block's of the first partition begin at cell 0.
 fn shift(k: usize) -> usize
     requires { ⌜ k < 1152 ⌝ }
     ensures { λ r. ⌜ (r ≡ shiftOf k) × (r < 23040) ⌝ }
 {
-    k * 11 % 32 * 720 + (k * 11 + k / 288) % 36
+    cell_of(spot(0, 0, k))
 }
 
 // The cell of the bit u of the byte j of the coded P1 frame; s is how far on the cells of its k lie, which 40 bytes share.

@@ -4,7 +4,7 @@ use Prim.Native.Nat.{ℕ, _+_, _*_, _/_, _%_, _≤_, _<_}
 use native.Mathlib.Nat.{mod-lt}
 use native.Mathlib.Omega.{arith}
 use lib.ListN.{getD}
-use Rattle.interleaving.specs.Matrix.{cell, partitionOf, blockOf, rowOf, columnOf}
+use Rattle.interleaving.specs.Matrix.{matrixRow, matrixColumn, positionAt, cellOf, positionOf, cell, partitionOf, blockOf, rowOf, columnOf}
 use Rattle.interleaving.specs.EquationsIV as IV
 use Rattle.interleaving.specs.InverseIV as Inv
 use Rattle.interleaving.specs.PX.{partitions, runs, order, cells, place}
@@ -19,7 +19,7 @@ use Rattle.px.specs.Entries.{entry}
 
 pub entry-is : (kind p n : ℕ)
     → (32 * ((n / 1152 + (n % 1152 + p * 7)) % 32) + 11 * n % 1152 / 36) * (partitions kind * 36) + (36 * p + 11 * n % 1152 % 36) ≡ entry kind p n
-unfolding entry cell IV.rowAt
+unfolding entry cell cellOf matrixRow matrixColumn IV.rowAt
 entry-is kind p n =
     rw (
       P.block-is (partitions kind) 32 36 (runs kind) 5027 48 (order kind) (omega arith) (omega arith) refl p n,
@@ -80,13 +80,13 @@ module _ (kind : ℕ) (hk : kind < 2) where
     width = omega (arith, K .J-pos)
 
     pub part-of-lt : z / 36 < J
-    unfolding partitionOf
+    unfolding partitionOf positionOf positionAt
     part-of-lt = rw z-is (partitionOf-lt J 36 c width)
 
     pub block-of-lt : y / 32 < 32
-    unfolding blockOf
+    unfolding blockOf positionOf positionAt
     block-of-lt = rw y-is (blockOf-lt J 36 c width 32 (omega (arith, codedBytes-is kind hk)))
 
     pub source-is : Inv.index J M (z / 36) (Inv.count 32 36 5027 (z / 36) (y / 32) (y % 32) (z % 36)) ≡ source kind c
-    unfolding source Inv.source partitionOf blockOf rowOf columnOf
+    unfolding source Inv.source partitionOf blockOf rowOf columnOf positionOf positionAt
     source-is = rw (K .plain (c % (J * 36) / 36) (rw z-is at part-of-lt), y-is, z-is)

@@ -2,6 +2,7 @@ mod CasesPX
 pub mod Framed
 mod Origins
 mod Parts
+pub mod Placing
 pub mod Sheets
 mod Stands
 mod Valued

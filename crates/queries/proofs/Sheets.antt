@@ -38,19 +38,10 @@ use Rattle.queries.specs.FinderPX.{kindOfNumber, columnsOf, cellOf, fram
 use Rattle.queries.specs.Sheets.{Sheet, channelNumber}
 use Rattle.queries.proofs.CasesPX as px
 use Rattle.queries.proofs.Origins.{used, cell-lt}
+use Rattle.queries.proofs.Placing.{found-inside}
 use Rattle.queries.proofs.Stands.{found-stands}
 
 -- ---- PM
-
--- a cell that the finder does not refuse is one of the 512 rows of 720
-pm-inside : (row column : ℕ) → ((r : Answer) → found row column ≡ no-cell r → ⊥) → (row < 512) × (column < 720)
-unfolding found
-pm-inside row column accepted = go (decLt row 512) (decLt column 720)
-  where
-    go : Dec (row < 512) → Dec (column < 720) → (row < 512) × (column < 720)
-    go (yes h) (yes l) = (h, l)
-    go (yes h) (no l) = absurd (accepted (WrongLength 1) (rw (lt-ltb row 512 h, le-ltb column 720 (omega arith))))
-    go (no h) l = absurd (accepted (WrongLength 0) (rw (le-ltb row 512 (omega arith))))
 
 module _ (mode : ℕ) (is : mainOf mode ≡ Plain) (a : SenderRun mode) (t : ℕ) (h : t < count mode a) (row column : ℕ) where
   p1-older : (i : ℕ) → i < 365440 → bitAt (matricesAt mode a t .pm) (p1Place i) ≡ channel TwoFifths 146176 (bitAt (frameAt mode a t .p1)) i
@@ -60,7 +51,7 @@ module _ (mode : ℕ) (is : mainOf mode ≡ Plain) (a : SenderRun mode) (t : ℕ
   p1-in : (bit : ℕ) → found row column ≡ P1 bit
       → bitAt (matricesAt mode a t .pm) (row * 720 + column) ≡ channel TwoFifths 146176 (bitAt (frameAt mode a t .p1)) bit
   p1-in bit e =
-      let (lr, lc) = pm-inside row column (λ r n. let z : _≡_ {A = ℕ} 0 1 = cc in omega arith) in
+      let (lr, lc) = found-inside row column (λ r n. let z : _≡_ {A = ℕ} 0 1 = cc in omega arith) in
       elim (found-stands row column lr lc) [
         | inl (i, x) ↦
             let named = x .named in
@@ -75,7 +66,7 @@ module _ (mode : ℕ) (is : mainOf mode ≡ Plain) (a : SenderRun mode) (t : ℕ
   pids-in : (frame bit : ℕ) → found row column ≡ Pids frame bit
       → bitAt (matricesAt mode a t .pm) (row * 720 + column) ≡ channel TwoFifths 80 (bitAt (frameAt mode a t .pids)) (frame * 200 + bit)
   pids-in frame bit e =
-      let (lr, lc) = pm-inside row column (λ r n. let z : _≡_ {A = ℕ} 0 1 = cc in omega arith) in
+      let (lr, lc) = found-inside row column (λ r n. let z : _≡_ {A = ℕ} 0 1 = cc in omega arith) in
       elim (found-stands row column lr lc) [
         | inl (i, x) ↦
             let named = x .named in

@@ -3,19 +3,22 @@ use mathlib.Core.Path.{_≡_, refl, sym, ap}
 use mathlib.Core.Bool.{true, false}
 use mathlib.Core.List.{List}
 use Prim.Native.Nat.{ℕ, _<_, _≤_}
-use borrow.Author.Tests.{eq-eqb, le-ltb, lt-ltb, ne-eqb}
+use borrow.Author.Tests.{eq-eqb, ne-eqb}
 use lib.ListN.{length}
 use Rattle.control.specs.declared.Looked.the-variants.{NotABlock}
 use Rattle.control.specs.Lookup.{lookedUp}
 use Rattle.runs.specs.declared.Kind.{Kind}
 use Rattle.runs.specs.declared.State.{State}
 use Rattle.runs.specs.Starting.{valid}
+use Rattle.queries.specs.Places.{placed}
+use Rattle.queries.specs.Places as places
 use Rattle.queries.specs.Finder.{found, none}
 use Rattle.queries.specs.Finder as finder
 use Rattle.queries.specs.FinderPX.{kindOfNumber, columnsOf, foundPX}
 use Rattle.queries.specs.FinderPX as finderPX
 use Rattle.queries.specs.Lookup.{lookupOf}
 use Rattle.queries.specs.Lookup as lookup
+use Rattle.queries.proofs.Placing.{row-out, column-out, found-row-out, found-column-out}
 use Rattle.queries.proofs.CasesPX.{state-refused, channel-refused, pair-refused, row-refused, column-refused}
 
 -- equal answers have equal values
@@ -27,12 +30,20 @@ abbrev noCell : (number place : ℕ) → finder.Values
 noCell number place = record { number = number; place = place; channel = none; frame = 0; bit = 0 }
 
 pub row-above-511 : (row column : ℕ) → 512 ≤ row → finder.values (found row column) ≡ noCell 3 0
-unfolding found
-row-above-511 row column h = rw (le-ltb row 512 h)
+row-above-511 row column h = ap finder.values (found-row-out row column h)
 
 pub column-above-719 : (row column : ℕ) → row < 512 → 720 ≤ column → finder.values (found row column) ≡ noCell 3 1
-unfolding found
-column-above-719 row column l h = rw (lt-ltb row 512 l, le-ltb column 720 h)
+column-above-719 row column l h = ap finder.values (found-column-out row column l h)
+
+-- and a place that is refused is given as zeros
+abbrev noPlace : (number place : ℕ) → places.Values
+noPlace number place = record { number = number; place = place; position = record { block = 0; row = 0; partition = 0; column = 0 } }
+
+pub no-such-row : (row column : ℕ) → 512 ≤ row → places.values (placed row column) ≡ noPlace 3 0
+no-such-row row column h = ap places.values (sym (row-out row column h))
+
+pub no-such-column : (row column : ℕ) → row < 512 → 720 ≤ column → places.values (placed row column) ≡ noPlace 3 1
+no-such-column row column l h = ap places.values (sym (column-out row column l h))
 
 -- and the finder of PX no content and zeros
 module _ (s : State) (channel pair row column : ℕ) where

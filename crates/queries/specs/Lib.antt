@@ -1,3 +1,4 @@
+pub mod Places
 pub mod Finder
 pub mod FinderPX
 pub mod Sheets

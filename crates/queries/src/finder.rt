@@ -1,4 +1,6 @@
 // Document 01: the cell finder.
+use crate::places::Placed;
+use crate::places::place_of;
 use pm::Bit;
 use runs::Answer;
 ghost use mathlib.Core.Path.{_≡_};
@@ -25,21 +27,14 @@ pub fn find_by(table: &[u16; 1152], row: usize, column: usize) -> Found
     requires { ⌜ now table ≡ ks ⌝ }
     ensures { λ r. ⌜ (r ≡ found row column) × (values r ≡ values (found row column)) ⌝ }
 {
-    if row >= 512 {
-        return Found::Refused {
-            answer: Answer::WrongLength(0),
-        };
-    }
-    if column >= 720 {
-        return Found::Refused {
-            answer: Answer::WrongLength(1),
-        };
-    }
-    match pm::find_by(table, row * 720 + column) {
-        Bit::P1(i) => Found::P1 { bit: i },
-        Bit::Pids(i) => Found::Pids {
-            frame: i / 200,
-            bit: i % 200,
+    match place_of(row, column) {
+        Placed::At { position } => match pm::find_by(table, position) {
+            Bit::P1(i) => Found::P1 { bit: i },
+            Bit::Pids(i) => Found::Pids {
+                frame: i / 200,
+                bit: i % 200,
+            },
         },
+        Placed::Refused { answer } => Found::Refused { answer },
     }
 }

@@ -4,12 +4,12 @@ use Prim.Native.Nat.{ℕ, _+_, _*_, _/_, _%_}
 use native.Mathlib.Omega.{arith}
 use Rattle.bits.specs.Bits.{number}
 use Rattle.coding.specs.Coder.{coded, output, back}
-use Rattle.interleaving.specs.Matrix.{cell, partitionOf, blockOf, rowOf, columnOf}
+use Rattle.interleaving.specs.Matrix.{matrixRow, matrixColumn, positionAt, cellOf, positionOf, cell, partitionOf, blockOf, rowOf, columnOf}
 use Rattle.interleaving.specs.EquationsI as I
 use Rattle.interleaving.specs.EquationsII as II
 use Rattle.interleaving.specs.EquationsIV as IV
 use Rattle.interleaving.specs.InverseIV.{missed}
-use Rattle.interleaving.specs.PM.{v, p1Place, pidsPlace}
+use Rattle.interleaving.specs.PM.{v, p1Position, pidsPosition}
 use Rattle.interleaving.specs.PX.{v4, partitions, runs, order, place}
 use Rattle.interleaving.proofs.Counter.{pt-is}
 use Rattle.interleaving.proofs.PXKinds.{perm4}
@@ -37,7 +37,7 @@ place-by i =
     sym (ap (λ (n : ℕ). cell 4 36 p (IV.blockAt 4 32 36 2 v4 p n) (IV.rowAt 4 32 36 2 v4 n) (IV.columnAt 4 32 36 2 v4 n)) (counted i))
 
 computed : Hold (pointsBy counterBy placeBy)
-unfolding pointsBy counterBy placeBy v v4 p1Place pidsPlace I.place I.partition I.partIndex I.block I.kOf I.row I.column II.place II.partition II.partIndex II.block II.kOf IV.partition IV.partIndex IV.blockAt IV.rowAt IV.columnAt cell partitionOf blockOf rowOf columnOf coded output back number sequence field sum parity rsid assembled stored encoded
+unfolding pointsBy counterBy placeBy v v4 p1Position pidsPosition I.position I.partition I.partIndex I.block I.kOf I.row I.column II.position II.partition II.partIndex II.block II.kOf IV.partition IV.partIndex IV.blockAt IV.rowAt IV.columnAt matrixRow matrixColumn cell cellOf partitionOf blockOf rowOf columnOf positionOf positionAt coded output back number sequence field sum parity rsid assembled stored encoded
 computed = refl
 
 pub probes-hold : Hold points

@@ -31,7 +31,7 @@ multiplexed k p1 p2 = beside (p1Coded k) (channel TwoFifths (p1Bits k) (bitAt p1
 unfoldable pub pmOf : Main → Buffer → Buffer → Buffer → Buffer
 pmOf k p1 p2 pids = packed pmLen (matrix (multiplexed k p1 p2) (channel TwoFifths 80 (bitAt pids)))
 
--- back: each coded bit is read from its cell
+-- back: each coded bit is read from the cell of its position
 abbrev pub p1Cells : Buffer → ℕ → ℕ
 p1Cells pm i = bitAt pm (p1Place i)
 

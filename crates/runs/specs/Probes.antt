@@ -8,9 +8,10 @@ use lib.ListN.{replicate}
 use Rattle.bits.specs.Bits.{number}
 use Rattle.coding.specs.Coder.{coded, rate25}
 use Rattle.interleaving.specs.Matrix.{partitionOf, blockOf, rowOf, columnOf}
-use Rattle.interleaving.specs.PM.{p1Place, pidsPlace}
+use Rattle.interleaving.specs.PM.{p1Position, pidsPosition}
 use Rattle.interleaving.specs.EquationsIV as IV
 use Rattle.interleaving.specs.PX.{place, v4}
+use Rattle.interleaving.specs.Points.{rowColumn}
 use Rattle.control.specs.Control.{assembled, encoded}
 
 abbrev pub Point : Type 0
@@ -19,10 +20,6 @@ Point = List ℕ × List ℕ
 -- at each point the two are the same
 abbrev pub Hold : List Point → Type 0
 Hold points = map (λ (p : Point). p .0) points ≡ map (λ (p : Point). p .1) points
-
--- row and column of a cell of PM
-abbrev rowColumn : ℕ → List ℕ
-rowColumn c = c / 720 ∷ c % 720 ∷ []
 
 -- MP3: entry n of the partition p is written by this step, since each partition in its turn takes two bits
 abbrev stepOf : ℕ → ℕ → ℕ
@@ -58,13 +55,13 @@ everySecond k (suc n) = k ∷ everySecond (2 + k) n
 
 unfoldable pub pointsBy : (counterOf placeOf : ℕ → ℕ) → List Point
 pointsBy counterOf placeOf =
-    ((rowColumn (p1Place 0), 192 ∷ 360 ∷ [])
-    ∷ (rowColumn (p1Place 1), 448 ∷ 72 ∷ [])
-    ∷ (rowColumn (p1Place 20), 224 ∷ 360 ∷ [])
-    ∷ (rowColumn (p1Place 320), 203 ∷ 371 ∷ [])
-    ∷ (rowColumn (p1Place 365439), 71 ∷ 206 ∷ [])
-    ∷ (rowColumn (pidsPlace 0), 18 ∷ 361 ∷ [])
-    ∷ (rowColumn (pidsPlace (15 * 200 + 199)), 501 ∷ 208 ∷ [])
+    ((rowColumn (p1Position 0), 192 ∷ 360 ∷ [])
+    ∷ (rowColumn (p1Position 1), 448 ∷ 72 ∷ [])
+    ∷ (rowColumn (p1Position 20), 224 ∷ 360 ∷ [])
+    ∷ (rowColumn (p1Position 320), 203 ∷ 371 ∷ [])
+    ∷ (rowColumn (p1Position 365439), 71 ∷ 206 ∷ [])
+    ∷ (rowColumn (pidsPosition 0), 18 ∷ 361 ∷ [])
+    ∷ (rowColumn (pidsPosition (15 * 200 + 199)), 501 ∷ 208 ∷ [])
     ∷ [])
     ++ each (λ p. (entry counterOf placeOf 0 p, 0 ∷ p ∷ 7 * p % 32 ∷ 0 ∷ 0 ∷ []))
     ++ each (λ p. (entry counterOf placeOf 4 p, 4 ∷ p ∷ (7 * p + 4) % 32 ∷ 1 ∷ 8 ∷ []))

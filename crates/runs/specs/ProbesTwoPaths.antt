@@ -1,9 +1,10 @@
 -- Points of our own for MP5 and MP6, worked by hand from 9.2, Figure 10-5 and Tables 10-12 and 10-13, as what the definitions give beside what the hand gave. The
 -- laws leave them open: a delay of any length comes back, and so does P2 wherever it stands in U. Those of PX2 are in `interleaving/specs/PointsPX2.antt`.
 use mathlib.Core.List.{List, [], _∷_, _++_, map}
-use Prim.Native.Nat.{ℕ, zero, suc, _+_, _*_, _/_, _%_}
+use Prim.Native.Nat.{ℕ, zero, suc, _+_, _*_}
 use lib.ListN.{getD, replicate}
-use Rattle.interleaving.specs.PM.{p1Place}
+use Rattle.interleaving.specs.PM.{p1Position}
+use Rattle.interleaving.specs.Points.{rowColumn}
 use Rattle.runs.specs.declared.Main.{Main}
 use Rattle.runs.specs.declared.Main.the-variants.{Mp5, Mp6}
 use Rattle.runs.specs.MainChannels.{p1Len, delayLen}
@@ -14,7 +15,7 @@ use Rattle.runs.specs.Probes.{Point}
 -- ---- PM: row and column of a bit of U
 
 abbrev pmPoint : ℕ → List ℕ
-pmPoint i = p1Place i / 720 ∷ p1Place i % 720 ∷ []
+pmPoint i = rowColumn (p1Position i)
 
 -- fifteen bits of U from bit i on, of zeros in P1 and a byte of ones at the start of P2
 abbrev bitsOfU : Main → ℕ → List ℕ

@@ -14,30 +14,18 @@ use Rattle.runs.specs.declared.State.{State}
 use Rattle.runs.specs.Lengths.{tableRow}
 use Rattle.runs.specs.Starting.{valid}
 use Rattle.queries.specs.Finder.{found}
-use Rattle.queries.specs.declared.finder.Found.{Found}
-use Rattle.queries.specs.declared.finder.Found.the-variants.{P1, Pids, Refused as pm-refused}
+use Rattle.queries.specs.declared.finder.Found.the-variants.{P1, Pids}
 use Rattle.queries.specs.FinderPX.{cellOf, columnsOf, foundPX, kindOfNumber, told}
 use Rattle.queries.specs.declared.finder_px.FoundPx.{FoundPx}
 use Rattle.queries.specs.declared.finder_px.FoundPx.the-variants.{Coded, Fill, Refused}
+use Rattle.queries.proofs.Placing.{found-inside}
 
--- PM: what is not refused passed both tests
-passed-pm : (t u : Bool) (x : Found) → ((a : Answer) → cond t (cond u x (pm-refused (WrongLength 1))) (pm-refused (WrongLength 0)) ≡ pm-refused a → ⊥)
-    → (t ≡ true) × (u ≡ true)
-passed-pm true true x h = (refl, refl)
-passed-pm true false x h = absurd (h (WrongLength 1) refl)
-passed-pm false u x h = absurd (h (WrongLength 0) refl)
-
-pm-in-range : (row column : ℕ) → ((a : Answer) → found row column ≡ pm-refused a → ⊥) → (row < 512) × (column < 720)
-unfolding found
-pm-in-range row column h =
-    let t = passed-pm (ltb row 512) (ltb column 720) _ h in
-    (ltb-true row 512 (t .0), ltb-true column 720 (t .1))
-
+-- PM
 pub p1-in-range : (row column bit : ℕ) → found row column ≡ P1 bit → (row < 512) × (column < 720)
-p1-in-range row column bit e = pm-in-range row column (λ a h. let z : _≡_ {A = ℕ} 0 1 = cc in omega arith)
+p1-in-range row column bit e = found-inside row column (λ a h. let z : _≡_ {A = ℕ} 0 1 = cc in omega arith)
 
 pub pids-in-range : (row column frame bit : ℕ) → found row column ≡ Pids frame bit → (row < 512) × (column < 720)
-pids-in-range row column frame bit e = pm-in-range row column (λ a h. let z : _≡_ {A = ℕ} 0 1 = cc in omega arith)
+pids-in-range row column frame bit e = found-inside row column (λ a h. let z : _≡_ {A = ℕ} 0 1 = cc in omega arith)
 
 -- PX: what is coded passed each test
 refused-not-coded : {answer : Answer} {e f b : ℕ} → Refused answer ≡ Coded e f b → ⊥

@@ -1,31 +1,25 @@
--- `pm::shift` meets its contract: it is `shiftOf` as it stands. Assumes nothing.
-use mathlib.Core.Path.{refl}
+-- `pm::shift` meets its contract: the cell of the position that k has in the first block of the first partition. Assumes nothing.
+use mathlib.Core.Path.{_≡_, refl, sym, ap, subst, _∙_}
 use native.Mathlib.Omega.{arith}
+use Rattle.interleaving.specs.Matrix.{Inside, cellOf}
+use Rattle.interleaving.proofs.Spot.{spot-inside}
 use Rattle.pm.specs.FirstCells.{shiftOf}
-use Rattle.interleaving.specs.EquationsI.{row, column}
+use Rattle.pm.proofs.Cells.{shift-lt}
 use borrow.Author.Needs.{needs}
 use Rattle.pm.proofs.shift.Statement.{statement}
 use Rattle.pm.proofs.shift.Tie as tie
 
-mul-result : tie.Need-mul-result
-mul-result c = search needs
+spot-requires : tie.Need-spot-requires
+spot-requires c κs = search needs
 
-mul-result-2 : tie.Need-mul-result-2
-mul-result-2 c = search needs
-
-mul-result-3 : tie.Need-mul-result-3
-mul-result-3 c = search needs
-
-add-result : tie.Need-add-result
-add-result c = search needs
-
-add-result-2 : tie.Need-add-result-2
-add-result-2 c = search needs
+cell-of-requires : tie.Need-cell-of-requires
+cell-of-requires c κs = subst (Inside 20 16 36) (sym (c .spot .ensures)) (spot-inside 20 16 4 8 refl 0 0 _ (omega arith) (omega arith))
 
 returns : tie.Need-returns
-unfolding shiftOf row column
-returns c = (refl, omega arith)
+returns c =
+    let k = c .before .before .args .k in
+    let is : c .cell-of .result ≡ shiftOf k = unfold shiftOf in c .cell-of .ensures ∙ ap (cellOf 20 36) (c .before .spot .ensures) in
+    (is, omega (arith, is, shift-lt k))
 
 pub shift-spec : {M : Type 1} → statement M
-shift-spec =
-    tie.close (tie.spec mul-result mul-result-2 mul-result-3 add-result add-result-2 returns)
+shift-spec = tie.close (tie.spec spot-requires cell-of-requires returns)

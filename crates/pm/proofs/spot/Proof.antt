@@ -1,54 +1,23 @@
 -- `pm::spot` meets its contract: it is `spot` as it stands. Assumes nothing.
 use mathlib.Core.Path.{refl}
-use Rattle.interleaving.specs.Matrix.{cell}
 use Rattle.interleaving.specs.EquationsI.{row, column}
 use Rattle.interleaving.specs.InverseI.{spot}
 use borrow.Author.Needs.{needs}
 use Rattle.pm.proofs.spot.Statement.{statement}
 use Rattle.pm.proofs.spot.Tie as tie
 
-mul-result : tie.Need-mul-result
-mul-result c = search needs
+mul-t4 : tie.Need-mul-t4
+mul-t4 c = search needs
 
-mul-result-2 : tie.Need-mul-result-2
-mul-result-2 c = search needs
+mul-t6 : tie.Need-mul-t6
+mul-t6 c = search needs
 
-add-result : tie.Need-add-result
-add-result c = search needs
-
-mul-result-3 : tie.Need-mul-result-3
-mul-result-3 c = search needs
-
-mul-result-4 : tie.Need-mul-result-4
-mul-result-4 c = search needs
-
-mul-result-5 : tie.Need-mul-result-5
-mul-result-5 c = search needs
-
-add-result-2 : tie.Need-add-result-2
-add-result-2 c = search needs
-
-add-result-3 : tie.Need-add-result-3
-add-result-3 c = search needs
-
-add-result-4 : tie.Need-add-result-4
-add-result-4 c = search needs
+add-t8 : tie.Need-add-t8
+add-t8 c = search needs
 
 returns : tie.Need-returns
-unfolding spot cell row column
+unfolding spot row column
 returns c = refl
 
 pub spot-spec : {M : Type 1} → statement M
-spot-spec =
-    tie.close
-    (tie.spec
-    mul-result
-    mul-result-2
-    add-result
-    mul-result-3
-    mul-result-4
-    mul-result-5
-    add-result-2
-    add-result-3
-    add-result-4
-    returns)
+spot-spec = tie.close (tie.spec mul-t4 mul-t6 add-t8 returns)
