@@ -11,7 +11,7 @@
  * - a buffer that is written overlaps no other buffer of the call;
  * - nothing else reads a buffer that is written, or writes any buffer of the call, while the call runs: on another thread, in a signal
  *   handler or through a mapping. Calls with other buffers may run at the same time: the library has no state of its own;
- * - the stack has room for LAYER1_SEND_STACK or LAYER1_READ_STACK bytes, below what the caller itself uses.
+ * - the stack has room for LAYER1_SEND_STACK, LAYER1_READ_STACK or, for a dump, LAYER1_JUDGE_STACK bytes, below what the caller itself uses.
  * Nothing is allocated, and nothing of C but memcpy and memset is called.
  *
  * A run: a start, then sendings, or then readings. Each is handed the state in the word of the last call, which is mode, half, age and the
@@ -22,7 +22,7 @@
  *
  * The numbers of the table of causes, and the place that comes with each:
  *   0  success                                                                  0
- *   1  start: the mode is not 1, 2, 3, 5, 6 or 11; vector: not 1, 2, 3 or 11      0
+ *   1  start, dump: the mode is not 1, 2, 3, 5, 6 or 11; vector: not 1, 2, 3, 11  0
  *   2  the state is not valid                                                   0
  *   3  a length is wrong, or a row, column, block pair or channel out of range  the first such buffer or argument, from 0
  *   4  a control block is not the one of this mode, its count and the number    the lowest such block
@@ -43,6 +43,9 @@
  *  14  no frame fits the cells that were read                                   0
  *  15  more than one frame fits them                                            0
  *  16  the budget of a search is 0 or above 64                                  0
+ *  17  a dump has fewer than eight bytes or another mark                        0
+ *  18  its version is not 1                                                     0
+ *  19  it ends in an L1 frame, or goes on behind the last                       0
  */
 #ifndef LAYER1_H
 #define LAYER1_H
@@ -54,9 +57,11 @@
 extern "C" {
 #endif
 
-/* The most stack that a sending and a reading take, in bytes, as compiled (measured by wrapper/tests/stack.c); any other call takes less. */
+/* The most stack that a sending, a reading and the judging of a dump take, in bytes, as compiled (measured by wrapper/tests/stack.c); any
+ * other call takes less than a sending. */
 #define LAYER1_SEND_STACK 61440
 #define LAYER1_READ_STACK 118784
+#define LAYER1_JUDGE_STACK 237568
 
 /* The places of the buffers of a sending or a reading. PX2 has P4's matrices in MP11, and those of P1' in MP5 and MP6. */
 enum layer1_place {
@@ -149,6 +154,11 @@ uint64_t layer1_nearest(const uint8_t *cells, size_t cells_len, uint8_t *frame, 
  * frame. Returns an answer word. */
 uint64_t layer1_restore(const uint8_t *cells, size_t cells_len, uint8_t *frame, size_t frame_len);
 
+/* Judges a dump (document 02, S-13): the letters HDM, version 1 and 16 bits, the mode, the count of L1 frames, again 16 bits, both most
+ * significant byte first, and of each L1 frame PM, PX1, PX2 and control. Accepted is what a reader begun fresh accepts to the last L1 frame,
+ * with nothing behind it. Only the dump is lent, and only read: a file can be mapped into memory. Returns a verdict word. */
+uint64_t layer1_judge(const uint8_t *dump, size_t dump_len);
+
 /* The output vector of a symbol, 0 to 511, of an L1 frame (document 02, S-7): from PM, PX1, PX2 and control, with the lengths of a sending or
  * a reading, and a scale for each sideband. Writes the real parts, then the imaginary parts, LAYER1_POINTS numbers each; element k belongs
  * to subcarrier k - 546. Each is the scale, its negation, or positive zero where the subcarrier is not used. Lengths count numbers for these
@@ -193,6 +203,10 @@ static inline uint8_t layer1_looked_up_mode(uint64_t word) { return (uint8_t)(wo
 static inline uint8_t layer1_looked_up_count(uint64_t word) { return (uint8_t)(word >> 16); }
 static inline uint8_t layer1_looked_up_reserved(uint64_t word) { return (uint8_t)(word >> 24); }
 static inline uint32_t layer1_looked_up_place(uint64_t word) { return (uint32_t)(word >> 32); }
+
+/* A verdict word: the L1 frame that a dump is refused at, from 0; the count of L1 frames where it goes on behind them; else 0. */
+static inline unsigned layer1_judged_frame(uint64_t word) { return word >> 16 & 0xffff; }
+static inline uint32_t layer1_judged_place(uint64_t word) { return (uint32_t)(word >> 32); }
 
 /* A nearest word: the number of read cells that differ from the frame's, and by how much at most a frame of another start is nearer. */
 static inline unsigned layer1_nearest_distance(uint64_t word) { return word >> 8 & 0xff; }

@@ -1,10 +1,12 @@
 //! The commands of the program, over any input and output.
 
 use std::io::{self, BufRead, Read, Write};
+use std::path::Path;
 
 use crate::coding::Rate;
 use crate::control::{control, NUMBERS};
 use crate::draw::{cell_list, Damage, Draw};
+use crate::dumps::{self, Verdict};
 use crate::modes::{Mode, Without, EXTENDED_WAIT, P1_BITS, PIDS_BITS};
 use crate::nearest;
 use crate::packing::{pack, unpack};
@@ -112,8 +114,8 @@ fn take_each<const N: usize>(
 
 /// Documents 01 and 02, operations: one side of a run with its memories.
 #[derive(Clone)]
-struct Run {
-    mode: &'static Mode,
+pub(crate) struct Run {
+    pub(crate) mode: &'static Mode,
     state: State,
     /// For P3, for P4, and the delay memory.
     memories: [Vec<u8>; 3],
@@ -121,7 +123,7 @@ struct Run {
 
 impl Run {
     /// Documents 01 and 02, operations: a start with memories of the right lengths.
-    fn start(side: Side, number: u64) -> Result<Run, Stop> {
+    pub(crate) fn start(side: Side, number: u64) -> Result<Run, Stop> {
         let mode = covered(number)?;
         let mut memories = side.memory_lengths(mode).map(|length| vec![0; length]);
         let lent = memories.each_mut().map(Vec::as_mut_slice);
@@ -164,7 +166,7 @@ impl Run {
 
     /// Documents 01 and 02, operations: reads PM, PX1, PX2 and control; gives the number and the
     /// frames that are returned.
-    fn read(&mut self, matrices: &[Vec<u8>; 4]) -> (Answer, Vec<u8>) {
+    pub(crate) fn read(&mut self, matrices: &[Vec<u8>; 4]) -> (Answer, Vec<u8>) {
         let [pm, px1, px2, control] = matrices;
         let [mut p1, mut pids, mut p2, mut p3, mut p4] =
             self.mode.frame_lengths().map(|length| vec![0; length]);
@@ -277,8 +279,54 @@ pub fn send(
     input: &mut impl Read,
     output: &mut impl Write,
 ) -> Result<(), Stop> {
+    send_behind(|_| Vec::new(), mode, count, without, input, output)
+}
+
+/// Document 02, S-13: sends a run of L1 frames as a dump, which holds at most 65,535 of them.
+pub fn dump(
+    mode: u64,
+    count: u64,
+    without: Without,
+    input: &mut impl Read,
+    output: &mut impl Write,
+) -> Result<(), Stop> {
+    let held = u16::try_from(count).map_err(|_| Stop::Usage)?;
+    let header = |mode: &Mode| dumps::header(mode, held);
+    send_behind(header, mode, count, without, input, output)
+}
+
+/// Document 02, S-13: the verdict on a dump, as a line.
+pub fn judge(input: &mut impl Read, output: &mut impl Write) -> Result<(), Stop> {
+    let mut dump = Vec::new();
+    input.read_to_end(&mut dump)?;
+    let line = match dumps::judge(&dump) {
+        Verdict { number: 0, .. } => "accepted".to_string(),
+        refused => refusal_line(refused.number, refused.place, refused.frame as u64),
+    };
+    Ok(writeln!(output, "{line}")?)
+}
+
+/// Document 02, S-13: dumps to be judged, as the files 0, 1 and so on of a directory.
+pub fn draw_dumps(seed: u64, mode: u64, directory: &Path) -> Result<(), Stop> {
+    let dumps = dumps::drawn(seed, covered(mode)?)?;
+    for (number, dump) in dumps.iter().enumerate() {
+        std::fs::write(directory.join(number.to_string()), dump)?;
+    }
+    Ok(())
+}
+
+/// Documents 01 and 02, operations: sends a run of L1 frames behind what its mode begins with.
+fn send_behind(
+    header: impl Fn(&Mode) -> Vec<u8>,
+    mode: u64,
+    count: u64,
+    without: Without,
+    input: &mut impl Read,
+    output: &mut impl Write,
+) -> Result<(), Stop> {
     let mut sender = Run::start(Side::Sender, mode)?;
     let handed = handed_lengths(sender.mode, without)?;
+    output.write_all(&header(sender.mode))?;
     for frame in 0..count {
         let matrices = send_next(&mut sender, handed, frame, input)?;
         output.write_all(&matrices.concat())?;

@@ -6,6 +6,7 @@ pub mod coding;
 pub mod commands;
 pub mod control;
 pub mod draw;
+pub mod dumps;
 pub mod interleaving;
 pub mod modes;
 pub mod nearest;

@@ -9,11 +9,14 @@ use second::modes::Without;
 use second::{cells, nearest, places, restoring, run::Refusal, vector};
 
 /// The commands with their operands.
-const COMMANDS: [(&str, &str); 25] = [
+const COMMANDS: [(&str, &str); 28] = [
     ("draw", "SEED MODE COUNT [without P3|P4|P3 P4]"),
     ("fill", "MODE COUNT [without P3|P4|P3 P4]"),
     ("send", "MODE COUNT [without P3|P4|P3 P4]"),
     ("sheet", "MODE COUNT [without P3|P4|P3 P4]"),
+    ("dump", "MODE COUNT [without P3|P4|P3 P4]"),
+    ("judge", ""),
+    ("draw-dumps", "SEED MODE DIRECTORY"),
     ("draw-cells", "SEED MODE COUNT"),
     ("read", "MODE COUNT"),
     ("read-on", "MODE COUNT"),
@@ -93,7 +96,7 @@ fn split_without<'a>(
 }
 
 /// The operands that are no whole numbers; they stand last.
-const WORDS: [&str; 5] = ["FILE_A", "FILE_B", "LOWER", "UPPER", FILES];
+const WORDS: [&str; 6] = ["FILE_A", "FILE_B", "LOWER", "UPPER", "DIRECTORY", FILES];
 
 /// The operand that stands for any number of files.
 const FILES: &str = "FILES";
@@ -133,6 +136,9 @@ fn dispatch(
         ("fill", &[mode, count]) => commands::fill(mode, count, without, &mut input, output),
         ("send", &[mode, count]) => commands::send(mode, count, without, &mut input, output),
         ("sheet", &[mode, count]) => commands::sheet(mode, count, without, &mut input, output),
+        ("dump", &[mode, count]) => commands::dump(mode, count, without, &mut input, output),
+        ("judge", _) => commands::judge(&mut input, output),
+        ("draw-dumps", &[seed, mode]) => commands::draw_dumps(seed, mode, files[0].as_ref()),
         ("draw-cells", &[seed, mode, count]) => commands::draw_cells(seed, mode, count, output),
         ("read", &[mode, count]) => commands::read(mode, count, &mut input, output),
         ("read-on", &[mode, count]) => {

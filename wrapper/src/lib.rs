@@ -170,6 +170,14 @@ pub struct Nearest {
     pub margin: u8,
 }
 
+/// Document 02, S-13: what the judge says of a dump: number and place of the table of causes, and the number of the L1 frame; zeros when it accepts.
+#[derive(Clone, Copy, Debug, Default, PartialEq, Eq)]
+pub struct Verdict {
+    pub number: u8,
+    pub place: u32,
+    pub frame: u16,
+}
+
 /// The eight bits of a word from this one on.
 fn byte(word: u64, bit: u32) -> u8 {
     (word >> bit) as u8
@@ -443,6 +451,17 @@ pub fn restore(cells: &[u8], frame: &mut [u8]) -> Answer {
     answer(unsafe {
         raw::layer1_restore(cells.as_ptr(), cells.len(), frame.as_mut_ptr(), frame.len())
     })
+}
+
+/// Document 02, S-13: judges a dump.
+pub fn judge(dump: &[u8]) -> Verdict {
+    // SAFETY: the pointer and the length are those of one slice, which is read.
+    let word = unsafe { raw::layer1_judge(dump.as_ptr(), dump.len()) };
+    Verdict {
+        number: byte(word, 0),
+        place: (word >> 32) as u32,
+        frame: (word >> 16) as u16,
+    }
 }
 
 /// Fills the output vector of a symbol: the real and the imaginary parts.

@@ -109,6 +109,7 @@ extern "C" {
         frame_len: usize,
         budget: usize,
     ) -> u64;
+    pub fn layer1_judge(dump: *const u8, dump_len: usize) -> u64;
     pub fn layer1_restore(
         cells: *const u8,
         cells_len: usize,

@@ -1,5 +1,5 @@
 /* How much stack each call takes, on a stack of its own that was painted before: the greatest over the L1 frames of a run, in every mode.
- * Prints mode, sending and reading on a line each, and fails where one is above what layer1.h says. */
+ * Prints mode, sending, reading and the judging of the run's dump on a line each, and fails where one is above what layer1.h says. */
 #define _GNU_SOURCE
 #include "layer1.h"
 
@@ -45,6 +45,24 @@ static void nearest(void)
 static void restore(void)
 {
     layer1_restore(zeros, sizeof zeros, buffer[LAYER1_PIDS], 10);
+}
+
+/* The dump of a run: its header, and what was sent. */
+static uint8_t dump[8 + COUNT * 68608];
+static size_t dump_len;
+
+static void judge(void) { word = layer1_judge(dump, dump_len); }
+
+static void dumped(uint8_t mode, uint8_t matrices[COUNT][4][MOST])
+{
+    const uint8_t header[8] = {'H', 'D', 'M', 0, 1, mode, 0, COUNT};
+    memcpy(dump, header, sizeof header);
+    dump_len = sizeof header;
+    for (size_t t = 0; t < COUNT; t++)
+        for (size_t m = 0; m < 4; m++) {
+            memcpy(dump + dump_len, matrices[t][m], len[LAYER1_PM + m]);
+            dump_len += len[LAYER1_PM + m];
+        }
 }
 
 static void fill(void)
@@ -104,8 +122,14 @@ int main(void)
             len[place] = layer1_reader_length(modes[m], place);
         word = layer1_start_reader(modes[m], MEMORIES);
         size_t reading = run(read, matrices);
-        printf("%u %zu %zu\n", modes[m], sending, reading);
-        above |= sending > LAYER1_SEND_STACK || reading > LAYER1_READ_STACK;
+        dumped(modes[m], matrices);
+        size_t judging = taken(judge);
+        if (layer1_number(word) != 0) {
+            printf("refused: number %u\n", layer1_number(word));
+            exit(1);
+        }
+        printf("%u %zu %zu %zu\n", modes[m], sending, reading, judging);
+        above |= sending > LAYER1_SEND_STACK || reading > LAYER1_READ_STACK || judging > LAYER1_JUDGE_STACK;
     }
     return above || taken(find) > LAYER1_SEND_STACK || taken(nearest) > LAYER1_SEND_STACK || taken(restore) > LAYER1_SEND_STACK
         || taken(fill) > LAYER1_SEND_STACK;

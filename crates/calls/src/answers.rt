@@ -24,6 +24,9 @@ pub fn number(answer: Answer) -> u8
         Answer::NoFrameFits => 14,
         Answer::SeveralFit => 15,
         Answer::WrongBudget => 16,
+        Answer::WrongMark => 17,
+        Answer::WrongVersion => 18,
+        Answer::WrongEnd => 19,
     }
 }
 
@@ -48,5 +51,8 @@ pub fn place(answer: Answer) -> usize
         Answer::NoFrameFits => 0,
         Answer::SeveralFit => 0,
         Answer::WrongBudget => 0,
+        Answer::WrongMark => 0,
+        Answer::WrongVersion => 0,
+        Answer::WrongEnd => 0,
     }
 }

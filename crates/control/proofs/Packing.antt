@@ -41,7 +41,7 @@ rowBit-lt m c z row column = go (ltb column 61)
     go true = encoded-lt m c z column row
     go false = omega arith
 
-blockBit-lt : (m c z n : ℕ) → blockBit m c z n < 2
+pub blockBit-lt : (m c z n : ℕ) → blockBit m c z n < 2
 unfolding blockBit
 blockBit-lt m c z n = rowBit-lt m c z _ _
 

@@ -5,9 +5,10 @@ use mathlib.Core.Bool.{cond}
 use native.Mathlib.Omega.{arith}
 use lib.Dec.{eqb}
 use Rattle.runs.specs.declared.Answer.{Answer}
-use Rattle.runs.specs.declared.Answer.the-variants.{Success, ModeNotCovered, StateNotValid, WrongLength, WrongControl, MainNotCoded, PidsNotCoded, FillNotZero, ExtendedNotCoded, ReservedTooHigh, SharesTooMany, SymbolTooHigh, ScaleNotUsable, MixedControl, NoFrameFits, SeveralFit, WrongBudget}
+use Rattle.runs.specs.declared.Answer.the-variants.{Success, ModeNotCovered, StateNotValid, WrongLength, WrongControl, MainNotCoded, PidsNotCoded, FillNotZero, ExtendedNotCoded, ReservedTooHigh, SharesTooMany, SymbolTooHigh, ScaleNotUsable, MixedControl, NoFrameFits, SeveralFit, WrongBudget, WrongMark, WrongVersion, WrongEnd}
 use Rattle.runs.specs.declared.State.{State}
 use Rattle.runs.specs.Answers.{numberOf, placeOf}
+use Rattle.dumps.specs.declared.Verdict.{Verdict}
 use Rattle.queries.specs.Finder.{Channel, none, p1, pids}
 use Rattle.queries.specs.Finder as Finder
 use Rattle.queries.specs.Places as Places
@@ -15,7 +16,7 @@ use Rattle.queries.specs.FinderPX.{Content, none as nothing, coded, fill}
 use Rattle.queries.specs.FinderPX as FinderPX
 use Rattle.queries.specs.Lookup as Lookup
 use Rattle.queries.specs.LookupFrame as LookupFrame
-use Rattle.exported.specs.Words.{answerWord, channelNumber, contentNumber, foundPxWord, foundWord, lookedUpFrameWord, lookedUpWord, numberRead, outcomeWord, placedWord}
+use Rattle.exported.specs.Words.{answerWord, channelNumber, contentNumber, foundPxWord, foundWord, lookedUpFrameWord, lookedUpWord, numberRead, outcomeWord, placedWord, verdictWord}
 use Rattle.exported.proofs.Findings.{Small, SmallPlace, SmallPX}
 
 pub number-lt : (a : Answer) → numberOf a < 2 ^ 8
@@ -36,6 +37,9 @@ number-lt (MixedControl k) = omega arith
 number-lt NoFrameFits = omega arith
 number-lt SeveralFit = omega arith
 number-lt WrongBudget = omega arith
+number-lt WrongMark = omega arith
+number-lt WrongVersion = omega arith
+number-lt WrongEnd = omega arith
 
 -- the byte of a word at a power of two
 abbrev pub byte : ℕ → ℕ → ℕ
@@ -127,6 +131,15 @@ pub looked-up-frame-fields : (v : LookupFrame.Values) → v .number < 2 ^ 8 → 
     × (lookedUpFrameWord v / 2 ^ 32 ≡ v .place)
 unfolding lookedUpFrameWord
 looked-up-frame-fields v n m z = (omega arith, omega arith, omega arith, omega arith)
+
+pub verdict-fields : (v : Verdict) → v .frame < 2 ^ 16
+    → (verdictWord v % 2 ^ 8 ≡ numberOf (v .answer))
+    × (verdictWord v / 2 ^ 16 % 2 ^ 16 ≡ v .frame)
+    × (verdictWord v / 2 ^ 32 ≡ placeOf (v .answer))
+unfolding verdictWord
+verdict-fields v f =
+    let n = number-lt (v .answer) in
+    (omega arith, omega arith, omega arith)
 
 pub answer-fields : (a : Answer) → (answerWord a % 2 ^ 8 ≡ numberOf a) × (answerWord a / 2 ^ 32 ≡ placeOf a)
 unfolding answerWord

@@ -13,7 +13,7 @@ use Rattle.bits.specs.Tests.{lowest}
 use Rattle.control.specs.Departs.{strays}
 use Rattle.control.specs.Modes.{covered}
 use Rattle.runs.specs.declared.Answer.{Answer}
-use Rattle.runs.specs.declared.Answer.the-variants.{Success, ModeNotCovered, StateNotValid, WrongLength, WrongControl, MainNotCoded, PidsNotCoded, FillNotZero, ExtendedNotCoded, ReservedTooHigh, SharesTooMany, SymbolTooHigh, ScaleNotUsable, MixedControl, NoFrameFits, SeveralFit, WrongBudget}
+use Rattle.runs.specs.declared.Answer.the-variants.{Success, ModeNotCovered, StateNotValid, WrongLength, WrongControl, MainNotCoded, PidsNotCoded, FillNotZero, ExtendedNotCoded, ReservedTooHigh, SharesTooMany, SymbolTooHigh, ScaleNotUsable, MixedControl, NoFrameFits, SeveralFit, WrongBudget, WrongMark, WrongVersion, WrongEnd}
 use Rattle.runs.specs.declared.Extended.the-variants.{P3, P4}
 use Rattle.runs.specs.declared.Kind.{Kind}
 use Rattle.runs.specs.declared.Kind.the-variants.{Unused, Narrow, Wide}
@@ -145,6 +145,9 @@ either place (MixedControl k) done other h l = l
 either place NoFrameFits done other h l = l
 either place SeveralFit done other h l = l
 either place WrongBudget done other h l = l
+either place WrongMark done other h l = l
+either place WrongVersion done other h l = l
+either place WrongEnd done other h l = l
 
 small-lengths : (sizes : List Size) → length sizes < 2 ^ 24 → Small (at WrongLength (wrong 0 sizes))
 small-lengths sizes h = small-at WrongLength (λ k. refl) (below-wrong 0 sizes (omega arith))

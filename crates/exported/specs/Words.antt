@@ -8,6 +8,7 @@ use Rattle.bits.specs.Listed.{listed}
 use Rattle.runs.specs.declared.Answer.{Answer}
 use Rattle.runs.specs.declared.State.{State}
 use Rattle.runs.specs.Answers.{numberOf, placeOf}
+use Rattle.dumps.specs.declared.Verdict.{Verdict}
 use Rattle.queries.specs.Finder.{Channel, none, p1, pids}
 use Rattle.queries.specs.Finder as Finder
 use Rattle.queries.specs.Places as Places
@@ -69,6 +70,10 @@ partAt word matrix = take (word / 2 ^ 32) (drop (word % 2 ^ 32) matrix)
 -- it is a part of PX2 for channel 4, and else of PX1
 abbrev pub chosen : ℕ → List ℕ → List ℕ → List ℕ
 chosen channel px1 px2 = cond (eqb channel 4) px2 px1
+
+-- a verdict on a dump
+unfoldable pub verdictWord : Verdict → ℕ
+verdictWord v = numberOf (v .answer) + 2 ^ 16 * v .frame + 2 ^ 32 * placeOf (v .answer)
 
 -- an answer alone
 unfoldable pub answerWord : Answer → ℕ

@@ -1,5 +1,6 @@
 // The entry points of `layer1` for C: numbers and slices of numbers alone cross, a state as its four numbers, and what a call returns beside its buffers is a word of fields (specs/Words.antt). `include/layer1.h` declares them.
 mod decoded;
+mod judged;
 mod lengths;
 mod questions;
 mod reads;
@@ -12,6 +13,7 @@ mod vectors;
 mod words;
 
 pub use decoded::layer1_nearest;
+pub use judged::layer1_judge;
 pub use lengths::layer1_reader_length;
 pub use lengths::layer1_sender_length;
 pub use questions::layer1_find;

@@ -10,6 +10,8 @@ pub use calls::start_reader;
 pub use calls::start_sender;
 pub use decoding::Decoded;
 pub use decoding::nearest;
+pub use dumps::Verdict;
+pub use dumps::judge;
 pub use mapping::Source;
 pub use mapping::fill_vector;
 pub use mapping::source_at;

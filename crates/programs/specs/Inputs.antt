@@ -3,22 +3,18 @@
 -- channel without data (S-5).
 use mathlib.Core.List.{List, [], _∷_}
 use Prim.Native.Nat.{ℕ, _+_}
-use lib.ListN.{getD, length, take, drop}
+use lib.ListN.{getD, length}
 use Rattle.runs.specs.declared.Answer.{Answer}
-use Rattle.runs.specs.declared.Extended.the-variants.{P3}
 use Rattle.runs.specs.declared.State.{State}
 use Rattle.runs.specs.MainChannels.{mainOf, p1Len, p2Len}
-use Rattle.runs.specs.Lengths.{kindOf, matrixLen, pidsLen, pmLen, px2Len, controlLen}
+use Rattle.runs.specs.Lengths.{pidsLen}
 use Rattle.runs.specs.Answers.{onSuccess}
 use Rattle.runs.specs.Causes.{Size, size, wrong}
-use Rattle.runs.specs.Lent.{Frames, Lent, Memory, Result, Signal}
+use Rattle.runs.specs.Lent.{Frames, Lent, Memory, Result}
 use Rattle.runs.specs.Sending.{refused, sendStep}
 use Rattle.calls.specs.Admitted.{admitted}
-use Rattle.calls.specs.Called.{frames, signal}
-
--- the n bytes from byte `from` on
-abbrev pub cut : (from n : ℕ) → List ℕ → List ℕ
-cut from n input = take n (drop from input)
+use Rattle.calls.specs.Called.{frames}
+use Rattle.dumps.specs.Layout.{cut}
 
 -- the number, P1, PIDS, P2, P3, P4
 unfoldable pub framesIn : (mode n3 n4 : ℕ) → List ℕ → Frames
@@ -27,17 +23,6 @@ framesIn mode n3 n4 input =
     let p2 = p2Len (mainOf mode) in
     frames (getD input 0 0) (cut 1 p1 input) (cut (1 + p1) pidsLen input) (cut (1 + p1 + pidsLen) p2 input) (cut (1 + p1 + pidsLen + p2) n3 input)
     (cut (1 + p1 + pidsLen + p2 + n3) n4 input)
-
--- PM, PX1, PX2, control
-unfoldable pub signalIn : ℕ → List ℕ → Signal
-signalIn mode input =
-    let px1 = matrixLen (kindOf mode P3) in
-    let px2 = px2Len mode in
-    signal (cut 0 pmLen input) (cut pmLen px1 input) (cut (pmLen + px1) px2 input) (cut (pmLen + px1 + px2) controlLen input)
-
--- the buffers lent to a call
-abbrev pub handed : Frames → Signal → Lent
-handed f x = record { frames = f; signal = x }
 
 -- the transfer frames of a sender's input that has not ended early
 unfoldable pub wholeSizes : (mode n3 n4 : ℕ) → Frames → List Size

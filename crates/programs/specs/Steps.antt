@@ -10,8 +10,9 @@ use Rattle.runs.specs.Answers.{numberOf}
 use Rattle.runs.specs.Lengths.{senderLen}
 use Rattle.runs.specs.Lent.{Lent, Memory, Result, Signal}
 use Rattle.runs.specs.Starting.{Started, start}
+use Rattle.dumps.specs.Judged.{handed}
 use Rattle.programs.specs.declared.Step.{Step}
-use Rattle.programs.specs.Inputs.{framesIn, handed, inputStep}
+use Rattle.programs.specs.Inputs.{framesIn, inputStep}
 
 -- a refusal ends the run
 unfoldable pub stepAfter : Answer → State → Step

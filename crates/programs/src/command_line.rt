@@ -101,14 +101,31 @@ pub fn argument_is(i: usize, word: &[u8]) -> bool {
     bits::same(&text[..n], word)
 }
 
+// How many words the program was started with, its own name the first; but for the last, where it is this word.
+pub fn words_before(word: &[u8]) -> usize {
+    let words = os::arg_count();
+    if words == 0 {
+        return 0;
+    }
+    if argument_is(words - 1, word) {
+        return words - 1;
+    }
+    words
+}
+
+// The arguments MODE and COUNT.
+fn mode_and_count() -> Arguments {
+    let mode = operand(1);
+    let count = operand(2);
+    arguments_of(mode, count)
+}
+
 // The arguments MODE and COUNT of a program that must have been started with this many words, its own name the first.
 pub fn read_arguments(words: usize) -> Arguments {
     if os::arg_count() != words {
         return Arguments::Wrong;
     }
-    let mode = operand(1);
-    let count = operand(2);
-    arguments_of(mode, count)
+    mode_and_count()
 }
 
 // The channels without data, and with how many words the program was started if these name them.
@@ -155,12 +172,15 @@ fn read_without() -> Without {
     }
 }
 
-// The arguments MODE and COUNT of a sender's program, and which channels are without data.
-pub fn read_sending() -> Sending {
+// The arguments MODE and COUNT of a sender's program, and which channels are without data, where these are `words` words.
+pub fn read_sending(words: usize) -> Sending {
     let without = read_without();
     let without3 = without.p3;
     let without4 = without.p4;
-    match read_arguments(without.words) {
+    if words != without.words {
+        return Sending::Wrong;
+    }
+    match mode_and_count() {
         Arguments::Run { mode, count } => sending_of(mode, count, without3, without4),
         Arguments::Wrong => Sending::Wrong,
     }

@@ -1,27 +1,15 @@
-// An L1 frame from a program's input, in which its number, if it is to be sent, and its buffers lie end to end.
+// An L1 frame to be sent from a program's input, in which its number and its transfer frames lie end to end.
+use dumps::end_of;
 use layer1::Outcome;
-use layer1::ReadOutcome;
 use runs::State;
 ghost use mathlib.Core.Path.{_≡_};
-ghost use Prim.Native.Nat.{_+_, _-_, _≤_, min};
-ghost use lib.ListN.{getD, length};
-ghost use Rattle.runs.specs.declared.Extended.the-variants.{P3};
+ghost use Prim.Native.Nat.{_+_, _≤_, min};
+ghost use lib.ListN.{getD};
 ghost use Rattle.runs.specs.MainChannels.{mainOf, p1Len, p2Len};
-ghost use Rattle.runs.specs.Lengths.{kindOf, matrixLen, pidsLen, pmLen, px2Len, controlLen};
-ghost use Rattle.runs.specs.Reading.{readStep};
-ghost use Rattle.calls.specs.Called.{frames, gave, lent, memory, readGave, signal};
-ghost use Rattle.programs.specs.Inputs.{framesIn, handed, inputStep, signalIn};
-
-// The end of the buffer of this length that starts at byte `from` of an input of n bytes.
-fn end_of(from: usize, length: usize, n: usize) -> usize
-    requires { ⌜ from ≤ n ⌝ }
-    ensures { λ r. ⌜ (from ≤ r) × (r ≤ n) × (r ≡ from + min length (n - from)) ⌝ }
-{
-    if length < n - from {
-        return from + length;
-    }
-    n
-}
+ghost use Rattle.runs.specs.Lengths.{pidsLen};
+ghost use Rattle.calls.specs.Called.{gave, lent, memory, signal};
+ghost use Rattle.dumps.specs.Judged.{handed};
+ghost use Rattle.programs.specs.Inputs.{framesIn, inputStep};
 
 // The bytes of a channel's eight frames, of which no mode has more than these.
 fn capped(n: usize) -> usize
@@ -41,14 +29,6 @@ pub fn frames_length(mode: u8, n3: usize, n4: usize) -> usize
     let p3 = capped(n3);
     let p4 = capped(n4);
     1 + want[0] + want[1] + want[2] + p3 + p4
-}
-
-// The bytes of an L1 frame's matrices and control sequences, PM, PX1, PX2 and control.
-pub fn signal_length(mode: u8) -> usize
-    ensures { λ r. ⌜ r ≡ pmLen + matrixLen (kindOf mode P3) + px2Len mode + controlLen ⌝ }
-{
-    let want = layer1::sender_lengths(mode);
-    want[5] + want[6] + want[7] + want[8]
 }
 
 // The number of the L1 frame in the input.
@@ -150,45 +130,6 @@ pub fn send_input(
         px1,
         px2,
         control,
-        memory3,
-        memory4,
-        delay,
-    )
-}
-
-// Reads the L1 frame whose matrices and control sequences lie in the input.
-pub fn read_input(
-    state: State,
-    input: &[u8],
-    p1: &mut [u8],
-    pids: &mut [u8],
-    p2: &mut [u8],
-    p3: &mut [u8],
-    p4: &mut [u8],
-    memory3: &mut [u8],
-    memory4: &mut [u8],
-    delay: &mut [u8],
-) -> ReadOutcome
-    ensures { λ r. ⌜ readGave r (memory (now (memory3 .exit)) (now (memory4 .exit)) (now (delay .exit))) (handed (frames (r .reserved) (now (p1 .exit)) (now (pids .exit)) (now (p2 .exit)) (now (p3 .exit)) (now (p4 .exit))) (signalIn (state .mode) (now (input .entry))))
-        ≡ readStep state (memory (now (memory3 .entry)) (now (memory4 .entry)) (now (delay .entry))) (handed (frames 0 (now (p1 .entry)) (now (pids .entry)) (now (p2 .entry)) (now (p3 .entry)) (now (p4 .entry))) (signalIn (state .mode) (now (input .entry)))) ⌝ }
-{
-    let n = input.len();
-    let want = layer1::reader_lengths(state.mode);
-    let a = end_of(0, want[5], n);
-    let b = end_of(a, want[6], n);
-    let c = end_of(b, want[7], n);
-    let d = end_of(c, want[8], n);
-    layer1::read(
-        state,
-        p1,
-        pids,
-        p2,
-        p3,
-        p4,
-        &input[..a],
-        &input[a..b],
-        &input[b..c],
-        &input[c..d],
         memory3,
         memory4,
         delay,

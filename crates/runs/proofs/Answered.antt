@@ -3,7 +3,7 @@ use mathlib.Core.Path.{_≡_, refl, sym, ap, _∙_}
 use mathlib.Core.Logic.{_⊎_, inl, inr, _≢_}
 use native.Mathlib.Omega.{arith}
 use Rattle.runs.specs.declared.Answer.{Answer}
-use Rattle.runs.specs.declared.Answer.the-variants.{Success, ModeNotCovered, StateNotValid, WrongLength, WrongControl, MainNotCoded, PidsNotCoded, FillNotZero, ExtendedNotCoded, ReservedTooHigh, SharesTooMany, SymbolTooHigh, ScaleNotUsable, MixedControl, NoFrameFits, SeveralFit, WrongBudget}
+use Rattle.runs.specs.declared.Answer.the-variants.{Success, ModeNotCovered, StateNotValid, WrongLength, WrongControl, MainNotCoded, PidsNotCoded, FillNotZero, ExtendedNotCoded, ReservedTooHigh, SharesTooMany, SymbolTooHigh, ScaleNotUsable, MixedControl, NoFrameFits, SeveralFit, WrongBudget, WrongMark, WrongVersion, WrongEnd}
 use Rattle.runs.specs.Answers.{numberOf, onSuccess}
 use Rattle.runs.specs.Lent.{Result}
 
@@ -26,6 +26,9 @@ either (MixedControl k) = inr (λ x y. refl)
 either NoFrameFits = inr (λ x y. refl)
 either SeveralFit = inr (λ x y. refl)
 either WrongBudget = inr (λ x y. refl)
+either WrongMark = inr (λ x y. refl)
+either WrongVersion = inr (λ x y. refl)
+either WrongEnd = inr (λ x y. refl)
 
 on-done : (done refused : Result) → onSuccess Success done refused ≡ done
 unfolding onSuccess
@@ -84,3 +87,6 @@ success-is (MixedControl k) e = absurd (omega arith)
 success-is NoFrameFits e = absurd (omega arith)
 success-is SeveralFit e = absurd (omega arith)
 success-is WrongBudget e = absurd (omega arith)
+success-is WrongMark e = absurd (omega arith)
+success-is WrongVersion e = absurd (omega arith)
+success-is WrongEnd e = absurd (omega arith)

@@ -1,9 +1,10 @@
 -- Laws of lists that the theorem about whole runs needs. Assumes nothing.
 use Prim.Native.Nat.{ℕ, zero, suc, _<_}
 use mathlib.Core.Path.{_≡_, refl, ap, _∙_}
-use mathlib.Core.List.{List, [], _∷_, map}
+use mathlib.Core.List.{List, [], _∷_, _++_, map}
 use native.Mathlib.Nat.{not-suc-le-zero, le-of-suc-le-suc}
 use lib.ListN.{length, getD}
+use Rattle.bits.specs.Bits.{Bytes}
 use Rattle.runs.specs.Defined.{table}
 
 pub length-map {ℓ κ} : {A : Type ℓ} {B : Type κ} (f : A → B) (l : List A) → length (map f l) ≡ length l
@@ -28,3 +29,9 @@ table-at (suc n) f d (suc t) h =
 
 pub cons-both {ℓ} : {A : Type ℓ} (x y : A) (xs ys : List A) → x ∷ xs ≡ y ∷ ys → (x ≡ y) × (xs ≡ ys)
 cons-both x y xs ys e = (cc, cc)
+
+-- two buffers end to end are made of bytes
+pub bytes-append : (a b : List ℕ) → Bytes a → Bytes b → Bytes (a ++ b)
+bytes-append [] b h k j = k j
+bytes-append (x ∷ a) b h k zero = h 0
+bytes-append (x ∷ a) b h k (suc j) = bytes-append a b (λ i. h (suc i)) k j

@@ -1,7 +1,7 @@
 -- Documents 01 and 02, the table of causes: the number and the place that each answer stands for.
 use Prim.Native.Nat.{ℕ}
 use Rattle.runs.specs.declared.Answer.{Answer}
-use Rattle.runs.specs.declared.Answer.the-variants.{Success, ModeNotCovered, StateNotValid, WrongLength, WrongControl, MainNotCoded, PidsNotCoded, FillNotZero, ExtendedNotCoded, ReservedTooHigh, SharesTooMany, SymbolTooHigh, ScaleNotUsable, MixedControl, NoFrameFits, SeveralFit, WrongBudget}
+use Rattle.runs.specs.declared.Answer.the-variants.{Success, ModeNotCovered, StateNotValid, WrongLength, WrongControl, MainNotCoded, PidsNotCoded, FillNotZero, ExtendedNotCoded, ReservedTooHigh, SharesTooMany, SymbolTooHigh, ScaleNotUsable, MixedControl, NoFrameFits, SeveralFit, WrongBudget, WrongMark, WrongVersion, WrongEnd}
 
 abbrev pub numberOf : Answer → ℕ
 numberOf Success = 0
@@ -21,6 +21,9 @@ numberOf (MixedControl block) = 13
 numberOf NoFrameFits = 14
 numberOf SeveralFit = 15
 numberOf WrongBudget = 16
+numberOf WrongMark = 17
+numberOf WrongVersion = 18
+numberOf WrongEnd = 19
 
 abbrev pub placeOf : Answer → ℕ
 placeOf Success = 0
@@ -40,6 +43,9 @@ placeOf (MixedControl block) = block
 placeOf NoFrameFits = 0
 placeOf SeveralFit = 0
 placeOf WrongBudget = 0
+placeOf WrongMark = 0
+placeOf WrongVersion = 0
+placeOf WrongEnd = 0
 
 -- the one thing on success, the other on each refusal
 unfoldable pub onSuccess : {A : Type 0} → Answer → A → A → A
@@ -60,3 +66,6 @@ onSuccess (MixedControl block) done refused = refused
 onSuccess NoFrameFits done refused = refused
 onSuccess SeveralFit done refused = refused
 onSuccess WrongBudget done refused = refused
+onSuccess WrongMark done refused = refused
+onSuccess WrongVersion done refused = refused
+onSuccess WrongEnd done refused = refused

@@ -52,4 +52,8 @@ pub enum Answer {
     SeveralFit,
     // document 02, S-12
     WrongBudget,
+    // document 02, S-13
+    WrongMark,
+    WrongVersion,
+    WrongEnd,
 }

@@ -1,4 +1,6 @@
-// sender MODE COUNT [without P3|P4|P3 P4]: reads COUNT L1 frames, each its reserved number, one byte, and its transfer frames, P1, PIDS, P2, P3, P4, but not of a channel without data, and writes for each its PM, PX1, PX2 and control.
+// sender MODE COUNT [without P3|P4|P3 P4] [dump]: reads COUNT L1 frames, each its reserved number, one byte, and its transfer frames, P1, PIDS, P2, P3, P4, but not of a channel without data, and writes for each its PM, PX1, PX2 and control. With `dump` the header
+// of a dump goes out before them (document 02, S-13).
+use libc::STDOUT_FILENO;
 use programs::Sending;
 use programs::Step;
 use runs::State;
@@ -40,10 +42,41 @@ fn turn(
     Step { state: next, go_on }
 }
 
+// Writes the header of a dump, and answers whether it went out. A count above 65,535 has none.
+fn write_header(mode: u8, count: u64) -> bool {
+    if count > 65535 {
+        return false;
+    }
+    let header = dumps::header_of(mode, count as usize);
+    io::write_all(STDOUT_FILENO, &header)
+}
+
+// Starts a sender, and writes the header of a dump where one is wanted.
+fn begin(
+    mode: u8,
+    count: u64,
+    dump: bool,
+    memory3: &mut [u8],
+    memory4: &mut [u8],
+    delay: &mut [u8],
+) -> Step {
+    let started = programs::start_sending(mode, memory3, memory4, delay);
+    if !dump {
+        return started;
+    }
+    if !started.go_on {
+        return started;
+    }
+    let state = started.state;
+    let go_on = write_header(mode, count);
+    Step { state, go_on }
+}
+
 // Starts a sender, and sends L1 frames till one is refused or `count` are sent.
 fn send_all(
     mode: u8,
     count: u64,
+    dump: bool,
     n3: usize,
     n4: usize,
     input: &mut [u8],
@@ -55,7 +88,7 @@ fn send_all(
     memory4: &mut [u8],
     delay: &mut [u8],
 ) {
-    let started = programs::start_sending(mode, memory3, memory4, delay);
+    let started = begin(mode, count, dump, memory3, memory4, delay);
     if !started.go_on {
         return;
     }
@@ -82,7 +115,7 @@ fn send_all(
 }
 
 // The buffers of a run in MP1, MP2, MP3 and MP11, each of its length in this mode: no P2, and no delay memory.
-fn run_plain(mode: u8, count: u64, n3: usize, n4: usize) {
+fn run_plain(mode: u8, count: u64, dump: bool, n3: usize, n4: usize) {
     let want = layer1::sender_lengths(mode);
     let mut input = [0u8; 27649];
     let mut pm = [0u8; 46080];
@@ -99,6 +132,7 @@ fn run_plain(mode: u8, count: u64, n3: usize, n4: usize) {
     send_all(
         mode,
         count,
+        dump,
         n3,
         n4,
         &mut input[..a],
@@ -113,7 +147,7 @@ fn run_plain(mode: u8, count: u64, n3: usize, n4: usize) {
 }
 
 // The buffers of a run in MP5: no P4.
-fn run_mp5(count: u64, n3: usize) {
+fn run_mp5(count: u64, dump: bool, n3: usize) {
     let mut input = [0u8; 23041];
     let mut pm = [0u8; 46080];
     let mut px1 = [0u8; 9216];
@@ -125,6 +159,7 @@ fn run_mp5(count: u64, n3: usize) {
     send_all(
         5,
         count,
+        dump,
         n3,
         0,
         &mut input[..a],
@@ -139,7 +174,7 @@ fn run_mp5(count: u64, n3: usize) {
 }
 
 // The buffers of a run in MP6: neither P3 nor P4.
-fn run_mp6(count: u64) {
+fn run_mp6(count: u64, dump: bool) {
     let mut input = [0u8; 18433];
     let mut pm = [0u8; 46080];
     let mut px2 = [0u8; 18432];
@@ -148,6 +183,7 @@ fn run_mp6(count: u64) {
     send_all(
         6,
         count,
+        dump,
         0,
         0,
         &mut input,
@@ -162,22 +198,37 @@ fn run_mp6(count: u64) {
 }
 
 // A run. The buffers of one mode and of another share the stack, since they stand in functions of their own.
-fn run(mode: u8, count: u64, n3: usize, n4: usize) {
+fn run(mode: u8, count: u64, dump: bool, n3: usize, n4: usize) {
     match mode {
-        5 => run_mp5(count, n3),
-        6 => run_mp6(count),
-        _ => run_plain(mode, count, n3, n4),
+        5 => run_mp5(count, dump, n3),
+        6 => run_mp6(count, dump),
+        _ => run_plain(mode, count, dump, n3, n4),
+    }
+}
+
+fn usage() {
+    programs::usage(b"sender MODE COUNT [without P3|P4|P3 P4] [dump]");
+}
+
+// A run whose L1 frames a dump can hold, where one is wanted.
+fn run_held(mode: u8, count: u64, dump: bool, n3: usize, n4: usize) {
+    if dump && count > 65535 {
+        usage();
+    } else {
+        run(mode, count, dump, n3, n4);
     }
 }
 
 fn main() {
-    match programs::read_sending() {
+    let words = programs::words_before(b"dump");
+    let dump = words < os::arg_count();
+    match programs::read_sending(words) {
         Sending::Run {
             mode,
             count,
             n3,
             n4,
-        } => run(mode, count, n3, n4),
-        Sending::Wrong => programs::usage(b"sender MODE COUNT [without P3|P4|P3 P4]"),
+        } => run_held(mode, count, dump, n3, n4),
+        Sending::Wrong => usage(),
     }
 }

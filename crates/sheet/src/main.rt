@@ -162,7 +162,7 @@ fn run(mode: u8, count: u64, n3: usize, n4: usize) {
 }
 
 fn main() {
-    match programs::read_sending() {
+    match programs::read_sending(os::arg_count()) {
         Sending::Run {
             mode,
             count,

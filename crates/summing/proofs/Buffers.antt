@@ -38,11 +38,6 @@ zeros-bytes zero j = omega arith
 zeros-bytes (suc n) zero = omega arith
 zeros-bytes (suc n) (suc j) = zeros-bytes n j
 
-pub bytes-append : (a b : List ℕ) → Bytes a → Bytes b → Bytes (a ++ b)
-bytes-append [] b h k j = k j
-bytes-append (x ∷ a) b h k zero = h 0
-bytes-append (x ∷ a) b h k (suc j) = bytes-append a b (λ i. h (suc i)) k j
-
 pub bytes-drop : (n : ℕ) (l : List ℕ) → Bytes l → Bytes (drop n l)
 bytes-drop n l h j = rw (getD-drop n l j 0) (h (n + j))
 

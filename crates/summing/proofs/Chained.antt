@@ -28,6 +28,7 @@ use Rattle.runs.specs.Chain.{Buffer, p1Coded, multiplexed, pmOf, codedOf, pxOf,
 use Rattle.runs.specs.Paths.{scrambledOf, oldest, waiting, p1′Of}
 use Rattle.runs.specs.Lent.{Frames, Memory, frameOf, memoryOf, signalOf, memoryNext}
 use Rattle.runs.specs.Defined.{memoryBefore, defined}
+use Rattle.runs.proofs.Lists.{bytes-append}
 use Rattle.runs.proofs.PM.{multiplexed-bit, scrambled-length}
 use Rattle.runs.proofs.PX.{matrix-length, memory-length}
 use Rattle.runs.proofs.PX2.{p1′-bytes, p1′-length}
@@ -35,7 +36,7 @@ use Rattle.runs.proofs.Delay.{waiting-length}
 use Rattle.runs.proofs.Sender.{MemoryRight, zeros-right}
 use Rattle.summing.specs.Sums.{sumOf, sumNumber, sumMatrices, sumMemory}
 use Rattle.summing.proofs.Sums.{Sums, sum-zero, sums-beside, sums-channel, sums-coded-each, sums-each, sums-written}
-use Rattle.summing.proofs.Buffers.{SumsOf, bits-sum, bytes-append, bytes-drop, bytes-sum, every-all, length-sum, packed-sum, sum-is, sums-append, sums-drop, sums-packed, sums-take, zeros-sum}
+use Rattle.summing.proofs.Buffers.{SumsOf, bits-sum, bytes-drop, bytes-sum, every-all, length-sum, packed-sum, sum-is, sums-append, sums-drop, sums-packed, sums-take, zeros-sum}
 use Rattle.summing.proofs.Controls.{control-sum}
 
 module _ {R : Type 0} (rs : List R) where

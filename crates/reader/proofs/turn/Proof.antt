@@ -6,14 +6,14 @@ use Rattle.reader.proofs.turn.Tie as tie
 read-full-requires : tie.Need-read-full-requires
 read-full-requires c κs = search needs
 
-slice-reshare-prefix-read-input : tie.Need-slice-reshare-prefix-read-input
-slice-reshare-prefix-read-input c = search needs
+slice-reshare-prefix-read-bytes : tie.Need-slice-reshare-prefix-read-bytes
+slice-reshare-prefix-read-bytes c = search needs
 
-slice-aggregate-read-input : tie.Need-slice-aggregate-read-input
-slice-aggregate-read-input c = search needs
+slice-aggregate-read-bytes : tie.Need-slice-aggregate-read-bytes
+slice-aggregate-read-bytes c = search needs
 
-read-input-requires : tie.Need-read-input-requires
-read-input-requires c κs = search needs
+read-bytes-requires : tie.Need-read-bytes-requires
+read-bytes-requires c κs = search needs
 
 number-requires : tie.Need-number-requires
 number-requires c κs = search needs
@@ -99,9 +99,9 @@ turn-spec =
     tie.close
     (tie.spec
     read-full-requires
-    slice-reshare-prefix-read-input
-    slice-aggregate-read-input
-    read-input-requires
+    slice-reshare-prefix-read-bytes
+    slice-aggregate-read-bytes
+    read-bytes-requires
     number-requires
     place-requires
     refuse-requires

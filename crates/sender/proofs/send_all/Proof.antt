@@ -8,7 +8,7 @@ use Rattle.sender.proofs.send_all.Statement.{statement}
 use Rattle.sender.proofs.send_all.Tie as tie
 
 abbrev Inv-loop : tie.InvT-loop
-Inv-loop mode count n3 n4 input₀ pm₀ px1₀ px2₀ control₀ memory3₀ memory4₀ delay₀ state₀ left₀ input pm px1 px2 control memory3 memory4 delay state left =
+Inv-loop mode count dump n3 n4 input₀ pm₀ px1₀ px2₀ control₀ memory3₀ memory4₀ delay₀ state₀ left₀ input pm px1 px2 control memory3 memory4 delay state left =
     (left ≤ count)
     × (length input ≡ length input₀)
     × (length pm ≡ length pm₀)
@@ -20,10 +20,10 @@ Inv-loop mode count n3 n4 input₀ pm₀ px1₀ px2₀ control₀ memory3₀ mem
     × (length delay ≡ length delay₀)
 
 abbrev μ-loop : tie.MeasureT-loop
-μ-loop mode count n3 n4 input₀ pm₀ px1₀ px2₀ control₀ memory3₀ memory4₀ delay₀ state₀ left₀ input pm px1 px2 control memory3 memory4 delay state left = left
+μ-loop mode count dump n3 n4 input₀ pm₀ px1₀ px2₀ control₀ memory3₀ memory4₀ delay₀ state₀ left₀ input pm px1 px2 control memory3 memory4 delay state left = left
 
-start-sending-requires : tie.Need-start-sending-requires Inv-loop μ-loop
-start-sending-requires c κs = search needs
+begin-requires : tie.Need-begin-requires Inv-loop μ-loop
+begin-requires c κs = search needs
 
 same-length : tie.Need-same-length Inv-loop μ-loop
 same-length c = search needs
@@ -100,7 +100,7 @@ send-all-spec =
     (tie.spec
     Inv-loop
     μ-loop
-    start-sending-requires
+    begin-requires
     same-length
     same-length-2
     same-length-3

@@ -1,12 +1,12 @@
--- `read_input` meets its contract: the buffers that it lends are those that the definition cuts out of the input. Assumes nothing.
+-- `read_bytes` meets its contract: the buffers that it lends are those that the definition cuts out of the bytes. Assumes nothing.
 use mathlib.Core.Path.{sym}
 use native.Mathlib.Omega.{arith}
 use denote.Ref.{now}
 use lib.Seq.{length-take-le}
-use Rattle.programs.proofs.Cut.{read-in, signal-is}
+use Rattle.dumps.proofs.Cut.{read-in, signal-is}
 use borrow.Author.Needs.{needs}
-use Rattle.programs.proofs.inputs.read_input.Statement.{statement}
-use Rattle.programs.proofs.inputs.read_input.Tie as tie
+use Rattle.dumps.proofs.frames.read_bytes.Statement.{statement}
+use Rattle.dumps.proofs.frames.read_bytes.Tie as tie
 
 reader-lengths-requires : tie.Need-reader-lengths-requires
 reader-lengths-requires c κs = search needs
@@ -99,12 +99,12 @@ returns c =
     let l = d .before .before .before .before in
     let a = l .before .before .before .before .before .before .before .before .before .before .args in
     read-in (got .read .result) _ _ _ _ _ _ _
-    (signal-is (a .state .mode) _ _ (now (a .input)) _ (l .reader-lengths .ensures) _ _ _ _
+    (signal-is (a .mode) _ _ (now (a .bytes)) _ (l .reader-lengths .ensures) _ _ _ _
     (d .before .before .before .end-of .ensures .2) (d .before .before .end-of2 .ensures .2) (d .before .end-of3 .ensures .2) (d .end-of4 .ensures .2))
     (got .read .ensures)
 
-pub read-input-spec : {M : Type 1} → statement M
-read-input-spec =
+pub read-bytes-spec : {M : Type 1} → statement M
+read-bytes-spec =
     tie.close
     (tie.spec
     reader-lengths-requires

@@ -1,0 +1,169 @@
+// Document 02, S-13: judging a dump.
+mod frames;
+mod headers;
+
+use calls::ReadOutcome;
+use calls::number;
+use calls::reader_lengths;
+use calls::start_reader;
+pub use frames::end_of;
+pub use frames::frame_bytes;
+pub use frames::read_bytes;
+pub use headers::head_answer;
+pub use headers::header_of;
+pub use headers::word_at;
+use runs::Answer;
+use runs::State;
+ghost use mathlib.Core.Path.{_≡_};
+ghost use lib.ListN.{length};
+ghost use Rattle.runs.specs.Lengths.{readerLen};
+ghost use Rattle.runs.specs.Starting.{zeros};
+ghost use Rattle.calls.specs.Called.{memory};
+ghost use Rattle.dumps.specs.Layout.{frameBytes};
+ghost use Rattle.dumps.specs.Next.{Next};
+ghost use Rattle.dumps.specs.Judged.{judged, judgedFresh, readFrame, verdict};
+
+// An answer, and the number of the L1 frame that it is given for.
+pub struct Verdict {
+    pub answer: Answer,
+    pub frame: usize,
+}
+
+pub fn judged_as(answer: Answer, frame: usize) -> Verdict
+    ensures { λ r. ⌜ r ≡ verdict answer frame ⌝ }
+{
+    Verdict { answer, frame }
+}
+
+// Reads an L1 frame of a dump into frames of its own, which nobody is shown.
+fn step(
+    mode: u8,
+    state: State,
+    bytes: &[u8],
+    memory3: &mut [u8],
+    memory4: &mut [u8],
+    delay: &mut [u8],
+) -> ReadOutcome
+    ensures { λ r. ⌜ (r .answer ≡ readFrame mode state (memory (now (memory3 .entry)) (now (memory4 .entry)) (now (delay .entry))) (now (bytes .entry)) .answer)
+        × (r .state ≡ readFrame mode state (memory (now (memory3 .entry)) (now (memory4 .entry)) (now (delay .entry))) (now (bytes .entry)) .state)
+        × (memory (now (memory3 .exit)) (now (memory4 .exit)) (now (delay .exit)) ≡ readFrame mode state (memory (now (memory3 .entry)) (now (memory4 .entry)) (now (delay .entry))) (now (bytes .entry)) .memory) ⌝ }
+{
+    let want = reader_lengths(mode);
+    let n1 = want[0];
+    let n2 = want[2];
+    let n3 = want[3];
+    let n4 = want[4];
+    let mut p1 = [0u8; 18272];
+    let mut pids = [0u8; 160];
+    let mut p2 = [0u8; 13664];
+    let mut p3 = [0u8; 4608];
+    let mut p4 = [0u8; 4608];
+    read_bytes(
+        mode,
+        state,
+        bytes,
+        &mut p1[..n1],
+        &mut pids,
+        &mut p2[..n2],
+        &mut p3[..n3],
+        &mut p4[..n4],
+        memory3,
+        memory4,
+        delay,
+    )
+}
+
+// What is said of an L1 frame, and the state after it.
+pub struct Judged {
+    pub verdict: Verdict,
+    pub state: State,
+}
+
+// Judges L1 frame t of a dump from the bytes that are left: cut short, refused, or, with the number 0, accepted.
+pub fn judge_frame(
+    mode: u8,
+    t: usize,
+    state: State,
+    bytes: &[u8],
+    memory3: &mut [u8],
+    memory4: &mut [u8],
+    delay: &mut [u8],
+) -> Judged
+    ensures { λ r. ⌜ Next mode t state (memory (now (memory3 .entry)) (now (memory4 .entry)) (now (delay .entry))) (now (bytes .entry)) r (memory (now (memory3 .exit)) (now (memory4 .exit)) (now (delay .exit))) ⌝ }
+{
+    let n = frame_bytes(mode);
+    if bytes.len() < n {
+        return Judged {
+            verdict: judged_as(Answer::WrongEnd, t),
+            state,
+        };
+    }
+    let read = step(mode, state, &bytes[..n], memory3, memory4, delay);
+    let answer = read.answer;
+    let next = read.state;
+    Judged {
+        verdict: judged_as(answer, t),
+        state: next,
+    }
+}
+
+// Judges the L1 frames of a dump, which follow its header.
+fn judge_frames(
+    mode: u8,
+    count: usize,
+    frames: &[u8],
+    memory3: &mut [u8],
+    memory4: &mut [u8],
+    delay: &mut [u8],
+) -> Verdict
+    requires { ⌜ memory (now memory3) (now memory4) (now delay) ≡ zeros readerLen mode ⌝ }
+    ensures { λ r. ⌜ r ≡ judgedFresh mode count (now (frames .entry)) ⌝ }
+{
+    let begun = start_reader(mode, memory3, memory4, delay);
+    let n = frame_bytes(mode);
+    let mut state = begun.state;
+    let mut at: usize = 0;
+    let mut t: usize = 0;
+    while t < count {
+        let judged = judge_frame(mode, t, state, &frames[at..], memory3, memory4, delay);
+        let verdict = judged.verdict;
+        let answer = verdict.answer;
+        if number(answer) != 0 {
+            return verdict;
+        }
+        state = judged.state;
+        at += n;
+        t += 1;
+    }
+    if at < frames.len() {
+        return judged_as(Answer::WrongEnd, count);
+    }
+    judged_as(Answer::Success, 0)
+}
+
+// Judges a dump: its header, then its L1 frames in order, as a reader begun fresh reads them.
+pub fn judge(dump: &[u8]) -> Verdict
+    ensures { λ r. ⌜ r ≡ judged (now (dump .entry)) ⌝ }
+{
+    let head = head_answer(dump);
+    if number(head) != 0 {
+        return judged_as(head, 0);
+    }
+    let mode = dump[5];
+    let count = word_at(dump, 6);
+    let want = reader_lengths(mode);
+    let n3 = want[9];
+    let n4 = want[10];
+    let nd = want[11];
+    let mut memory3 = [0u8; 27648];
+    let mut memory4 = [0u8; 27648];
+    let mut delay = [0u8; 27648];
+    judge_frames(
+        mode,
+        count,
+        &dump[8..],
+        &mut memory3[..n3],
+        &mut memory4[..n4],
+        &mut delay[..nd],
+    )
+}
