@@ -14,11 +14,9 @@ use Rattle.decoding.specs.Nearness.{Margin}
 use Rattle.decoding.specs.Outcomes.{judged, Answered}
 use Rattle.decoding.proofs.Answering.{budget-low, is-success, judged-place}
 use Rattle.decoding.proofs.Outcomes.{answered-once}
-use Rattle.exported.specs.Decoded.{AnsweredBy, decodedWord}
-use Rattle.exported.proofs.Fields.{byte, number-lt}
-
-abbrev pub SmallDecoded : Decoded → Type 0
-SmallDecoded d = (d .distance < 2 ^ 8) × (d .margin < 2 ^ 8) × (placeOf (d .answer) < 2 ^ 32)
+use Rattle.words.specs.Words.{decodedWord}
+use Rattle.words.proofs.Fields.{SmallDecoded}
+use Rattle.exported.specs.Decoded.{AnsweredBy}
 
 margin-low : (cells : List ℕ) (budget d m : ℕ) → budget ≤ 64 → Margin cells budget d m → m ≤ d
 margin-low cells budget d m l h =
@@ -40,17 +38,6 @@ decoded-small cells before after budget d a = go (is-success (judged cells befor
         let m = margin-low cells budget (d .distance) (d .margin) (budget-low cells before budget e) (n .margin) in
         (omega (arith, n .distance), omega (arith, n .distance), place)
     go (no e) = let r = a .refused e in (omega (arith, r .distance), omega (arith, r .margin), place)
-
--- the fields of a word are what it was made of
-pub decoded-fields : (d : Decoded) → SmallDecoded d
-    → (decodedWord d % 2 ^ 8 ≡ numberOf (d .answer))
-    × (byte (decodedWord d) (2 ^ 8) ≡ d .distance)
-    × (byte (decodedWord d) (2 ^ 16) ≡ d .margin)
-    × (decodedWord d / 2 ^ 32 ≡ placeOf (d .answer))
-unfolding decodedWord
-decoded-fields d (h, l, p) =
-    let n = number-lt (d .answer) in
-    (omega arith, omega arith, omega arith, omega arith)
 
 pub word-once : (cells before x y : List ℕ) (budget v w : ℕ) → AnsweredBy cells before x budget v → AnsweredBy cells before y budget w → (x ≡ y) × (v ≡ w)
 word-once cells before x y budget v w a b =

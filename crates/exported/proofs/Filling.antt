@@ -9,7 +9,7 @@ use Rattle.runs.specs.Answers.{placeOf}
 use Rattle.runs.specs.Lent.{Signal}
 use Rattle.mapping.specs.Vector.{Vector, filled, vector}
 use Rattle.exported.specs.Left.{vectorLeft, vectorLeftBy}
-use Rattle.exported.specs.Words.{answerWord}
+use Rattle.words.specs.Words.{answerWord}
 use Rattle.exported.proofs.Places.{fill-place}
 
 module _ (answer : Answer) (mode symbol : ℕ) (lower upper : Float) (g : Signal) (re im re′ im′ : List Float)

@@ -42,10 +42,8 @@ use Rattle.queries.specs.LookupFrame.{lookupFrameOf, values as valuesOfFrame, t
 use Rattle.queries.specs.Finder as Finder
 use Rattle.queries.specs.Places.{placed}
 use Rattle.queries.specs.Places as Places
+use Rattle.words.proofs.Fields.{Small, SmallPlace, SmallPX}
 use Rattle.queries.proofs.Placing.{row-out, column-out, within, found-row-out, found-column-out, found-within}
-
-abbrev pub Small : Finder.Values → Type 0
-Small v = (v .place < 2 ^ 8) × (v .frame < 2 ^ 8) × (v .bit < 2 ^ 24)
 
 told-small : (s : Source) → Either 365440 3200 s → Small (values (told s))
 told-small (first i) h = (omega arith, omega arith, omega arith)
@@ -70,9 +68,6 @@ found-small row column =
 
 -- ---- the position of a row and a column
 
-abbrev pub SmallPlace : Places.Values → Type 0
-SmallPlace v = (v .place < 2 ^ 8) × Inside 20 16 36 (v .position)
-
 zeros : Inside 20 16 36 (record { block = 0; row = 0; partition = 0; column = 0 })
 zeros = record { block-lt = omega arith; row-lt = omega arith; partition-lt = omega arith; column-lt = omega arith }
 
@@ -84,9 +79,6 @@ placed-small row column =
     (λ h l. rw (← within row column h l) (omega arith, positions-pm .inside row column h l))
 
 -- ---- PX1 and PX2
-
-abbrev pub SmallPX : FinderPX.Values → Type 0
-SmallPX v = (v .place < 2 ^ 8) × (v .frame < 2 ^ 8) × (v .before < 2 ^ 8) × (v .bit < 2 ^ 24)
 
 refused-small : (a : Answer) → placeOf a < 2 ^ 8 → SmallPX (valuesPX (RefusedPX a))
 refused-small a h = (h, omega arith, omega arith, omega arith)

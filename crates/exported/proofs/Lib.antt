@@ -3,7 +3,6 @@ mod Verdicts
 mod Filling
 mod Outcomes
 mod Findings
-mod Fields
 mod Decoding
 mod Restoring
 mod Parts

@@ -16,7 +16,7 @@ use Rattle.runs.proofs.Answered.{not-success, success-is}
 use Rattle.calls.specs.declared.states.Outcome.{Outcome}
 use Rattle.calls.specs.declared.states.ReadOutcome.{ReadOutcome}
 use Rattle.calls.specs.Called.{gave, readGave, startGave}
-use Rattle.exported.specs.Words.{numberRead, outcomeWord}
+use Rattle.words.specs.Words.{numberRead, outcomeWord}
 use Rattle.exported.specs.Left.{left, leftBy, startLeft, startLeftBy}
 
 module _ (o : Outcome) (m : Memory) (step : Started) (e : startGave o m ≡ step) where

@@ -11,19 +11,13 @@ use borrow.Author.Tests.{ltb-true, eqb-true, ne-eqb}
 use Rattle.bits.proofs.Tests.{and-true}
 use Rattle.runs.specs.Lengths.{pmLen}
 use Rattle.queries.specs.Rows.{partOf, pmRow, pxRow}
-use Rattle.exported.specs.Words.{chosen, partAt, rowWord}
+use Rattle.words.specs.Words.{chosen, partAt, rowWord}
+use Rattle.words.proofs.Fields.{start-lt}
 
 -- a part of a matrix of 512 rows of n bytes: row `row` of it, or none
 pub data Handed (n row : ℕ) (matrix : List ℕ) : List ℕ → Type 0 where
   whole : row < 512 → length (partOf n row matrix) ≡ n → Handed n row matrix (partOf n row matrix)
   empty : Handed n row matrix []
-
--- where a row starts
-pub start-lt : (row n : ℕ) → n < 256 → row < 512 → row * n < 2 ^ 32
-start-lt row n h l =
-    let r : row ≤ 511 = omega arith in
-    let k : n ≤ 255 = omega arith in
-    omega (arith, mul-le-mul r k)
 
 -- what the word of such a part needs, and what it tells
 pub long : (n row : ℕ) (matrix part : List ℕ) → n < 256 → Handed n row matrix part → (length part < 256) × (0 < length part → row < 512)

@@ -8,7 +8,7 @@ use Rattle.runs.specs.Answers.{placeOf}
 use Rattle.restoring.specs.Restored.{Restored}
 use Rattle.restoring.proofs.Outcomes.{restored-once, restored-place}
 use Rattle.exported.specs.Restored.{RestoredBy}
-use Rattle.exported.specs.Words.{answerWord}
+use Rattle.words.specs.Words.{answerWord}
 
 pub restored-small : (cells before after : List ℕ) (r : Answer) → Restored cells before after r → placeOf r < 2 ^ 32
 restored-small cells before after r a = omega (arith, restored-place cells before after r a)

@@ -11,7 +11,7 @@ use Rattle.runs.specs.declared.Answer.the-variants.{Success, WrongLength, Share
 use Rattle.runs.specs.Answers.{placeOf}
 use Rattle.allocation.specs.Allocation.{Outcome, granted, outcome, placesOf, shared, total}
 use Rattle.exported.specs.Left.{placesLeft, placesLeftBy}
-use Rattle.exported.specs.Words.{answerWord, eightOf}
+use Rattle.words.specs.Words.{answerWord, eightOf}
 
 shared-place : (shares waiting places : List ℕ) → placeOf (shared shares waiting places .answer) < 2 ^ 32
 unfolding shared

@@ -7,7 +7,7 @@ use Rattle.mapping.specs.Vector.{Vector}
 use Rattle.runs.specs.declared.State.{State}
 use Rattle.runs.specs.Lent.{Lent, Memory, Result}
 use Rattle.runs.specs.Starting.{Started}
-use Rattle.exported.specs.Words.{answerWord, outcomeWord}
+use Rattle.words.specs.Words.{answerWord, outcomeWord}
 
 -- a state crosses as its four numbers
 abbrev pub stateOf : (mode half age last : ℕ) → State

@@ -4,7 +4,7 @@ use mathlib.Core.List.{List}
 use Prim.Native.Nat.{ℕ}
 use Rattle.runs.specs.declared.Answer.{Answer}
 use Rattle.restoring.specs.Restored.{Restored}
-use Rattle.exported.specs.Words.{answerWord}
+use Rattle.words.specs.Words.{answerWord}
 
 -- the word of the one outcome of S-11: the law `restored-word-once`
 pub record RestoredBy (cells before after : List ℕ) (word : ℕ) : Type 0 where

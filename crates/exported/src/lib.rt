@@ -1,4 +1,4 @@
-// The entry points of `layer1` for C: numbers and slices of numbers alone cross, a state as its four numbers, and what a call returns beside its buffers is a word of fields (specs/Words.antt). `include/layer1.h` declares them.
+// The entry points of `layer1` for C: numbers and slices of numbers alone cross, a state as its four numbers, and what a call returns beside its buffers is a word of fields (crate `words`). `include/layer1.h` declares them.
 mod decoded;
 mod judged;
 mod lengths;
@@ -10,7 +10,6 @@ mod sends;
 mod sharing;
 mod starts;
 mod vectors;
-mod words;
 
 pub use decoded::layer1_nearest;
 pub use judged::layer1_judge;

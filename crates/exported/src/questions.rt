@@ -1,10 +1,10 @@
 // Documents 01 and 02: the cell finders, where a row and a column of PM stand, and what a control block or the sixteen of an L1 frame say.
-use crate::words::found_px_word;
-use crate::words::found_word;
-use crate::words::looked_up_frame_word;
-use crate::words::looked_up_word;
-use crate::words::placed_word;
 use layer1::State;
+use words::found_px_word;
+use words::found_word;
+use words::looked_up_frame_word;
+use words::looked_up_word;
+use words::placed_word;
 ghost use mathlib.Core.Path.{_≡_};
 ghost use Rattle.queries.specs.Finder.{found, values};
 ghost use Rattle.queries.specs.Places.{placed, values as valuesOfPlace};
@@ -12,7 +12,7 @@ ghost use Rattle.queries.specs.FinderPX.{foundPX, values as valuesPX};
 ghost use Rattle.queries.specs.Lookup.{lookupOf, values as valuesOfBlock};
 ghost use Rattle.queries.specs.LookupFrame.{lookupFrameOf, values as valuesOfFrame};
 ghost use Rattle.exported.specs.Left.{stateOf};
-ghost use Rattle.exported.specs.Words.{foundPxWord, foundWord, lookedUpFrameWord, lookedUpWord, placedWord};
+ghost use Rattle.words.specs.Words.{foundPxWord, foundWord, lookedUpFrameWord, lookedUpWord, placedWord};
 
 // Whose coded bit stands in a cell of PM.
 #[no_mangle]

@@ -1,11 +1,11 @@
 // Document 01: reading an L1 frame.
-use crate::words::outcome_word;
 use layer1::State;
+use words::outcome_word;
 ghost use mathlib.Core.Path.{_≡_};
 ghost use Rattle.runs.specs.Reading.{readStep};
 ghost use Rattle.calls.specs.Called.{lent, memory};
 ghost use Rattle.exported.specs.Left.{left, leftBy, stateOf};
-ghost use Rattle.exported.specs.Words.{numberRead};
+ghost use Rattle.words.specs.Words.{numberRead};
 
 // Reads an L1 frame. Its reserved number is in the word.
 #[no_mangle]

@@ -1,5 +1,5 @@
 // Document 02, S-11: the frame that fits the cells that were read.
-use crate::words::answer_word;
+use words::answer_word;
 ghost use Rattle.exported.specs.Restored.{RestoredBy};
 
 // The frame that fits the cells that were read, where exactly one does.

@@ -1,8 +1,8 @@
 // Document 01: one row of a matrix, as where it starts in the matrix and how many bytes it has.
-use crate::words::row_word;
+use words::row_word;
 ghost use mathlib.Core.Path.{_≡_};
 ghost use Rattle.queries.specs.Rows.{pmRow, pxRow};
-ghost use Rattle.exported.specs.Words.{chosen, partAt, rowWord};
+ghost use Rattle.words.specs.Words.{chosen, partAt, rowWord};
 
 // A row of PM.
 #[no_mangle]

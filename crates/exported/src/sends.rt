@@ -1,6 +1,6 @@
 // Document 01: sending an L1 frame.
-use crate::words::outcome_word;
 use layer1::State;
+use words::outcome_word;
 ghost use mathlib.Core.Path.{_≡_};
 ghost use Rattle.runs.specs.Sending.{sendStep};
 ghost use Rattle.calls.specs.Called.{lent, memory};

@@ -1,10 +1,10 @@
 // Document 02, S-4: the PIDS places of an L1 frame. The shares and the counts of the eight sources cross in a word each, so neither has a length that could be wrong.
-use crate::words::answer_word;
-use crate::words::eight;
+use words::answer_word;
+use words::eight;
 ghost use mathlib.Core.Path.{_≡_};
 ghost use Rattle.allocation.specs.Allocation.{shared};
 ghost use Rattle.exported.specs.Left.{placesLeft, placesLeftBy};
-ghost use Rattle.exported.specs.Words.{eightOf};
+ghost use Rattle.words.specs.Words.{eightOf};
 
 // Shares the sixteen places among the eight sources.
 #[no_mangle]

@@ -1,5 +1,5 @@
 // Document 01: starting a sender and starting a reader.
-use crate::words::outcome_word;
+use words::outcome_word;
 ghost use mathlib.Core.Path.{_≡_};
 ghost use Rattle.runs.specs.Lengths.{readerLen, senderLen};
 ghost use Rattle.runs.specs.Starting.{start};

@@ -1,5 +1,5 @@
 // Document 02, S-7: the output vector of a symbol. The lengths of the two parts are counted in numbers.
-use crate::words::answer_word;
+use words::answer_word;
 ghost use mathlib.Core.Path.{_≡_};
 ghost use Rattle.calls.specs.Called.{signal};
 ghost use Rattle.mapping.specs.Vector.{filled};

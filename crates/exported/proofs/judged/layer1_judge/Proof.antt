@@ -3,7 +3,7 @@ use mathlib.Core.Path.{ap, _∙_}
 use native.Mathlib.Omega.{arith}
 use denote.Ref.{now}
 use borrow.Author.Needs.{needs}
-use Rattle.exported.specs.Words.{verdictWord}
+use Rattle.words.specs.Words.{verdictWord}
 use Rattle.exported.proofs.Verdicts.{verdict-small}
 use Rattle.exported.proofs.judged.layer1_judge.Statement.{statement}
 use Rattle.exported.proofs.judged.layer1_judge.Tie as tie

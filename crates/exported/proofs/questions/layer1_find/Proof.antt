@@ -1,7 +1,8 @@
 -- `layer1_find` meets its contract: what the finder found, in a word. Assumes nothing.
 use mathlib.Core.Path.{sym, ap, subst, _∙_}
-use Rattle.exported.specs.Words.{foundWord}
-use Rattle.exported.proofs.Findings.{Small, found-small}
+use Rattle.words.specs.Words.{foundWord}
+use Rattle.words.proofs.Fields.{Small}
+use Rattle.exported.proofs.Findings.{found-small}
 use borrow.Author.Needs.{needs}
 use Rattle.exported.proofs.questions.layer1_find.Statement.{statement}
 use Rattle.exported.proofs.questions.layer1_find.Tie as tie

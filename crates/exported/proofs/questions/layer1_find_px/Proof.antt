@@ -1,7 +1,8 @@
 -- `layer1_find_px` meets its contract: what the finder found, in a word. Assumes nothing.
 use mathlib.Core.Path.{sym, ap, subst, _∙_}
-use Rattle.exported.specs.Words.{foundPxWord}
-use Rattle.exported.proofs.Findings.{SmallPX, foundPX-small}
+use Rattle.words.specs.Words.{foundPxWord}
+use Rattle.words.proofs.Fields.{SmallPX}
+use Rattle.exported.proofs.Findings.{foundPX-small}
 use borrow.Author.Needs.{needs}
 use Rattle.exported.proofs.questions.layer1_find_px.Statement.{statement}
 use Rattle.exported.proofs.questions.layer1_find_px.Tie as tie

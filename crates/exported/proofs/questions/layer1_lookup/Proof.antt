@@ -2,7 +2,7 @@
 use mathlib.Core.Path.{sym, ap, subst, _∙_}
 use Prim.Native.Nat.{_<_, _^_}
 use Rattle.queries.specs.Lookup.{Values}
-use Rattle.exported.specs.Words.{lookedUpWord}
+use Rattle.words.specs.Words.{lookedUpWord}
 use Rattle.exported.proofs.Findings.{lookup-place}
 use borrow.Author.Needs.{needs}
 use Rattle.exported.proofs.questions.layer1_lookup.Statement.{statement}

@@ -2,7 +2,7 @@
 use mathlib.Core.Path.{sym, ap, subst, _∙_}
 use Prim.Native.Nat.{_<_, _^_}
 use Rattle.queries.specs.LookupFrame.{Values}
-use Rattle.exported.specs.Words.{lookedUpFrameWord}
+use Rattle.words.specs.Words.{lookedUpFrameWord}
 use Rattle.exported.proofs.Findings.{lookup-frame-place}
 use borrow.Author.Needs.{needs}
 use Rattle.exported.proofs.questions.layer1_lookup_frame.Statement.{statement}

@@ -1,7 +1,8 @@
 -- `layer1_place_of` meets its contract: the position that was given, in a word. Assumes nothing.
 use mathlib.Core.Path.{sym, ap, subst, _∙_}
-use Rattle.exported.specs.Words.{placedWord}
-use Rattle.exported.proofs.Findings.{SmallPlace, placed-small}
+use Rattle.words.specs.Words.{placedWord}
+use Rattle.words.proofs.Fields.{SmallPlace}
+use Rattle.exported.proofs.Findings.{placed-small}
 use borrow.Author.Needs.{needs}
 use Rattle.exported.proofs.questions.layer1_place_of.Statement.{statement}
 use Rattle.exported.proofs.questions.layer1_place_of.Tie as tie

@@ -1,7 +1,7 @@
 -- `layer1_px_row` meets its contract: the word tells the part that is handed back. Assumes nothing.
 use mathlib.Core.Path.{sym, ap, subst, _∙_}
 use native.Mathlib.Omega.{arith}
-use Rattle.exported.specs.Words.{rowWord}
+use Rattle.words.specs.Words.{rowWord}
 use Rattle.exported.proofs.Parts.{Handed, long, px-handed, tells}
 use borrow.Author.Needs.{needs}
 use Rattle.exported.proofs.rows.layer1_px_row.Statement.{statement}
