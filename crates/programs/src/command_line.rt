@@ -1,91 +1,10 @@
-// The arguments of a run's program.
+// The arguments of a run's program, read from the system.
+use arguments::Arguments;
+use arguments::Sending;
+use arguments::arguments_of;
+use arguments::sending_of;
 use libc::STDERR_FILENO;
 use operands::Operand;
-ghost use mathlib.Core.Path.{_≡_};
-ghost use Rattle.programs.specs.Arguments.{argumentsOf, carriedOf, misnamed, modeOf, sendingOf};
-
-pub enum Arguments {
-    Run { mode: u8, count: u64 },
-    Wrong,
-}
-
-// The mode that an argument names.
-fn mode_of(number: u64) -> u8
-    ensures { λ r. ⌜ r ≡ modeOf number ⌝ }
-{
-    if number < 255 {
-        return number as u8;
-    }
-    255
-}
-
-// The arguments from each alone.
-fn arguments_of(mode: Operand, count: Operand) -> Arguments
-    ensures { λ r. ⌜ r ≡ argumentsOf mode count ⌝ }
-{
-    match mode {
-        Operand::Number(number) => {
-            match count {
-                Operand::Number(count) => Arguments::Run {
-                    mode: mode_of(number),
-                    count,
-                },
-                Operand::NotDecimal => Arguments::Wrong,
-            }
-        }
-        Operand::NotDecimal => Arguments::Wrong,
-    }
-}
-
-// What a sender's program is to do: also how many bytes of P3 and P4 its input has for an L1 frame.
-pub enum Sending {
-    Run {
-        mode: u8,
-        count: u64,
-        n3: usize,
-        n4: usize,
-    },
-    Wrong,
-}
-
-// The bytes of a channel in the input: none where it is without data (document 02, S-5).
-fn carried(want: usize, without: bool) -> usize
-    ensures { λ r. ⌜ r ≡ carriedOf want without ⌝ }
-{
-    if without {
-        return 0;
-    }
-    want
-}
-
-// Whether a channel is said to be without data that the mode has not.
-fn is_misnamed(want: usize, without: bool) -> bool
-    ensures { λ r. ⌜ r ≡ misnamed want without ⌝ }
-{
-    if without {
-        return want == 0;
-    }
-    false
-}
-
-// What a sender's program is to do, from the mode, the count and the channels without data.
-fn sending_of(mode: u8, count: u64, without3: bool, without4: bool) -> Sending
-    ensures { λ r. ⌜ r ≡ sendingOf mode count without3 without4 ⌝ }
-{
-    let want = layer1::sender_lengths(mode);
-    if is_misnamed(want[3], without3) {
-        return Sending::Wrong;
-    }
-    if is_misnamed(want[4], without4) {
-        return Sending::Wrong;
-    }
-    Sending::Run {
-        mode,
-        count,
-        n3: carried(want[3], without3),
-        n4: carried(want[4], without4),
-    }
-}
 
 // An argument of the program. One longer than the buffer is not taken as a number.
 pub fn operand(i: usize) -> Operand {

@@ -5,11 +5,11 @@ mod frames;
 mod inputs;
 mod lines;
 
+pub use arguments::Arguments;
+pub use arguments::Sending;
 pub use buffers::within;
 pub use buffers::write_four;
 pub use buffers::write_two;
-pub use command_line::Arguments;
-pub use command_line::Sending;
 pub use command_line::argument_is;
 pub use command_line::operand;
 pub use command_line::read_arguments;

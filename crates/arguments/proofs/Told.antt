@@ -7,8 +7,8 @@ use lib.ListN.{getD}
 use Rattle.runs.specs.declared.Extended.the-variants.{P3, P4}
 use Rattle.runs.specs.Lengths.{kindOf, frameLen}
 use Rattle.calls.specs.Sizes.{wanted}
-use Rattle.programs.specs.declared.command_line.Sending.the-variants.{Run, Wrong}
-use Rattle.programs.specs.Arguments.{carriedOf, misnamed, sendingOf}
+use Rattle.arguments.specs.declared.Sending.the-variants.{Run, Wrong}
+use Rattle.arguments.specs.Arguments.{carriedOf, misnamed, sendingOf}
 
 module _ (mode count m3 m4 : ℕ) (want : List ℕ) (w : want ≡ wanted mode m3 m4) (without3 without4 : Bool) where
   third : getD want 3 0 ≡ frameLen (kindOf mode P3)

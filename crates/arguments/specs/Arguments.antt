@@ -6,10 +6,10 @@ use Rattle.runs.specs.declared.Extended.the-variants.{P3, P4}
 use Rattle.runs.specs.Lengths.{kindOf, frameLen}
 use Rattle.operands.specs.declared.Operand.{Operand}
 use Rattle.operands.specs.declared.Operand.the-variants.{Number, NotDecimal}
-use Rattle.programs.specs.declared.command_line.Arguments.{Arguments}
-use Rattle.programs.specs.declared.command_line.Arguments.the-variants.{Run, Wrong}
-use Rattle.programs.specs.declared.command_line.Sending.{Sending}
-use Rattle.programs.specs.declared.command_line.Sending.the-variants as sending
+use Rattle.arguments.specs.declared.Arguments.{Arguments}
+use Rattle.arguments.specs.declared.Arguments.the-variants.{Run, Wrong}
+use Rattle.arguments.specs.declared.Sending.{Sending}
+use Rattle.arguments.specs.declared.Sending.the-variants as sending
 
 -- a number that no byte holds stands as 255, which is no mode's number
 abbrev pub modeOf : ℕ → ℕ

@@ -1,8 +1,8 @@
 -- `sending_of` meets its contract: the tests are the definition's. Assumes nothing.
-use Rattle.programs.proofs.Told.{both-named, p3-misnamed, p4-misnamed}
+use Rattle.arguments.proofs.Told.{both-named, p3-misnamed, p4-misnamed}
 use borrow.Author.Needs.{needs}
-use Rattle.programs.proofs.command_line.sending_of.Statement.{statement}
-use Rattle.programs.proofs.command_line.sending_of.Tie as tie
+use Rattle.arguments.proofs.sending_of.Statement.{statement}
+use Rattle.arguments.proofs.sending_of.Tie as tie
 
 sender-lengths-requires : tie.Need-sender-lengths-requires
 sender-lengths-requires c κs = search needs

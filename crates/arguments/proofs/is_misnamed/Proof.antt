@@ -1,8 +1,8 @@
 -- `is_misnamed` meets its contract. Assumes nothing.
 use borrow.Author.Needs.{needs}
-use Rattle.programs.specs.Arguments.{misnamed}
-use Rattle.programs.proofs.command_line.is_misnamed.Statement.{statement}
-use Rattle.programs.proofs.command_line.is_misnamed.Tie as tie
+use Rattle.arguments.specs.Arguments.{misnamed}
+use Rattle.arguments.proofs.is_misnamed.Statement.{statement}
+use Rattle.arguments.proofs.is_misnamed.Tie as tie
 
 returns : tie.Need-returns
 unfolding misnamed

@@ -4,10 +4,10 @@ use Prim.Native.Nat.{ℕ}
 use borrow.Author.Needs.{needs}
 use Rattle.operands.specs.declared.Operand.{Operand}
 use Rattle.operands.specs.declared.Operand.the-variants.{Number}
-use Rattle.programs.specs.Arguments.{argumentsOf, modeOf}
-use Rattle.programs.specs.declared.command_line.Arguments.the-variants.{Run}
-use Rattle.programs.proofs.command_line.arguments_of.Statement.{statement}
-use Rattle.programs.proofs.command_line.arguments_of.Tie as tie
+use Rattle.arguments.specs.Arguments.{argumentsOf, modeOf}
+use Rattle.arguments.specs.declared.Arguments.the-variants.{Run}
+use Rattle.arguments.proofs.arguments_of.Statement.{statement}
+use Rattle.arguments.proofs.arguments_of.Tie as tie
 
 both : {mode count : Operand} {number n m : ℕ} → mode ≡ Number number → count ≡ Number n → m ≡ modeOf number → Run m n ≡ argumentsOf mode count
 both f g e = ap₂ Run e refl ∙ sym (ap₂ argumentsOf f g)

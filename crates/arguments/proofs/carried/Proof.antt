@@ -1,8 +1,8 @@
 -- `carried` meets its contract. Assumes nothing.
 use borrow.Author.Needs.{needs}
-use Rattle.programs.specs.Arguments.{carriedOf}
-use Rattle.programs.proofs.command_line.carried.Statement.{statement}
-use Rattle.programs.proofs.command_line.carried.Tie as tie
+use Rattle.arguments.specs.Arguments.{carriedOf}
+use Rattle.arguments.proofs.carried.Statement.{statement}
+use Rattle.arguments.proofs.carried.Tie as tie
 
 returns : tie.Need-returns
 unfolding carriedOf
