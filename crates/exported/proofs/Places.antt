@@ -30,8 +30,8 @@ use Rattle.runs.specs.Judged.{countedFirst, fillPlace, framePlace, mainPlace}
 use Rattle.runs.specs.Reading.{pushed, readAnswer, readStep, received}
 use Rattle.runs.specs.Sending.{lentSizes, sendAnswer, sendStep, sent}
 use Rattle.runs.specs.Starting.{memorySizes, start, startAnswer, started, valid}
-use Rattle.mapping.specs.Points.{usable}
-use Rattle.mapping.specs.Tables.{mapped}
+use Rattle.points.specs.Points.{usable}
+use Rattle.subcarriers.specs.Tables.{mapped}
 use Rattle.mapping.specs.Vector.{Vector, answerOf, admitted, filled, imaginaryParts, realParts, vector, vectorSizes}
 
 -- ---- the causes of a list, each not met or met at a place that fits

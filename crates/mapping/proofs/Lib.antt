@@ -1,10 +1,2 @@
-pub mod Mapped
-pub mod Signs
-pub mod BySlots
 pub mod Rows
 pub mod VectorCases
-pub mod TablesOnce
-pub mod ExactlyOnce
-pub mod CellsBack
-pub mod Units
-pub mod Exact

@@ -23,12 +23,12 @@ use Rattle.runs.specs.Lent.{Signal}
 use Rattle.runs.proofs.Passing.{wrong-head}
 use Rattle.calls.specs.Sizes.{placed, sizes}
 use Rattle.calls.proofs.Places.{at-place, no-place}
-use Rattle.mapping.specs.declared.Source.{Source}
-use Rattle.mapping.specs.declared.Point.{Point}
-use Rattle.mapping.specs.Points.{usable}
-use Rattle.mapping.specs.Readable.{Fillable, Readable, wanted}
-use Rattle.mapping.specs.Slots.{modeAt, within}
-use Rattle.mapping.specs.Tables.{mapped, sourceOf}
+use Rattle.subcarriers.specs.declared.Source.{Source}
+use Rattle.points.specs.declared.Point.{Point}
+use Rattle.points.specs.Points.{usable}
+use Rattle.mapping.specs.Readable.{Fillable, Readable, wanted, within}
+use Rattle.subcarriers.specs.Slots.{modeAt}
+use Rattle.subcarriers.specs.Tables.{mapped, sourceOf}
 use Rattle.mapping.specs.Vector.{Vector, admitted, answerOf, filled, imaginaryParts, pointAt, pointFor, realParts, scaleAt, vector, vectorSizes, width}
 use Rattle.mapping.proofs.Rows.{carries-in-rows}
 

@@ -17,11 +17,11 @@ use Rattle.runs.specs.declared.Answer.the-variants.{Success, ModeNotCovered, Wr
 use Rattle.runs.specs.Answers.{onSuccess}
 use Rattle.runs.specs.Causes.{Size, at, judge, size, when, wrong}
 use Rattle.runs.specs.Lent.{Signal}
-use Rattle.mapping.specs.declared.Point.{Point}
-use Rattle.mapping.specs.declared.Source.{Source}
-use Rattle.mapping.specs.declared.Source.the-variants.{Unused as unused, Pm, Px1, Px2, Control}
-use Rattle.mapping.specs.Points.{noPoint, pointOf, usable}
-use Rattle.mapping.specs.Tables.{mapped, sourceOf}
+use Rattle.points.specs.declared.Point.{Point}
+use Rattle.subcarriers.specs.declared.Source.{Source}
+use Rattle.subcarriers.specs.declared.Source.the-variants.{Unused as unused, Pm, Px1, Px2, Control}
+use Rattle.points.specs.Points.{noPoint, pointOf, usable}
+use Rattle.subcarriers.specs.Tables.{mapped, sourceOf}
 
 -- the cells of a row of PX1 or PX2 (document 01)
 abbrev pub width : Kind → ℕ

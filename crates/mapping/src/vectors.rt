@@ -1,18 +1,18 @@
 // Section 12: the output vector of a symbol.
-use crate::Point;
-use crate::Source;
-use crate::points::constellation;
-use crate::points::is_usable;
-use crate::sources::is_mapped;
-use crate::sources::mode_number;
-use crate::sources::source;
 use calls::first_wrong;
 use calls::kind_of;
 use calls::matrix_len;
 use calls::number;
+use points::Point;
+use points::constellation;
+use points::is_usable;
 use runs::Answer;
 use runs::Extended;
 use runs::Kind;
+use subcarriers::Source;
+use subcarriers::is_mapped;
+use subcarriers::mode_number;
+use subcarriers::source_of;
 ghost use mathlib.Core.Path.{_≡_};
 ghost use mathlib.Core.Bool.{true};
 ghost use Prim.Native.Nat.{_+_, _*_, _<_, _≤_};
@@ -23,9 +23,9 @@ ghost use Rattle.calls.specs.Sizes.{sizes};
 ghost use Rattle.runs.specs.Causes.{wrong};
 ghost use Rattle.runs.specs.Lengths.{kindOf, matrixLen};
 ghost use Rattle.runs.specs.declared.Extended.the-variants.{P3, P4};
-ghost use Rattle.mapping.specs.Points.{pointOf};
-ghost use Rattle.mapping.specs.Readable.{Fillable, Readable, wanted};
-ghost use Rattle.mapping.specs.Slots.{modeAt, within};
+ghost use Rattle.points.specs.Points.{pointOf};
+ghost use Rattle.mapping.specs.Readable.{Fillable, Readable, wanted, within};
+ghost use Rattle.subcarriers.specs.Slots.{modeAt};
 ghost use Rattle.mapping.specs.Vector.{admitted, filled, imaginaryParts, pointAt, pointFor, realParts, scaleAt, vector, width};
 
 // The point of two adjacent cells.
@@ -97,7 +97,7 @@ fn element(
         × Readable symbol width1 width2 (signal (now pm) (now px1) (now px2) (now control)) ⌝ }
     ensures { λ r. ⌜ r ≡ pointAt (modeAt n) symbol lower upper (signal (now (pm .entry)) (now (px1 .entry)) (now (px2 .entry)) (now (control .entry))) k ⌝ }
 {
-    let s = source(n, k);
+    let s = source_of(n, k);
     let scale = scale_at(lower, upper, k);
     carried(s, scale, symbol, width1, width2, pm, px1, px2, control)
 }

@@ -4,8 +4,8 @@ use native.Mathlib.Omega.{arith}
 use denote.Ref.{now}
 use lib.Ieee.{ofBits}
 use Rattle.calls.specs.Called.{signal}
-use Rattle.mapping.specs.declared.Source.{Source}
-use Rattle.mapping.specs.Points.{noPoint}
+use Rattle.subcarriers.specs.declared.Source.{Source}
+use Rattle.points.specs.Points.{noPoint}
 use Rattle.mapping.specs.Vector.{pointFor}
 use Rattle.mapping.proofs.Rows.{small, pm-in, px1-in, px2-in, control-in}
 use borrow.Author.Needs.{needs}
