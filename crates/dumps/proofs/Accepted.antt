@@ -1,5 +1,5 @@
 -- Which dumps are accepted. Assumes nothing.
-use Prim.Native.Nat.{ℕ, zero, suc, _/_, _%_, _≤_, _<_}
+use Prim.Native.Nat.{ℕ, zero, suc, _≤_, _<_}
 use mathlib.Core.Path.{_≡_, refl, sym, ap, ap₂, _∙_, subst}
 use mathlib.Core.Logic.{_≢_}
 use mathlib.Core.Bool.{Bool, true, false}
@@ -8,18 +8,16 @@ use mathlib.Core.List.{List, [], _∷_, _++_, map, cons-ne-nil}
 use native.Mathlib.Omega.{arith}
 use lib.Dec.{eqb, ltb}
 use lib.ListN.{length, getD, take, drop, length-append, length-replicate, take-append-drop}
-use lib.Seq.{drop-at, drop-cons, length-take-le, take-at}
-use borrow.Author.Tests.{eqb-false, eqb-true, le-ltb, ltb-false, ltb-true}
+use lib.Seq.{drop-at, length-take-le, take-at}
+use borrow.Author.Tests.{eqb-false, eqb-true, ltb-false, ltb-true}
 use Rattle.bits.specs.Bits.{Bytes}
-use Rattle.bits.specs.Tests.{same}
-use Rattle.bits.proofs.Tests.{same-true}
 use Rattle.control.specs.Modes.{covered}
 use Rattle.runs.specs.declared.Answer.the-variants.{Success, WrongEnd}
 use Rattle.runs.specs.declared.Answer.{Answer}
 use Rattle.runs.specs.declared.Extended.the-variants.{P3, P4}
 use Rattle.runs.specs.declared.State.{State}
-use Rattle.runs.specs.Answers.{numberOf, onSuccess}
-use Rattle.runs.specs.Causes.{judge, size, wrong}
+use Rattle.runs.specs.Answers.{numberOf}
+use Rattle.runs.specs.Causes.{size, wrong}
 use Rattle.runs.specs.Handed.{Given, Handed, done, given, other}
 use Rattle.runs.specs.MainChannels.{mainOf, p1Len, p2Len}
 use Rattle.runs.specs.Lengths.{kindOf, frameLen, matrixLen, readerLen, pidsLen, pmLen, px2Len, controlLen}
@@ -32,18 +30,21 @@ use Rattle.runs.specs.WholeRuns.{noCall}
 use Rattle.runs.proofs.Answered.{not-success, success-is}
 use Rattle.runs.proofs.Lists.{cons-both, length-map}
 use Rattle.runs.proofs.Memory.{read-refused}
-use Rattle.runs.proofs.Passing.{wrong-head}
+use Rattle.runs.proofs.Passing.{wrong-cons, wrong-head, wrong-nil}
 use Rattle.runs.proofs.Readable.{start-clear}
 use Rattle.runs.proofs.States.{start-ok}
 use Rattle.runs.proofs.Whole.{whole-runs}
+use Rattle.layout.specs.Layout.{body, bytesOf, dumpOf, frameBytes, header, mark, signalIn, word}
+use Rattle.layout.specs.Heads.{headAnswer}
+use Rattle.layout.proofs.Laid.{Sized, bytes-back, bytes-length, signal-back, sized-in, sized-of}
+use Rattle.layout.proofs.Heads.{head-bytes, head-clear, head-of, whole-word}
+use Rattle.frames.specs.Read.{blank, handed, readFrame}
 use Rattle.dumps.specs.declared.Verdict.{Verdict}
-use Rattle.dumps.specs.Layout.{body, bytes16, bytesOf, dumpOf, frameBytes, header, mark, signalIn, word}
-use Rattle.dumps.specs.Judged.{accepted, blank, ended, handed, headAnswer, judged, judgedFrames, judgedFresh, readFrame, verdict}
+use Rattle.dumps.specs.Judged.{accepted, judged, judgedFrames, judgedFresh, verdict}
 use Rattle.dumps.specs.Accepted.{Dumps, Readable}
-use Rattle.dumps.proofs.Laid.{Sized, blank-fits, bytes-back, bytes-length, signal-back, sized-in, sized-of}
-use Rattle.dumps.proofs.Heads.{Head, head-of, refused-head, taken-head}
 use Rattle.dumps.proofs.Real.{dump-bytes}
 use Rattle.dumps.proofs.Steps.{goes-on, on-success, refused-is, short-is}
+use Rattle.dumps.proofs.Taken.{refused-head, taken-head}
 
 abbrev Ok : Result → Type 0
 Ok g = numberOf (g .answer) ≡ 0
@@ -97,6 +98,17 @@ same-sizes mode l e =
     ∷ size (length (l .signal .matrices .px1)) (matrixLen (kindOf mode P3))
     ∷ size (length (l .signal .matrices .px2)) (px2Len mode)
     ∷ size (length (l .signal .control)) controlLen ∷ []
+
+blank-fits : (mode : ℕ) (x : Signal) → Sized mode x → wrong 0 (lentSizes mode (handed (blank mode) x)) ≡ none
+unfolding lentSizes blank
+blank-fits mode x s =
+    wrong-cons _ _ _ _ (length-replicate {A = ℕ} (p1Len (mainOf mode)) 0)
+    (wrong-cons _ _ _ _ (length-replicate {A = ℕ} pidsLen 0)
+    (wrong-cons _ _ _ _ (length-replicate {A = ℕ} (p2Len (mainOf mode)) 0)
+    (wrong-cons _ _ _ _ (length-replicate {A = ℕ} (frameLen (kindOf mode P3)) 0)
+    (wrong-cons _ _ _ _ (length-replicate {A = ℕ} (frameLen (kindOf mode P4)) 0)
+    (wrong-cons _ _ _ _ (s .pm-right)
+    (wrong-cons _ _ _ _ (s .px1-right) (wrong-cons _ _ _ _ (s .px2-right) (wrong-cons _ _ _ _ (s .control-right) (wrong-nil _)))))))))
 
 -- a reading that succeeds does so with blank frames too, and leaves the same state and memory
 pub record Alike (s : State) (m : Memory) (l : Lent) (g : Result) : Type 0 where
@@ -179,13 +191,6 @@ module _ (mode : ℕ) where
       ∙ handed-accepts h (oks .1) (suc t) (readStep s m l .state) (readStep s m l .memory) (like′ .mode-is ∙ em) ls q′
 
 -- ---- dumps that are accepted
-
-whole-word : (n : ℕ) → word (n / 256) (n % 256) ≡ n
-whole-word n = omega arith
-
-head-clear : (mode : ℕ) (xs : List Signal) → covered mode ≡ true → numberOf (headAnswer (dumpOf mode xs)) ≡ 0
-unfolding headAnswer judge dumpOf header mark same
-head-clear mode xs cov = rw (le-ltb (length (dumpOf mode xs)) 8 (omega arith), cov)
 
 fresh-of : (mode : ℕ) (b : ReaderRun mode) → start readerLen mode (zeros readerLen mode) ≡ start readerLen mode (b .upon)
 fresh-of mode b =
@@ -305,36 +310,6 @@ head-accepted d e = go (eqb (numberOf (headAnswer d)) 0) refl
     go : (b : Bool) → eqb (numberOf (headAnswer d)) 0 ≡ b → numberOf (headAnswer d) ≡ 0
     go true q = eqb-true _ _ q
     go false q = refuses (headAnswer d) 0 (refused-head d (headAnswer d) refl (eqb-false _ _ q) ∙ e)
-
--- the bytes of a header that is not refused
-head-bytes : (d : List ℕ) → Bytes d → Head d → d ≡ header (getD d 5 0) (word (getD d 6 0) (getD d 7 0)) ++ drop 8 d
-unfolding header mark
-head-bytes d small h =
-    sym (take-append-drop 3 d)
-    ∙ ap₂ (λ (a b : List ℕ). a ++ b) (same-true (take 3 d) mark (h .marked)) (rest-is ∙ λ i. e3 i ∷ e4 i ∷ getD d 5 0 ∷ e6 i ∷ e7 i ∷ drop 8 d)
-  where
-    long : 8 ≤ length d
-    long = h .long
-
-    rest-is : drop 3 d ≡ getD d 3 0 ∷ getD d 4 0 ∷ getD d 5 0 ∷ getD d 6 0 ∷ getD d 7 0 ∷ drop 8 d
-    rest-is =
-        drop-cons d 3 0 (omega arith)
-        ∙ ap (λ (l : List ℕ). getD d 3 0 ∷ l) (drop-cons d 4 0 (omega arith)
-        ∙ ap (λ (l : List ℕ). getD d 4 0 ∷ l) (drop-cons d 5 0 (omega arith)
-        ∙ ap (λ (l : List ℕ). getD d 5 0 ∷ l) (drop-cons d 6 0 (omega arith)
-        ∙ ap (λ (l : List ℕ). getD d 6 0 ∷ l) (drop-cons d 7 0 (omega arith)))))
-
-    e3 : getD d 3 0 ≡ 0
-    e3 = omega (arith, h .version)
-
-    e4 : getD d 4 0 ≡ 1
-    e4 = omega (arith, h .version)
-
-    e6 : getD d 6 0 ≡ word (getD d 6 0) (getD d 7 0) / 256
-    e6 = omega (arith, small 6, small 7)
-
-    e7 : getD d 7 0 ≡ word (getD d 6 0) (getD d 7 0) % 256
-    e7 = omega (arith, small 6, small 7)
 
 sound-is : (d : List ℕ) → Bytes d → judged d ≡ accepted → Readable d
 unfolding judgedFresh dumpOf readings

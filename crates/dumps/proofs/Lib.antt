@@ -1,8 +1,6 @@
-pub mod Cut
-mod Blank
-pub mod Laid
-pub mod Heads
+mod Fresh
 pub mod Steps
+pub mod Taken
 pub mod Real
 pub mod Small
 pub mod Accepted

@@ -1,6 +1,6 @@
 -- The dump of a sender's run is made of bytes. Assumes nothing.
 use Prim.Native.Nat.{ℕ, zero, suc, _/_, _%_, _≤_, _<_}
-use mathlib.Core.Path.{_≡_, sym, subst}
+use mathlib.Core.Path.{sym, subst}
 use mathlib.Core.List.{List, _++_}
 use native.Mathlib.Omega.{arith}
 use lib.ListN.{length, getD}
@@ -29,7 +29,7 @@ use Rattle.runs.proofs.Lists.{bytes-append}
 use Rattle.runs.proofs.PM.{multiplexed-bit}
 use Rattle.runs.proofs.PX2.{p1′-bytes}
 use Rattle.runs.proofs.Sender.{as-defined-is, covered-of}
-use Rattle.dumps.specs.Layout.{body, bytesOf, dumpOf, header, mark}
+use Rattle.layout.specs.Layout.{body, bytesOf, dumpOf, header, mark}
 
 pm-bytes : (k : Main) (p1 p2 pids : Buffer) → Bytes (pmOf k p1 p2 pids)
 unfolding pmOf

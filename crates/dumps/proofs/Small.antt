@@ -1,43 +1,30 @@
 -- How great a verdict's frame number and place can be. Assumes nothing.
 use Prim.Native.Nat.{ℕ, zero, suc, _+_, _<_}
 use mathlib.Core.Path.{_≡_, refl, sym, subst}
-use mathlib.Core.Bool.{Bool, true, false, not, _||_}
+use mathlib.Core.Bool.{Bool, true, false}
 use mathlib.Core.List.{List, [], _∷_}
 use native.Mathlib.Omega.{arith}
 use lib.Dec.{eqb, ltb}
 use lib.ListN.{length, getD, take, drop}
 use borrow.Author.Tests.{eqb-false, eqb-true, ltb-false, ltb-true}
 use Rattle.bits.specs.Bits.{Bytes}
-use Rattle.bits.specs.Tests.{same}
-use Rattle.control.specs.Modes.{covered}
-use Rattle.runs.specs.declared.Answer.the-variants.{ModeNotCovered, WrongMark, WrongVersion}
 use Rattle.runs.specs.declared.State.{State}
 use Rattle.runs.specs.Answers.{numberOf, placeOf}
-use Rattle.runs.specs.Causes.{judge, when}
-use Rattle.runs.specs.Lengths.{readerLen}
 use Rattle.runs.specs.Lent.{Lent, Memory, Result}
 use Rattle.runs.specs.Reading.{readStep}
-use Rattle.runs.specs.Starting.{Started, start, zeros}
+use Rattle.layout.specs.Layout.{frameBytes, word}
+use Rattle.layout.specs.Heads.{headAnswer}
+use Rattle.layout.proofs.Heads.{head-place}
+use Rattle.frames.specs.Read.{readFrame}
 use Rattle.dumps.specs.declared.Verdict.{Verdict}
-use Rattle.dumps.specs.Layout.{frameBytes, mark, word}
-use Rattle.dumps.specs.Judged.{headAnswer, judged, judgedFrames, judgedFresh, readFrame, verdict}
-use Rattle.dumps.proofs.Heads.{refused-head, taken-head}
+use Rattle.dumps.specs.Judged.{judged, judgedFrames, judgedFresh}
 use Rattle.dumps.proofs.Steps.{goes-on, refused-is, short-is}
+use Rattle.dumps.proofs.Taken.{refused-head, taken-head}
 
 -- below these
 pub record Small (frames places : ℕ) (v : Verdict) : Type 0 where
   pub frame-lt : v .frame < frames
   pub place-lt : placeOf (v .answer) < places
-
-head-place : (d : List ℕ) → placeOf (headAnswer d) ≡ 0
-unfolding headAnswer judge
-head-place d = go (ltb (length d) 8 || not (same (take 3 d) mark)) (eqb (word (getD d 3 0) (getD d 4 0)) 1) (covered (getD d 5 0))
-  where
-    go : (m v c : Bool) → placeOf (judge (when m WrongMark ∷ when (not v) WrongVersion ∷ when (not c) ModeNotCovered ∷ [])) ≡ 0
-    go true v c = refl
-    go false false c = refl
-    go false true false = refl
-    go false true true = refl
 
 module _ (places : ℕ) (some : 0 < places) (each : (s : State) (m : Memory) (l : Lent) → placeOf (readStep s m l .answer) < places) where
   small-read : (mode : ℕ) (s : State) (m : Memory) (bytes : List ℕ) → placeOf (readFrame mode s m bytes .answer) < places

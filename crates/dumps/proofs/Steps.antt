@@ -1,16 +1,14 @@
 -- The verdict on L1 frames, one at a time. Assumes nothing.
-use Prim.Native.Nat.{ℕ, zero, suc, _+_, _-_, _≤_, _<_}
+use Prim.Native.Nat.{ℕ, suc, _+_, _-_, _≤_, _<_}
 use mathlib.Core.Path.{_≡_, refl, sym, ap, ap₂, _∙_, subst}
 use mathlib.Core.Logic.{_≢_}
-use mathlib.Core.Bool.{true, false, cond}
 use mathlib.Core.List.{List, [], _∷_}
 use native.Mathlib.Omega.{arith}
-use lib.Dec.{ltb}
 use lib.ListN.{length, take, drop, length-drop}
 use lib.Seq.{drop-drop, take-all}
 use borrow.Author.Tests.{lt-ltb, le-ltb}
 use Rattle.runs.specs.declared.Answer.{Answer}
-use Rattle.runs.specs.declared.Answer.the-variants.{Success, WrongEnd}
+use Rattle.runs.specs.declared.Answer.the-variants.{WrongEnd}
 use Rattle.runs.specs.declared.State.{State}
 use Rattle.runs.specs.Answers.{numberOf, onSuccess}
 use Rattle.runs.specs.Lengths.{readerLen}
@@ -20,11 +18,12 @@ use Rattle.runs.proofs.Answered.{not-success, success-is}
 use Rattle.calls.specs.Called.{startGave}
 use Rattle.calls.specs.declared.states.Outcome.{Outcome}
 use Rattle.calls.specs.declared.states.ReadOutcome.{ReadOutcome}
+use Rattle.layout.specs.Layout.{frameBytes}
+use Rattle.frames.specs.Read.{readFrame}
 use Rattle.dumps.specs.declared.Verdict.{Verdict}
 use Rattle.dumps.specs.declared.Judged.{Judged}
 use Rattle.dumps.specs.Next.{Next}
-use Rattle.dumps.specs.Layout.{frameBytes}
-use Rattle.dumps.specs.Judged.{accepted, ended, judgedFrames, judgedFresh, readFrame, verdict}
+use Rattle.dumps.specs.Judged.{accepted, ended, judgedFrames, judgedFresh, verdict}
 
 pub on-success : {A : Type 0} (a : Answer) (x y : A) → numberOf a ≡ 0 → onSuccess a x y ≡ x
 unfolding onSuccess

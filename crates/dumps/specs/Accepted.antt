@@ -8,7 +8,7 @@ use Rattle.runs.specs.Answers.{numberOf}
 use Rattle.runs.specs.Handed.{Handed}
 use Rattle.runs.specs.Lent.{Signal}
 use Rattle.runs.specs.Runs.{Call, Every, ReaderRun, SenderRun, count, readings, signalsSent}
-use Rattle.dumps.specs.Layout.{dumpOf}
+use Rattle.layout.specs.Layout.{dumpOf}
 use Rattle.dumps.specs.Judged.{accepted, judged}
 
 -- a dump of the layout, with nothing after it, and a reader's run that was handed its L1 frames in order and accepted each

@@ -1,25 +1,20 @@
 -- Document 02, S-13: the verdict on a dump.
 use Prim.Native.Nat.{ℕ, zero, suc}
-use mathlib.Core.Bool.{cond, not, _||_}
+use mathlib.Core.Bool.{cond}
 use mathlib.Core.List.{List, [], _∷_}
-use lib.Dec.{eqb, ltb}
-use lib.ListN.{length, getD, take, drop, replicate}
-use Rattle.bits.specs.Tests.{same}
-use Rattle.control.specs.Modes.{covered}
+use lib.Dec.{ltb}
+use lib.ListN.{length, getD, take, drop}
 use Rattle.runs.specs.declared.Answer.{Answer}
-use Rattle.runs.specs.declared.Answer.the-variants.{Success, ModeNotCovered, WrongMark, WrongVersion, WrongEnd}
-use Rattle.runs.specs.declared.Extended.the-variants.{P3, P4}
+use Rattle.runs.specs.declared.Answer.the-variants.{Success, WrongEnd}
 use Rattle.runs.specs.declared.State.{State}
 use Rattle.runs.specs.Answers.{onSuccess}
-use Rattle.runs.specs.Causes.{judge, when}
-use Rattle.runs.specs.MainChannels.{mainOf, p1Len, p2Len}
-use Rattle.runs.specs.Lengths.{kindOf, frameLen, readerLen, pidsLen}
-use Rattle.runs.specs.Lent.{Frames, Lent, Memory, Result, Signal}
-use Rattle.runs.specs.Reading.{readStep}
+use Rattle.runs.specs.Lengths.{readerLen}
+use Rattle.runs.specs.Lent.{Memory}
 use Rattle.runs.specs.Starting.{start, zeros}
-use Rattle.calls.specs.Called.{frames}
+use Rattle.layout.specs.Layout.{word, frameBytes}
+use Rattle.layout.specs.Heads.{headAnswer}
+use Rattle.frames.specs.Read.{readFrame}
 use Rattle.dumps.specs.declared.Verdict.{Verdict}
-use Rattle.dumps.specs.Layout.{mark, word, frameBytes, signalIn}
 
 -- an answer, and the number of an L1 frame
 abbrev pub verdict : Answer → ℕ → Verdict
@@ -28,31 +23,7 @@ verdict answer frame = record { answer = answer; frame = frame }
 abbrev pub accepted : Verdict
 accepted = verdict Success 0
 
--- ---- the first eight bytes: 17, then 18, then 1
-
-unfoldable pub headAnswer : List ℕ → Answer
-headAnswer dump =
-    judge
-    (when (ltb (length dump) 8 || not (same (take 3 dump) mark)) WrongMark
-    ∷ when (not (eqb (word (getD dump 3 0) (getD dump 4 0)) 1)) WrongVersion
-    ∷ when (not (covered (getD dump 5 0))) ModeNotCovered
-    ∷ [])
-
 -- ---- the L1 frames
-
--- the frame buffers lent to the reader are of the right lengths; what stands in them does not matter
-unfoldable pub blank : ℕ → Frames
-blank mode =
-    frames 0 (replicate (p1Len (mainOf mode)) 0) (replicate pidsLen 0) (replicate (p2Len (mainOf mode)) 0) (replicate (frameLen (kindOf mode P3)) 0)
-    (replicate (frameLen (kindOf mode P4)) 0)
-
--- what is lent to a call
-abbrev pub handed : Frames → Signal → Lent
-handed f x = record { frames = f; signal = x }
-
--- the reading of an L1 frame of a dump
-unfoldable pub readFrame : ℕ → State → Memory → List ℕ → Result
-readFrame mode s m bytes = readStep s m (handed (blank mode) (signalIn mode bytes))
 
 -- after the last L1 frame nothing is left
 abbrev pub ended : ℕ → List ℕ → Verdict

@@ -1,4 +1,3 @@
-pub mod Layout
 pub mod Judged
 pub mod Next
 pub mod Accepted

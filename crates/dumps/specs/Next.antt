@@ -7,8 +7,8 @@ use lib.ListN.{length, drop}
 use Rattle.runs.specs.declared.State.{State}
 use Rattle.runs.specs.Answers.{numberOf}
 use Rattle.runs.specs.Lent.{Memory}
+use Rattle.layout.specs.Layout.{frameBytes}
 use Rattle.dumps.specs.declared.Judged.{Judged}
-use Rattle.dumps.specs.Layout.{frameBytes}
 use Rattle.dumps.specs.Judged.{judgedFrames}
 
 -- L1 frame t decides; or, with the number 0, those after it do, from the state and the memory that it leaves

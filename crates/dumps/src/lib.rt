@@ -1,27 +1,19 @@
 // Document 02, S-13: judging a dump.
-mod frames;
-mod headers;
-
-use calls::ReadOutcome;
 use calls::number;
 use calls::reader_lengths;
 use calls::start_reader;
-pub use frames::end_of;
-pub use frames::frame_bytes;
-pub use frames::read_bytes;
-pub use headers::head_answer;
-pub use headers::header_of;
-pub use headers::word_at;
+use frames::read_frame;
+use layout::frame_bytes;
+use layout::head_answer;
+use layout::word_at;
 use runs::Answer;
 use runs::State;
 ghost use mathlib.Core.Path.{_≡_};
-ghost use lib.ListN.{length};
 ghost use Rattle.runs.specs.Lengths.{readerLen};
 ghost use Rattle.runs.specs.Starting.{zeros};
 ghost use Rattle.calls.specs.Called.{memory};
-ghost use Rattle.dumps.specs.Layout.{frameBytes};
 ghost use Rattle.dumps.specs.Next.{Next};
-ghost use Rattle.dumps.specs.Judged.{judged, judgedFresh, readFrame, verdict};
+ghost use Rattle.dumps.specs.Judged.{judged, judgedFresh, verdict};
 
 // An answer, and the number of the L1 frame that it is given for.
 pub struct Verdict {
@@ -33,44 +25,6 @@ pub fn judged_as(answer: Answer, frame: usize) -> Verdict
     ensures { λ r. ⌜ r ≡ verdict answer frame ⌝ }
 {
     Verdict { answer, frame }
-}
-
-// Reads an L1 frame of a dump into frames of its own, which nobody is shown.
-fn step(
-    mode: u8,
-    state: State,
-    bytes: &[u8],
-    memory3: &mut [u8],
-    memory4: &mut [u8],
-    delay: &mut [u8],
-) -> ReadOutcome
-    ensures { λ r. ⌜ (r .answer ≡ readFrame mode state (memory (now (memory3 .entry)) (now (memory4 .entry)) (now (delay .entry))) (now (bytes .entry)) .answer)
-        × (r .state ≡ readFrame mode state (memory (now (memory3 .entry)) (now (memory4 .entry)) (now (delay .entry))) (now (bytes .entry)) .state)
-        × (memory (now (memory3 .exit)) (now (memory4 .exit)) (now (delay .exit)) ≡ readFrame mode state (memory (now (memory3 .entry)) (now (memory4 .entry)) (now (delay .entry))) (now (bytes .entry)) .memory) ⌝ }
-{
-    let want = reader_lengths(mode);
-    let n1 = want[0];
-    let n2 = want[2];
-    let n3 = want[3];
-    let n4 = want[4];
-    let mut p1 = [0u8; 18272];
-    let mut pids = [0u8; 160];
-    let mut p2 = [0u8; 13664];
-    let mut p3 = [0u8; 4608];
-    let mut p4 = [0u8; 4608];
-    read_bytes(
-        mode,
-        state,
-        bytes,
-        &mut p1[..n1],
-        &mut pids,
-        &mut p2[..n2],
-        &mut p3[..n3],
-        &mut p4[..n4],
-        memory3,
-        memory4,
-        delay,
-    )
 }
 
 // What is said of an L1 frame, and the state after it.
@@ -98,7 +52,7 @@ pub fn judge_frame(
             state,
         };
     }
-    let read = step(mode, state, &bytes[..n], memory3, memory4, delay);
+    let read = read_frame(mode, state, &bytes[..n], memory3, memory4, delay);
     let answer = read.answer;
     let next = read.state;
     Judged {

@@ -76,7 +76,7 @@ fn judge_rest(mode: u8, count: usize) -> Verdict {
     let mut memory3 = [0u8; 27648];
     let mut memory4 = [0u8; 27648];
     let mut delay = [0u8; 27648];
-    let n = programs::within(dumps::frame_bytes(mode), &frame);
+    let n = programs::within(layout::frame_bytes(mode), &frame);
     let a = programs::within(want[9], &memory3);
     let b = programs::within(want[10], &memory4);
     let c = programs::within(want[11], &delay);
@@ -93,11 +93,11 @@ fn judge_rest(mode: u8, count: usize) -> Verdict {
 fn main() {
     let mut head = [0u8; 8];
     let n = io::read_full(STDIN_FILENO, &mut head);
-    let answer = dumps::head_answer(&head[..n]);
+    let answer = layout::head_answer(&head[..n]);
     if layer1::number(answer) != 0 {
         say(dumps::judged_as(answer, 0));
         return;
     }
-    let count = dumps::word_at(&head, 6);
+    let count = layout::word_at(&head, 6);
     say(judge_rest(head[5], count));
 }

@@ -10,8 +10,8 @@ use Rattle.runs.specs.Lent.{Frames, Memory, Signal}
 use Rattle.calls.specs.declared.states.Outcome.{Outcome}
 use Rattle.calls.specs.Called.{frames, gave}
 use Rattle.calls.specs.Sizes.{wanted}
-use Rattle.dumps.specs.Judged.{handed}
-use Rattle.dumps.proofs.Cut.{cut-is, entry-is, first-end, next-start}
+use Rattle.frames.specs.Read.{handed}
+use Rattle.layout.proofs.Cut.{cut-is, entry-is, first-end, next-start}
 use Rattle.programs.specs.Inputs.{framesIn, inputStep}
 
 module _ (mode m3 m4 : ℕ) (input want : List ℕ) (lengths : want ≡ wanted mode m3 m4) where

@@ -14,7 +14,7 @@ use Rattle.runs.specs.Lent.{Frames, Lent, Memory, Result}
 use Rattle.runs.specs.Sending.{refused, sendStep}
 use Rattle.calls.specs.Admitted.{admitted}
 use Rattle.calls.specs.Called.{frames}
-use Rattle.dumps.specs.Layout.{cut}
+use Rattle.layout.specs.Layout.{cut}
 
 -- the number, P1, PIDS, P2, P3, P4
 unfoldable pub framesIn : (mode n3 n4 : ℕ) → List ℕ → Frames

@@ -10,7 +10,7 @@ use Rattle.runs.specs.Answers.{numberOf}
 use Rattle.runs.specs.Lengths.{senderLen}
 use Rattle.runs.specs.Lent.{Lent, Memory, Result, Signal}
 use Rattle.runs.specs.Starting.{Started, start}
-use Rattle.dumps.specs.Judged.{handed}
+use Rattle.frames.specs.Read.{handed}
 use Rattle.programs.specs.declared.Step.{Step}
 use Rattle.programs.specs.Inputs.{framesIn, inputStep}
 

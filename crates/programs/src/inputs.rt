@@ -1,6 +1,6 @@
 // An L1 frame to be sent from a program's input, in which its number and its transfer frames lie end to end.
-use dumps::end_of;
 use layer1::Outcome;
+use layout::end_of;
 use runs::State;
 ghost use mathlib.Core.Path.{_≡_};
 ghost use Prim.Native.Nat.{_+_, _≤_, min};
@@ -8,7 +8,7 @@ ghost use lib.ListN.{getD};
 ghost use Rattle.runs.specs.MainChannels.{mainOf, p1Len, p2Len};
 ghost use Rattle.runs.specs.Lengths.{pidsLen};
 ghost use Rattle.calls.specs.Called.{gave, lent, memory, signal};
-ghost use Rattle.dumps.specs.Judged.{handed};
+ghost use Rattle.frames.specs.Read.{handed};
 ghost use Rattle.programs.specs.Inputs.{framesIn, inputStep};
 
 // The bytes of a channel's eight frames, of which no mode has more than these.

@@ -1,9 +1,9 @@
 // What the programs of a run share.
 mod buffers;
 mod command_line;
-mod frames;
 mod inputs;
 mod lines;
+mod senders;
 
 pub use arguments::Arguments;
 pub use arguments::Sending;
@@ -17,14 +17,14 @@ pub use command_line::read_number;
 pub use command_line::read_sending;
 pub use command_line::usage;
 pub use command_line::words_before;
-pub use frames::send_next;
-pub use frames::start_sending;
 pub use inputs::frames_length;
 pub use inputs::send_input;
 use libc::STDERR_FILENO;
 pub use lines::Line;
 pub use lines::read_line;
 use runs::State;
+pub use senders::send_next;
+pub use senders::start_sending;
 ghost use mathlib.Core.Bool.{cond};
 ghost use mathlib.Core.Path.{_≡_};
 ghost use Prim.Native.Nat.{_-_, _<_};

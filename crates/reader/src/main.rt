@@ -62,7 +62,7 @@ fn turn(
     let age = state.age;
     let mode = state.mode;
     let n = io::read_full(STDIN_FILENO, input);
-    let read = dumps::read_bytes(
+    let read = frames::read_bytes(
         mode,
         state,
         &input[..n],
@@ -144,7 +144,7 @@ fn run_plain(mode: u8, count: u64, on: bool) {
     let mut p4 = [0u8; 4608];
     let mut memory3 = [0u8; 27648];
     let mut memory4 = [0u8; 27648];
-    let n = programs::within(dumps::frame_bytes(mode), &input);
+    let n = programs::within(layout::frame_bytes(mode), &input);
     let a = programs::within(want[3], &p3);
     let b = programs::within(want[4], &p4);
     let c = programs::within(want[9], &memory3);

@@ -47,7 +47,7 @@ fn write_header(mode: u8, count: u64) -> bool {
     if count > 65535 {
         return false;
     }
-    let header = dumps::header_of(mode, count as usize);
+    let header = layout::header_of(mode, count as usize);
     io::write_all(STDOUT_FILENO, &header)
 }
 

@@ -6,9 +6,10 @@ use lib.ListN.{length}
 use lib.Seq.{length-take-le}
 use denote.Ref.{now}
 use Rattle.runs.specs.Answers.{numberOf}
-use Rattle.dumps.specs.Judged.{headAnswer}
-use Rattle.dumps.proofs.Blank.{memory-clear, room-delay, room-memory3, room-memory4}
-use Rattle.dumps.proofs.Heads.{head-of, refused-head, taken-by}
+use Rattle.layout.specs.Heads.{headAnswer}
+use Rattle.layout.proofs.Heads.{head-of}
+use Rattle.dumps.proofs.Fresh.{memory-clear, room-delay, room-memory3, room-memory4}
+use Rattle.dumps.proofs.Taken.{refused-head, taken-by}
 use borrow.Author.Needs.{needs}
 use Rattle.dumps.proofs.judge.Statement.{statement}
 use Rattle.dumps.proofs.judge.Tie as tie

@@ -6,7 +6,7 @@ use lib.ListN.{length, drop}
 use denote.Ref.{now}
 use borrow.Author.Needs.{needs}
 use Rattle.calls.specs.Called.{memory}
-use Rattle.dumps.specs.Layout.{frameBytes}
+use Rattle.layout.specs.Layout.{frameBytes}
 use Rattle.dumps.specs.Judged.{judgedFrames, judgedFresh}
 use Rattle.dumps.proofs.Steps.{begun, done, left-over, next-one, room, turned-down}
 use Rattle.dumps.proofs.judge_frames.Statement.{statement}

@@ -6,7 +6,7 @@ use native.Mathlib.Omega.{arith}
 use lib.ListN.{getD}
 use Rattle.runs.specs.MainChannels.{mainOf, p1Len, p2Len}
 use Rattle.runs.specs.Lengths.{pidsLen}
-use Rattle.dumps.proofs.Cut.{lengths-small}
+use Rattle.layout.proofs.Cut.{lengths-small}
 use borrow.Author.Needs.{needs}
 use Rattle.programs.proofs.inputs.frames_length.Statement.{statement}
 use Rattle.programs.proofs.inputs.frames_length.Tie as tie
