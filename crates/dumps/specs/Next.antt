@@ -1,19 +1,27 @@
--- For the code alone: the verdict on L1 frames, one at a time.
-use Prim.Native.Nat.{ℕ, suc, _≤_}
-use mathlib.Core.Path.{_≡_}
-use mathlib.Core.Logic.{_≢_}
+-- For the code alone: the verdict on one L1 frame, and the state and the memory after it.
+use Prim.Native.Nat.{ℕ}
+use mathlib.Core.Bool.{cond}
 use mathlib.Core.List.{List}
-use lib.ListN.{length, drop}
+use lib.Dec.{ltb}
+use lib.ListN.{length, take}
+use Rattle.runs.specs.declared.Answer.the-variants.{WrongEnd}
 use Rattle.runs.specs.declared.State.{State}
-use Rattle.runs.specs.Answers.{numberOf}
 use Rattle.runs.specs.Lent.{Memory}
 use Rattle.layout.specs.Layout.{frameBytes}
+use Rattle.frames.specs.Read.{readFrame}
 use Rattle.dumps.specs.declared.Judged.{Judged}
-use Rattle.dumps.specs.Judged.{judgedFrames}
+use Rattle.dumps.specs.Judged.{verdict}
 
--- L1 frame t decides; or, with the number 0, those after it do, from the state and the memory that it leaves
-pub record Next (mode t : ℕ) (s : State) (m : Memory) (bytes : List ℕ) (r : Judged) (after : Memory) : Type 0 where
-  pub stops : numberOf (r .verdict .answer) ≢ 0 → (n : ℕ) → judgedFrames mode (suc n) t s m bytes ≡ r .verdict
-  pub fits : numberOf (r .verdict .answer) ≡ 0 → frameBytes mode ≤ length bytes
-  pub goes-on : numberOf (r .verdict .answer) ≡ 0 → (n : ℕ)
-      → judgedFrames mode (suc n) t s m bytes ≡ judgedFrames mode n (suc t) (r .state) after (drop (frameBytes mode) bytes)
+pub record Next : Type 0 where
+  pub judged : Judged
+  pub memory : Memory
+
+abbrev pub next : Judged → Memory → Next
+next judged memory = record { judged = judged; memory = memory }
+
+-- one that the bytes' end cuts short changes nothing
+unfoldable pub judgedOne : (mode t : ℕ) → State → Memory → List ℕ → Next
+judgedOne mode t s m bytes =
+    let g = readFrame mode s m (take (frameBytes mode) bytes) in
+    cond (ltb (length bytes) (frameBytes mode)) (next (record { verdict = verdict WrongEnd t; state = s }) m)
+    (next (record { verdict = verdict (g .answer) t; state = g .state }) (g .memory))

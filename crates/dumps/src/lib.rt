@@ -12,7 +12,7 @@ ghost use mathlib.Core.Path.{_≡_};
 ghost use Rattle.runs.specs.Lengths.{readerLen};
 ghost use Rattle.runs.specs.Starting.{zeros};
 ghost use Rattle.calls.specs.Called.{memory};
-ghost use Rattle.dumps.specs.Next.{Next};
+ghost use Rattle.dumps.specs.Next.{judgedOne, next};
 ghost use Rattle.dumps.specs.Judged.{judged, judgedFresh, verdict};
 
 // An answer, and the number of the L1 frame that it is given for.
@@ -43,7 +43,8 @@ pub fn judge_frame(
     memory4: &mut [u8],
     delay: &mut [u8],
 ) -> Judged
-    ensures { λ r. ⌜ Next mode t state (memory (now (memory3 .entry)) (now (memory4 .entry)) (now (delay .entry))) (now (bytes .entry)) r (memory (now (memory3 .exit)) (now (memory4 .exit)) (now (delay .exit))) ⌝ }
+    ensures { λ r. ⌜ next r (memory (now (memory3 .exit)) (now (memory4 .exit)) (now (delay .exit)))
+        ≡ judgedOne mode t state (memory (now (memory3 .entry)) (now (memory4 .entry)) (now (delay .entry))) (now (bytes .entry)) ⌝ }
 {
     let n = frame_bytes(mode);
     if bytes.len() < n {

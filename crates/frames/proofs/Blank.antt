@@ -70,8 +70,9 @@ module _ (mode : ℕ) (want : List ℕ) (lengths : want ≡ wanted mode (readerL
   pub read-of : (s : State) (m m′ : Memory) (bytes : List ℕ) (r : ReadOutcome) (f : Frames)
       → readGave r m′ (handed f (signalIn mode bytes)) ≡ readStep s m (handed own (signalIn mode bytes))
       → (r .answer ≡ readFrame mode s m bytes .answer) × (r .state ≡ readFrame mode s m bytes .state) × (m′ ≡ readFrame mode s m bytes .memory)
+      × (f .reserved ≡ readFrame mode s m bytes .lent .frames .reserved)
   unfolding readFrame
   read-of s m m′ bytes r f e =
       let q : readGave r m′ (handed f (signalIn mode bytes)) ≡ readStep s m (handed (blank mode) (signalIn mode bytes))
       = e ∙ ap (λ (x : Frames). readStep s m (handed x (signalIn mode bytes))) own-is in
-      (ap (λ (g : Result). g .answer) q, ap (λ (g : Result). g .state) q, ap (λ (g : Result). g .memory) q)
+      (ap (λ (g : Result). g .answer) q, ap (λ (g : Result). g .state) q, ap (λ (g : Result). g .memory) q, ap (λ (g : Result). g .lent .frames .reserved) q)

@@ -60,7 +60,8 @@ pub fn read_frame(
 ) -> ReadOutcome
     ensures { λ r. ⌜ (r .answer ≡ readFrame mode state (memory (now (memory3 .entry)) (now (memory4 .entry)) (now (delay .entry))) (now (bytes .entry)) .answer)
         × (r .state ≡ readFrame mode state (memory (now (memory3 .entry)) (now (memory4 .entry)) (now (delay .entry))) (now (bytes .entry)) .state)
-        × (memory (now (memory3 .exit)) (now (memory4 .exit)) (now (delay .exit)) ≡ readFrame mode state (memory (now (memory3 .entry)) (now (memory4 .entry)) (now (delay .entry))) (now (bytes .entry)) .memory) ⌝ }
+        × (memory (now (memory3 .exit)) (now (memory4 .exit)) (now (delay .exit)) ≡ readFrame mode state (memory (now (memory3 .entry)) (now (memory4 .entry)) (now (delay .entry))) (now (bytes .entry)) .memory)
+        × (r .reserved ≡ readFrame mode state (memory (now (memory3 .entry)) (now (memory4 .entry)) (now (delay .entry))) (now (bytes .entry)) .lent .frames .reserved) ⌝ }
 {
     let want = reader_lengths(mode);
     let n1 = want[0];

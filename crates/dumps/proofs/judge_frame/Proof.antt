@@ -16,7 +16,7 @@ judged-as-requires c κs = search needs
 returns : tie.Need-returns
 returns c =
     let at-start = c .before .before .before .before .before .before .before in
-    cut-short (at-start .args .mode) (at-start .args .t) (at-start .args .state) _ (now (at-start .args .bytes)) _ (c .before .before .frame-bytes .ensures) (c .before .if1 .taken) _ (c .judged-as .ensures) _
+    cut-short (at-start .args .mode) (at-start .args .t) (at-start .args .state) _ (now (at-start .args .bytes)) _ (c .before .before .frame-bytes .ensures) (c .before .if1 .taken) _ (c .judged-as .ensures)
 
 slice-aggregate-read-frame : tie.Need-slice-aggregate-read-frame
 slice-aggregate-read-frame c =
@@ -44,7 +44,7 @@ returns-2 c =
     let at-if1 = at-read .before .before .before .before .before in
     let at-frame-bytes = at-if1 .before in
     let at-start = at-frame-bytes .before .before .before .before .before in
-    read-next (at-start .args .mode) (at-start .args .t) (at-start .args .state) _ (now (at-start .args .bytes)) _ (at-frame-bytes .frame-bytes .ensures) (at-if1 .if1 .left) (at-read .read-frame .result) _ (at-read .read-frame .ensures) _ (c .judged-as2 .ensures)
+    read-next (at-start .args .mode) (at-start .args .t) (at-start .args .state) _ (now (at-start .args .bytes)) _ (at-frame-bytes .frame-bytes .ensures) (at-if1 .if1 .left) (at-read .read-frame .result) _ _ (at-read .read-frame .ensures) _ (c .judged-as2 .ensures)
 
 pub judge-frame-spec : {M : Type 1} → statement M
 judge-frame-spec =
