@@ -4,7 +4,15 @@ use libc::STDIN_FILENO;
 use libc::STDOUT_FILENO;
 use runs::Answer;
 
-// Prints the verdict.
+// Writes a word of the line and the number after it, and answers whether they went out.
+fn write_field(word: &[u8], n: u64) -> bool {
+    if !io::write_all(STDOUT_FILENO, word) {
+        return false;
+    }
+    io::print_decimal(STDOUT_FILENO, n)
+}
+
+// Prints the verdict. A write that fails ends it, so that no line lacks its front.
 fn say(verdict: Verdict) {
     let answer = verdict.answer;
     let number = layer1::number(answer);
@@ -12,12 +20,15 @@ fn say(verdict: Verdict) {
         io::write_all(STDOUT_FILENO, b"accepted\n");
         return;
     }
-    io::write_all(STDOUT_FILENO, b"refused: number ");
-    io::print_decimal(STDOUT_FILENO, number as u64);
-    io::write_all(STDOUT_FILENO, b" place ");
-    io::print_decimal(STDOUT_FILENO, layer1::place(answer) as u64);
-    io::write_all(STDOUT_FILENO, b" frame ");
-    io::print_decimal(STDOUT_FILENO, verdict.frame as u64);
+    if !write_field(b"refused: number ", number as u64) {
+        return;
+    }
+    if !write_field(b" place ", layer1::place(answer) as u64) {
+        return;
+    }
+    if !write_field(b" frame ", verdict.frame as u64) {
+        return;
+    }
     io::write_all(STDOUT_FILENO, b"\n");
 }
 
