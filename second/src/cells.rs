@@ -1,4 +1,4 @@
-//! Document 01, the cell finder and the cell list program.
+//! Document 01, the cell finder and the cell list program; document 02, S-3, where a row and a column stand.
 
 use std::io::{self, BufRead, Write};
 use std::sync::OnceLock;

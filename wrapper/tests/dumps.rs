@@ -4,8 +4,9 @@ mod common;
 
 use common::{seed, MODES};
 use layer1::Verdict;
+use second::commands;
 use second::dumps::drawn;
-use second::modes::Mode;
+use second::modes::{Mode, Without};
 
 /// A dump judged by the library and by the second program.
 fn both(dump: &[u8]) -> Verdict {
@@ -46,4 +47,29 @@ fn headers() {
             both(&header);
         }
     }
+}
+
+/// L1 frame numbers that a byte does not hold.
+#[test]
+fn three_hundred_frames() {
+    let (mut frames, mut dump) = (Vec::new(), Vec::new());
+    let (count, all) = (300, Without::default());
+    commands::draw(seed(), 1, count, all, &mut frames).unwrap();
+    commands::dump(1, count, all, &mut &frames[..], &mut dump).unwrap();
+    assert_eq!(both(&dump), Verdict::default());
+    dump.push(0);
+    let too_long = Verdict {
+        number: 19,
+        place: 0,
+        frame: 300,
+    };
+    assert_eq!(both(&dump), too_long);
+    dump.pop();
+    *dump.last_mut().unwrap() ^= 8;
+    let damaged = Verdict {
+        number: 4,
+        place: 15,
+        frame: 299,
+    };
+    assert_eq!(both(&dump), damaged);
 }

@@ -1,4 +1,4 @@
-//! The cell finders, the lookup of a control block, and the rows of matrices.
+//! The cell finders, positions, the lookup of a control block, and the rows of matrices.
 
 mod common;
 
