@@ -33,7 +33,7 @@
  *   7  a cell that can show only the zero fill, or at ages 0 to 2 only the      the lowest such cell, through PX1, then PX2; in MP5
  *      delay's zeros, is 1                                                      and MP6 behind the 368,640 cells of PM
  *   8  a P3 or P4 frame of the L1 frame two earlier is no coded frame           0 to 7 for P3, 8 to 15 for P4, the lowest
- * and of document 02's, of which 9 comes after 2 and before 3:
+ * and of document 02's, of which 9 comes after 2 and before 3, and 17 and 18 before 1:
  *   9  the reserved number of a sending is above 7                              0
  *  10  the shares add up to more than 16                                        0
  *  11  the symbol of a vector is above 511                                      0
