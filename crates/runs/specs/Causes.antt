@@ -1,4 +1,4 @@
--- Documents 01 and 02, the table of causes: the first in the order said wins, then the lowest place. The order is that of the numbers, except that S-2 puts 9 between 2 and 3.
+-- Documents 01 and 02, the table of causes: the first in the order said wins, then the lowest place. The order is that of the numbers, except that S-2 puts 9 between 2 and 3, and S-13 17 and 18 before 1.
 use Prim.Native.Nat.{ℕ, suc}
 use mathlib.Core.Bool.{Bool, cond}
 use mathlib.Core.Option.{Option, none, some}

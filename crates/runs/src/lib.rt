@@ -46,8 +46,9 @@ pub enum Answer {
     // document 02, S-7; the place is 0 for the scale of the lower sideband, 1 for that of the upper
     SymbolTooHigh,
     ScaleNotUsable(usize),
-    // document 02, S-11
+    // document 02, S-8; the place is the block
     MixedControl(usize),
+    // document 02, S-11
     NoFrameFits,
     SeveralFit,
     // document 02, S-12
