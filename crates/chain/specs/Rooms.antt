@@ -1,13 +1,9 @@
 -- For the code alone: the buffers of the work on a channel.
 use mathlib.Core.Path.{_≡_}
-use mathlib.Core.Logic.{_⊎_}
 use mathlib.Core.List.{List}
 use Prim.Native.Nat.{ℕ, _+_, _*_, _/_, _%_, _≤_, _<_}
 use lib.ListN.{length, replicate}
 use Rattle.runs.specs.declared.Kind.{Kind}
-use Rattle.runs.specs.declared.Kind.the-variants.{Unused}
-use Rattle.runs.specs.declared.Main.{Main}
-use Rattle.runs.specs.declared.Main.the-variants.{Plain}
 use Rattle.runs.specs.Lengths.{frameLen, matrixLen, tableRow}
 use Rattle.runs.specs.Lent.{orZeros}
 
@@ -29,7 +25,3 @@ pub record Split (n : ℕ) (p1 p2 mixed u : List ℕ) : Type 0 where
   pub plain : length p1 ≡ 8 * n
   pub between : length mixed ≡ 8 * n + length p2
   pub all : length u ≡ 20 * n + length p2 / 2 * 5
-
--- no mode has both P1' and P4
-abbrev pub Alone : Main → Kind → Type 0
-Alone main kind = (main ≡ Plain) ⊎ (kind ≡ Unused)
