@@ -7,7 +7,7 @@ ghost use Rattle.bits.specs.Bits.{bitAt, number, packed};
 ghost use Rattle.bits.specs.Tests.{lowest};
 ghost use Rattle.scrambling.specs.Scrambler.{scrambledEach};
 ghost use Rattle.coding.specs.Coder.{back};
-ghost use Rattle.coding.specs.Channel.{channel, unchannel, noFrame};
+ghost use Rattle.coding.specs.Channel.{channel, noFrame};
 ghost use Rattle.coding.specs.Buffers.{Buffers, codedEach, uncodedEach};
 ghost use Rattle.coding.specs.Units.{groupSize, masksOf, masked, groupOf, Groups, unitCoded, unitBit, Within, around as «around-of»};
 
@@ -239,7 +239,7 @@ pub fn encode_channel(
     encode(rate, n, count, between, out);
 }
 
-// The way back: leaves the scrambled transfer frames in `between`, and answers the lowest whose coded bits are no coding, or `count`.
+// The way back: leaves the scrambled transfer frames in `between`, which `scrambling::scramble_each` unscrambles, and answers the lowest whose coded bits are no coding, or `count`.
 pub fn judge_channel(rate: Rate, n: usize, count: usize, coded: &[u8], between: &mut [u8]) -> usize
     requires { ⌜ Buffers rate n count (now between) (now coded) ⌝ }
     ensures { λ _. ⌜ now (between .exit) ≡ packed (length (now (between .entry))) (uncodedEach rate (8 * n) (bitAt (now (coded .entry)))) ⌝ }
@@ -247,12 +247,4 @@ pub fn judge_channel(rate: Rate, n: usize, count: usize, coded: &[u8], between: 
 {
     decode(rate, n, count, coded, between);
     first_bad(rate, n, count, coded, between)
-}
-
-// Unscrambles what `judge_channel` left: the transfer frames of the channel's coded bits y. Left open: what it does with other bytes in `between`.
-pub fn finish_channel(rate: Rate, n: usize, between: &[u8], frames: &mut [u8])
-    requires { ⌜ (length (now between) ≡ length (now frames)) × (0 < n) ⌝ }
-    ensures { λ _. ⌜ ((y : ℕ → ℕ) → now (between .entry) ≡ packed (length (now (frames .entry))) (uncodedEach rate (8 * n) y) → now (frames .exit) ≡ packed (length (now (frames .entry))) (unchannel rate (8 * n) y)) ⌝ }
-{
-    scrambling::scramble_each(n, between, frames);
 }

@@ -33,7 +33,7 @@ fn decode_channel(
     ensures { λ r. ⌜ ((y : ℕ → ℕ) → ((i : ℕ) → y i < 2) → now (coded .entry) ≡ packed (length (now (coded .entry))) y → (r ≡ lowest count (noFrame rate (8 * n) y)) × (now (frames .exit) ≡ packed (length (now (frames .entry))) (unchannel rate (8 * n) y))) ⌝ }
 {
     let bad = coding::judge_channel(rate, n, count, coded, scrambled);
-    coding::finish_channel(rate, n, scrambled, frames);
+    scrambling::scramble_each(n, scrambled, frames);
     bad
 }
 

@@ -23,7 +23,7 @@ fn channel(
     io::write_all(STDOUT_FILENO, between);
     io::write_all(STDOUT_FILENO, coded);
     coding::judge_channel(rate, n, count, coded, between);
-    coding::finish_channel(rate, n, between, frames);
+    scrambling::scramble_each(n, between, frames);
     io::write_all(STDOUT_FILENO, frames);
 }
 

@@ -1,9 +1,10 @@
--- `decode_channel` meets its contract: what `judge_channel` leaves is what `finish_channel` unscrambles. Assumes nothing.
+-- `decode_channel` meets its contract: what `judge_channel` leaves is unscrambled. Assumes nothing.
 use mathlib.Core.Path.{ap, _∙_}
 use Prim.Native.Nat.{ℕ, _*_}
 use denote.Ref.{now}
 use Rattle.bits.specs.Bits.{bitAt, packed}
 use Rattle.coding.specs.Buffers.{uncodedEach}
+use Rattle.coding.proofs.Passes.{unscrambled-each}
 use Rattle.recover.proofs.Channels.{recovered}
 use borrow.Author.Needs.{needs}
 use Rattle.recover.proofs.decode_channel.Statement.{statement}
@@ -12,8 +13,8 @@ use Rattle.recover.proofs.decode_channel.Tie as tie
 judge-channel-requires : tie.Need-judge-channel-requires
 judge-channel-requires c κs = search needs
 
-finish-channel-requires : tie.Need-finish-channel-requires
-finish-channel-requires c κs = search needs
+scramble-each-requires : tie.Need-scramble-each-requires
+scramble-each-requires c κs = search needs
 
 same-length : tie.Need-same-length
 same-length c = search needs
@@ -26,15 +27,15 @@ returns c =
     let c1 = c .before .before in
     let c2 = c1 .before .before .before .before .before in
     let s = c2 .before .before .before .before .before in
-    let f = c1 .finish-channel in
+    let f = c1 .scramble-each in
     let j = c2 .judge-channel in
     let a = s .args in
     let y₀ = bitAt (now (a .coded)) in
     λ y bits e.
     recovered (s .pre .0) y bits e _ _ (j .ensures .1)
-    (f .ensures y₀ (j .ensures .0 ∙ ap (λ (k : ℕ). packed k (uncodedEach (a .rate) (8 * a .n) y₀)) (s .pre .1)))
+    (f .ensures ∙ unscrambled-each (a .rate) (a .n) _ _ y₀ (j .ensures .0 ∙ ap (λ (k : ℕ). packed k (uncodedEach (a .rate) (8 * a .n) y₀)) (s .pre .1)))
 
 pub decode-channel-spec : {M : Type 1} → statement M
 decode-channel-spec =
     tie.close
-    (tie.spec judge-channel-requires finish-channel-requires same-length same-length-2 returns)
+    (tie.spec judge-channel-requires scramble-each-requires same-length same-length-2 returns)
