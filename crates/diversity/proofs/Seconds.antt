@@ -148,11 +148,6 @@ no-second main scrambled px e l = rw e (empty px (l ∙ ap p1′Len e))
     empty [] z = refl
     empty (y ∷ ys) z = absurd (omega arith)
 
-pub second-le : (main : Main) → p1′Len main ≤ 18432
-second-le Plain = omega arith
-second-le Mp5 = omega arith
-second-le Mp6 = omega arith
-
 -- a matrix for each of the eight P1' frames
 abbrev Eighth : ℕ → Type 0
 Eighth n = (n ≡ 8 * (n / 8)) × (n / 8 ≤ 2304)

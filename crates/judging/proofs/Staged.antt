@@ -34,8 +34,8 @@ use Rattle.runs.specs.Reading.{push, pushed}
 use Rattle.runs.proofs.Answered.{not-success, success-is}
 use Rattle.runs.proofs.Beside.{first-beside-first, first-beside-second, first-beside-none}
 use Rattle.recover.specs.Rooms.{lateBad, past, pmBad}
-use Rattle.recover.proofs.Mains.{late-none, lowest-beside, lowest-is-le, second-le}
-use Rattle.recover.proofs.Extended.{matrix-le}
+use Rattle.runs.proofs.Bounds.{matrix-le, p1-frames-le, second-le}
+use Rattle.recover.proofs.Mains.{late-none, lowest-beside, lowest-is-le}
 use Rattle.judging.specs.Stages.{Recovered, after, andThen, controlAnswer, fillAnswer, fillCells, fillRow, fourth, framesAnswer, lower, pmAnswer, pxAnswer, signalAnswer}
 
 -- a lowest place that the code found, or its bound
@@ -102,11 +102,6 @@ eight t h =
       | no a ↦ inl (omega arith)
     ]
 
-frames-le : (k : Main) → p1Frames k ≤ 8
-frames-le Plain = omega arith
-frames-le Mp5 = omega arith
-frames-le Mp6 = omega arith
-
 module _ (s : State) (m : Memory) (x : Matrices) where
   -- where the second path is bad, there is one
   in-eight : (k : Main) (age : ℕ) (y d c : Buffer) (t : ℕ) → t ≡ lowest 8 (lateBad k age y (oldest k d c)) → (t ≡ 8) ⊎ (t < p1Frames k)
@@ -122,7 +117,7 @@ module _ (s : State) (m : Memory) (x : Matrices) where
       let M : Main = mainOf (s .mode) in
       let e : t ≡ _ = et (p1Of M (x .pm)) in
       either-lowest (p1Frames M) (p1Bad M (x .pm)) (lateBad M (s .age) (p1′In (s .mode) x) (oldest M (m .delayed) (p1Of M (x .pm)))) (p2Bad M (x .pm)) r t
-      (er ∙ ap (λ (k : Main). lowest (p1Frames k + 1) (pmBad k (x .pm))) ek) e (frames-le M)
+      (er ∙ ap (λ (k : Main). lowest (p1Frames k + 1) (pmBad k (x .pm))) ek) e (p1-frames-le M)
       (in-eight M (s .age) (p1′In (s .mode) x) (m .delayed) (p1Of M (x .pm)) t e)
 
   module _ (r : ℕ) (e : r ≡ lowest (p1Frames (mainOf (s .mode)) + 1) (mainBad s m x)) where

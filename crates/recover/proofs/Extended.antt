@@ -72,11 +72,6 @@ unused k half x frames e p =
 
 -- ---- the zero fill
 
-pub matrix-le : (k : Kind) → matrixLen k ≤ 9216
-matrix-le Unused = omega arith
-matrix-le Narrow = omega arith
-matrix-le Wide = omega arith
-
 pub used : (k : Kind) (row : ℕ) → row ≡ tableRow k → (row ≡ 2 → ⊥) → row < 2
 used Unused row e h = absurd (h e)
 used Narrow row e h = omega arith

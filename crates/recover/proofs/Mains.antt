@@ -230,11 +230,6 @@ module _ (k : Main) (age : ℕ) (x : Buffer) (len : length x ≡ p1′Len k) whe
       let e : length x * 8 ≡ 8 * p1′Len k = omega (arith, len) in
       e ∙ sym (lowest-none _ _ (λ c _. ap (λ (b : Bool). b && eqb (bitAt x c) 1) (ap (ltb age) (sym en) ∙ le-ltb age n h)))
 
-pub second-le : (k : Main) → p1′Len k ≤ 18432
-second-le Plain = omega arith
-second-le Mp5 = omega arith
-second-le Mp6 = omega arith
-
 module _ (x : Buffer) (c : ℕ) {b : ℕ} (e : b ≡ bitAt x c) where
   pub one-is : b ≡ 1 → isOne x c ≡ true
   unfolding isOne

@@ -14,6 +14,7 @@ pub mod Beside
 pub mod States
 pub mod Succeeds
 pub mod Filled
+pub mod Bounds
 pub mod Sender
 pub mod Fixed
 pub mod Shown

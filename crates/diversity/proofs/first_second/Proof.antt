@@ -2,7 +2,7 @@
 use mathlib.Core.Path.{sym, _∙_}
 use native.Mathlib.Omega.{arith}
 use lib.Seq.{length-take-le}
-use Rattle.diversity.proofs.Seconds.{second-le}
+use Rattle.runs.proofs.Bounds.{second-le}
 use borrow.Author.Needs.{needs}
 use Rattle.diversity.proofs.first_second.Statement.{statement}
 use Rattle.diversity.proofs.first_second.Tie as tie

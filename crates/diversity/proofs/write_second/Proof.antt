@@ -5,7 +5,8 @@ use native.Mathlib.Omega.{arith}
 use denote.Ref.{now}
 use lib.ListN.{length}
 use lib.Seq.{length-take-le}
-use Rattle.diversity.proofs.Seconds.{no-path, no-second, second-le, second-room}
+use Rattle.runs.proofs.Bounds.{second-le}
+use Rattle.diversity.proofs.Seconds.{no-path, no-second, second-room}
 use borrow.Author.Needs.{needs}
 use Rattle.diversity.proofs.write_second.Statement.{statement}
 use Rattle.diversity.proofs.write_second.Tie as tie

@@ -7,8 +7,8 @@ use lib.ListN.{length}
 use Rattle.runs.specs.declared.Extended.the-variants.{P3, P4}
 use Rattle.runs.specs.Lengths.{kindOf, matrixLen}
 use Rattle.recover.specs.Rooms.{past}
-use Rattle.recover.proofs.Extended.{matrix-le}
-use Rattle.recover.proofs.Mains.{lowest-is-le, second-le}
+use Rattle.runs.proofs.Bounds.{matrix-le, second-le}
+use Rattle.recover.proofs.Mains.{lowest-is-le}
 use Rattle.calls.specs.Called.{matrices}
 use Rattle.judging.proofs.Staged.{cut-le, filled, fourth-long, past-le, second-is, second-long}
 use borrow.Author.Needs.{needs}

@@ -1,7 +1,8 @@
 -- `first_delayed` meets its contract. Assumes nothing.
 use native.Mathlib.Omega.{arith}
 use denote.Ref.{now}
-use Rattle.recover.proofs.Mains.{delayed-judged, delayed-none, second-le}
+use Rattle.runs.proofs.Bounds.{second-le}
+use Rattle.recover.proofs.Mains.{delayed-judged, delayed-none}
 use borrow.Author.Needs.{needs}
 use Rattle.recover.proofs.first_delayed.Statement.{statement}
 use Rattle.recover.proofs.first_delayed.Tie as tie

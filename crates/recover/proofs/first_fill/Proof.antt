@@ -7,7 +7,8 @@ use lib.ListN.{length}
 use Rattle.interleaving.specs.PX.{codedBytes}
 use Rattle.runs.specs.Lengths.{matrixLen}
 use Rattle.runs.proofs.Bridge.{matrix-bytes}
-use Rattle.recover.proofs.Extended.{fill-from, late-fill, matrix-le, no-fill, used}
+use Rattle.runs.proofs.Bounds.{matrix-le}
+use Rattle.recover.proofs.Extended.{fill-from, late-fill, no-fill, used}
 use borrow.Author.Needs.{needs}
 use Rattle.recover.proofs.first_fill.Statement.{statement}
 use Rattle.recover.proofs.first_fill.Tie as tie
