@@ -1,6 +1,6 @@
-# `make sheet` is the main job on a sample, `make sheet-html` the same for paper, `make spectrum` a picture of one symbol, `make test` the gate, `make bench` measures sender and reader beside
-# the second program.
-.PHONY: sheet sheet-html spectrum test bench
+# `make sheet` is the main job on a sample, `make sheet-html` the same for paper, `make spectrum` a picture of one symbol, `make library` the C library, `make test` the gate,
+# `make bench` measures sender and reader beside the second program.
+.PHONY: sheet sheet-html spectrum library test bench
 
 sheet:
 	@sheets/print
@@ -10,6 +10,9 @@ sheet-html:
 
 spectrum:
 	@sheets/spectrum
+
+library:
+	@include/library
 
 test:
 	.ci/run

@@ -1,8 +1,8 @@
 /* Sends one L1 frame: `example MODE` reads its reserved number, one byte, P1, PIDS, P2, P3 and P4 from standard input and writes PM, PX1,
  * PX2 and control to standard output.
  *
- *     rt staticlib exported
- *     gcc -std=c11 -Wall -Wextra -Iinclude include/example.c target/staticlib/libexported.a
+ *     make library
+ *     gcc -std=c11 -Wall -Wextra -Iinclude include/example.c target/staticlib/liblayer1.a
  */
 #include "layer1.h"
 

@@ -1,8 +1,8 @@
 /* The FM Layer 1 bit chain of SY_IDD_1011s revision G, with the house matters of documents 01 and 02, for C.
  *
- * The functions are those of the proved crate `exported`: its contracts (crates/exported/src, crates/exported/specs) say exactly what
- * each returns and what it leaves in every buffer. Every call returns, and refuses what the documents refuse; none has a condition on
- * numbers, lengths or the bytes themselves.
+ * The functions are those of the proved crates `exported_runs` (starts, sending, reading) and `exported` (all others): their contracts, in
+ * src and specs of crates/exported_runs and crates/exported, say exactly what each returns and what it leaves in every buffer. Every call
+ * returns, and refuses what the documents refuse; none has a condition on numbers, lengths or the bytes themselves.
  *
  * What the caller must guarantee, since the proofs assume it:
  * - a pointer points to as many readable bytes, or numbers where it is one to float, as the length beside it says, and writable ones

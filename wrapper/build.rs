@@ -1,4 +1,4 @@
-//! Links libexported.a, which `rt staticlib exported` writes: in LAYER1_LIB_DIR, or else in target/staticlib beside this folder.
+//! Links liblayer1.a, which `make library` writes: in LAYER1_LIB_DIR, or else in target/staticlib beside this folder.
 
 use std::env;
 use std::path::PathBuf;
@@ -11,8 +11,8 @@ fn main() {
     );
     println!(
         "cargo:rerun-if-changed={}",
-        folder.join("libexported.a").display()
+        folder.join("liblayer1.a").display()
     );
     println!("cargo:rustc-link-search=native={}", folder.display());
-    println!("cargo:rustc-link-lib=static=exported");
+    println!("cargo:rustc-link-lib=static=layer1");
 }

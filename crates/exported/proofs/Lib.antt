@@ -1,7 +1,5 @@
-mod Places
 mod Verdicts
 mod Filling
-mod Outcomes
 mod Findings
 mod Decoding
 mod Restoring

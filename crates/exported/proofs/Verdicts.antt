@@ -8,7 +8,7 @@ use Rattle.runs.specs.Answers.{placeOf}
 use Rattle.dumps.specs.declared.Verdict.{Verdict}
 use Rattle.dumps.specs.Judged.{judged}
 use Rattle.dumps.proofs.Small.{Small, judged-small}
-use Rattle.exported.proofs.Places.{read-place}
+use Rattle.runs.proofs.Places.{read-place}
 
 pub verdict-small : (d : List ℕ) → Bytes d → (v : Verdict) → v ≡ judged d → (v .frame < 2 ^ 16) × (placeOf (v .answer) < 2 ^ 24)
 verdict-small d b v e =

@@ -1,14 +1,11 @@
-// The entry points of `layer1` for C: numbers and slices of numbers alone cross, a state as its four numbers, and what a call returns beside its buffers is a word of fields (crate `words`). `include/layer1.h` declares them.
+// The entry points of `layer1` for C but those of a run (crate `exported_runs`): numbers and slices of numbers alone cross, and what a call returns beside its buffers is a word of fields (crate `words`). `include/layer1.h` declares them.
 mod decoded;
 mod judged;
 mod lengths;
 mod questions;
-mod reads;
 mod restored;
 mod rows;
-mod sends;
 mod sharing;
-mod starts;
 mod vectors;
 
 pub use decoded::layer1_nearest;
@@ -20,12 +17,8 @@ pub use questions::layer1_find_px;
 pub use questions::layer1_lookup;
 pub use questions::layer1_lookup_frame;
 pub use questions::layer1_place_of;
-pub use reads::layer1_read;
 pub use restored::layer1_restore;
 pub use rows::layer1_pm_row;
 pub use rows::layer1_px_row;
-pub use sends::layer1_send;
 pub use sharing::layer1_share_places;
-pub use starts::layer1_start_reader;
-pub use starts::layer1_start_sender;
 pub use vectors::layer1_fill_vector;

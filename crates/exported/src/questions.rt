@@ -11,8 +11,7 @@ ghost use Rattle.queries.specs.Places.{placed, values as valuesOfPlace};
 ghost use Rattle.queries.specs.FinderPX.{foundPX, values as valuesPX};
 ghost use Rattle.queries.specs.Lookup.{lookupOf, values as valuesOfBlock};
 ghost use Rattle.queries.specs.LookupFrame.{lookupFrameOf, values as valuesOfFrame};
-ghost use Rattle.exported.specs.Left.{stateOf};
-ghost use Rattle.words.specs.Words.{foundPxWord, foundWord, lookedUpFrameWord, lookedUpWord, placedWord};
+ghost use Rattle.words.specs.Words.{foundPxWord, foundWord, lookedUpFrameWord, lookedUpWord, placedWord, stateOf};
 
 // Whose coded bit stands in a cell of PM.
 #[no_mangle]

@@ -35,11 +35,11 @@ unfolding onSuccess
 on-done done refused = refl
 
 -- what holds of both outcomes holds of the one that comes, and what is made of each is made of it
-pub on-both : (P : Result → Type 0) (a : Answer) (done refused : Result) → P done → P refused → P (onSuccess a done refused)
+pub on-both : {A : Type 0} (P : A → Type 0) (a : Answer) (done refused : A) → P done → P refused → P (onSuccess a done refused)
 unfolding onSuccess
-on-both P a done refused p q = go (either a)
+on-both {A} P a done refused p q = go (either a)
   where
-    go : (a ≡ Success) ⊎ ((x y : Result) → onSuccess a x y ≡ y) → P (onSuccess a done refused)
+    go : (a ≡ Success) ⊎ ((x y : A) → onSuccess a x y ≡ y) → P (onSuccess a done refused)
     go (inl e) = rw e p
     go (inr f) = rw (f done refused) q
 

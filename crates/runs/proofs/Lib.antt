@@ -15,6 +15,7 @@ pub mod States
 pub mod Succeeds
 pub mod Filled
 pub mod Bounds
+pub mod Places
 pub mod Sender
 pub mod Fixed
 pub mod Shown

@@ -18,6 +18,10 @@ use Rattle.queries.specs.FinderPX as FinderPX
 use Rattle.queries.specs.Lookup as Lookup
 use Rattle.queries.specs.LookupFrame as LookupFrame
 
+-- a state crosses as its four numbers
+abbrev pub stateOf : (mode half age last : ℕ) → State
+stateOf mode half age last = record { mode = mode; half = half; age = age; reserved = last }
+
 -- a start, a sending, a reading: the answer and the state
 unfoldable pub outcomeWord : Answer → State → ℕ
 outcomeWord a s = numberOf a + 2 ^ 8 * s .mode + 2 ^ 16 * s .half + 2 ^ 24 * s .age + 2 ^ 32 * placeOf a + 2 ^ 56 * s .reserved

@@ -1,9 +1,9 @@
 -- `layer1_read` meets its contract: `layer1::read` gave it, and every place fits its field. Assumes nothing.
-use Rattle.exported.proofs.Outcomes.{left-read, read-small}
-use Rattle.exported.proofs.Places.{read-place}
+use Rattle.exported_runs.proofs.Outcomes.{left-read, read-small}
+use Rattle.runs.proofs.Places.{read-place}
 use borrow.Author.Needs.{needs}
-use Rattle.exported.proofs.reads.layer1_read.Statement.{statement}
-use Rattle.exported.proofs.reads.layer1_read.Tie as tie
+use Rattle.exported_runs.proofs.reads.layer1_read.Statement.{statement}
+use Rattle.exported_runs.proofs.reads.layer1_read.Tie as tie
 
 read-requires : tie.Need-read-requires
 read-requires c κs = search needs

@@ -4,8 +4,8 @@ use words::outcome_word;
 ghost use mathlib.Core.Path.{_≡_};
 ghost use Rattle.runs.specs.Reading.{readStep};
 ghost use Rattle.calls.specs.Called.{lent, memory};
-ghost use Rattle.exported.specs.Left.{left, leftBy, stateOf};
-ghost use Rattle.words.specs.Words.{numberRead};
+ghost use Rattle.exported_runs.specs.Left.{left, leftBy};
+ghost use Rattle.words.specs.Words.{numberRead, stateOf};
 
 // Reads an L1 frame. Its reserved number is in the word.
 #[no_mangle]

@@ -1,9 +1,9 @@
 -- `layer1_start_sender` meets its contract: `layer1::start_sender` gave it, and every place fits its field. Assumes nothing.
-use Rattle.exported.proofs.Outcomes.{start-left, start-small}
-use Rattle.exported.proofs.Places.{start-place}
+use Rattle.exported_runs.proofs.Outcomes.{start-left, start-small}
+use Rattle.runs.proofs.Places.{start-place}
 use borrow.Author.Needs.{needs}
-use Rattle.exported.proofs.starts.layer1_start_sender.Statement.{statement}
-use Rattle.exported.proofs.starts.layer1_start_sender.Tie as tie
+use Rattle.exported_runs.proofs.starts.layer1_start_sender.Statement.{statement}
+use Rattle.exported_runs.proofs.starts.layer1_start_sender.Tie as tie
 
 start-sender-requires : tie.Need-start-sender-requires
 start-sender-requires c κs = search needs

@@ -1,9 +1,9 @@
 -- `layer1_start_reader` meets its contract: `layer1::start_reader` gave it, and every place fits its field. Assumes nothing.
-use Rattle.exported.proofs.Outcomes.{start-left, start-small}
-use Rattle.exported.proofs.Places.{start-place}
+use Rattle.exported_runs.proofs.Outcomes.{start-left, start-small}
+use Rattle.runs.proofs.Places.{start-place}
 use borrow.Author.Needs.{needs}
-use Rattle.exported.proofs.starts.layer1_start_reader.Statement.{statement}
-use Rattle.exported.proofs.starts.layer1_start_reader.Tie as tie
+use Rattle.exported_runs.proofs.starts.layer1_start_reader.Statement.{statement}
+use Rattle.exported_runs.proofs.starts.layer1_start_reader.Tie as tie
 
 start-reader-requires : tie.Need-start-reader-requires
 start-reader-requires c κs = search needs

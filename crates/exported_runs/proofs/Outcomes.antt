@@ -17,7 +17,7 @@ use Rattle.calls.specs.declared.states.Outcome.{Outcome}
 use Rattle.calls.specs.declared.states.ReadOutcome.{ReadOutcome}
 use Rattle.calls.specs.Called.{gave, readGave, startGave}
 use Rattle.words.specs.Words.{numberRead, outcomeWord}
-use Rattle.exported.specs.Left.{left, leftBy, startLeft, startLeftBy}
+use Rattle.exported_runs.specs.Left.{left, leftBy, startLeft, startLeftBy}
 
 module _ (o : Outcome) (m : Memory) (step : Started) (e : startGave o m ≡ step) where
   pub start-small : placeOf (step .answer) < 2 ^ 24 → placeOf (o .answer) < 2 ^ 24

@@ -1,9 +1,9 @@
 -- `layer1_send` meets its contract: `layer1::send` gave it, and every place fits its field. Assumes nothing.
-use Rattle.exported.proofs.Outcomes.{left-by, small}
-use Rattle.exported.proofs.Places.{send-place}
+use Rattle.exported_runs.proofs.Outcomes.{left-by, small}
+use Rattle.runs.proofs.Places.{send-place}
 use borrow.Author.Needs.{needs}
-use Rattle.exported.proofs.sends.layer1_send.Statement.{statement}
-use Rattle.exported.proofs.sends.layer1_send.Tie as tie
+use Rattle.exported_runs.proofs.sends.layer1_send.Statement.{statement}
+use Rattle.exported_runs.proofs.sends.layer1_send.Tie as tie
 
 send-requires : tie.Need-send-requires
 send-requires c κs = search needs

@@ -4,7 +4,8 @@ use words::outcome_word;
 ghost use mathlib.Core.Path.{_≡_};
 ghost use Rattle.runs.specs.Sending.{sendStep};
 ghost use Rattle.calls.specs.Called.{lent, memory};
-ghost use Rattle.exported.specs.Left.{left, leftBy, stateOf};
+ghost use Rattle.exported_runs.specs.Left.{left, leftBy};
+ghost use Rattle.words.specs.Words.{stateOf};
 
 // Sends an L1 frame: the state is mode, half, age and the last number sent, and `reserved` the number of this L1 frame.
 #[no_mangle]

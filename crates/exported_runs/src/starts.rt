@@ -4,7 +4,7 @@ ghost use mathlib.Core.Path.{_≡_};
 ghost use Rattle.runs.specs.Lengths.{readerLen, senderLen};
 ghost use Rattle.runs.specs.Starting.{start};
 ghost use Rattle.calls.specs.Called.{memory};
-ghost use Rattle.exported.specs.Left.{startLeft, startLeftBy};
+ghost use Rattle.exported_runs.specs.Left.{startLeft, startLeftBy};
 
 // Starts a sender.
 #[no_mangle]
