@@ -61,7 +61,7 @@ extern "C" {
  * other call takes less than a sending. */
 #define LAYER1_SEND_STACK 61440
 #define LAYER1_READ_STACK 118784
-#define LAYER1_JUDGE_STACK 237568
+#define LAYER1_JUDGE_STACK 212992
 
 /* The places of the buffers of a sending or a reading. PX2 has P4's matrices in MP11, and those of P1' in MP5 and MP6. */
 enum layer1_place {
