@@ -6,7 +6,7 @@ use Prim.Native.Nat.{ℕ}
 use lib.ListN.{getD}
 use Rattle.runs.specs.declared.Extended.the-variants.{P3, P4}
 use Rattle.runs.specs.Lengths.{kindOf, frameLen}
-use Rattle.calls.specs.Sizes.{wanted}
+use Rattle.modes.specs.Sizes.{wanted}
 use Rattle.arguments.specs.declared.Sending.the-variants.{Run, Wrong}
 use Rattle.arguments.specs.Arguments.{carriedOf, misnamed, sendingOf}
 

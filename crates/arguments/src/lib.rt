@@ -71,7 +71,7 @@ pub fn is_misnamed(want: usize, without: bool) -> bool
 pub fn sending_of(mode: u8, count: u64, without3: bool, without4: bool) -> Sending
     ensures { λ r. ⌜ r ≡ sendingOf mode count without3 without4 ⌝ }
 {
-    let want = calls::sender_lengths(mode);
+    let want = modes::sender_lengths(mode);
     if is_misnamed(want[3], without3) {
         return Sending::Wrong;
     }

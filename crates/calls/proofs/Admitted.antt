@@ -26,7 +26,7 @@ use Rattle.runs.specs.Sending.{lentSizes}
 use Rattle.runs.proofs.Passing.{wrong-head}
 use Rattle.calls.specs.Admitted.{admitted, firstCause}
 use Rattle.calls.specs.Fits.{Fits}
-use Rattle.calls.specs.Sizes.{lengthsOf, placed, sizes, wanted}
+use Rattle.modes.specs.Sizes.{lengthsOf, placed, sizes, wanted}
 
 module _ (v : Bool) (z : ℕ) where
   pub state-refused : (o : Option ℕ) → v ≡ false → StateNotValid ≡ firstCause v z o

@@ -18,8 +18,8 @@ use Rattle.runs.specs.Starting.{fresh, memorySizes, start, startAnswer}
 use Rattle.runs.proofs.Passing.{wrong-head}
 use Rattle.runs.proofs.Succeeds.{start-succeeds}
 use Rattle.calls.specs.Called.{Buffer, memory, startGave}
-use Rattle.calls.specs.Sizes.{placed, sizes}
-use Rattle.calls.proofs.Places.{at-place, no-place}
+use Rattle.modes.specs.Sizes.{placed, sizes}
+use Rattle.modes.proofs.Places.{at-place, no-place}
 
 module _ (mode : ℕ) (m3 m4 d : Buffer) where
   pub not-covered : (s : State) → s ≡ fresh 1 → covered mode ≡ false → (len : Kind → ℕ)

@@ -1,4 +1,3 @@
 pub mod Called
-pub mod Sizes
 pub mod Admitted
 pub mod Fits

@@ -1,13 +1,13 @@
 // Documents 01 and 02, the causes that a sending and a reading meet first: the state, the number handed in, the lengths.
-use crate::lengths::first_wrong;
 use crate::states::is_valid;
+use modes::first_wrong;
 use runs::Answer;
 use runs::State;
 ghost use mathlib.Core.Path.{_≡_};
 ghost use lib.ListN.{length};
 ghost use Rattle.runs.specs.Causes.{wrong};
 ghost use Rattle.calls.specs.Admitted.{admitted, firstCause};
-ghost use Rattle.calls.specs.Sizes.{placed, sizes};
+ghost use Rattle.modes.specs.Sizes.{placed, sizes};
 
 // The first cause that applies: the state before the number handed in, and that before the lengths.
 fn first_cause(is_valid: bool, reserved: u8, place: usize, places: usize) -> Answer

@@ -1,12 +1,12 @@
 // Document 01: starting a sender and starting a reader.
-use crate::lengths::delay_len;
-use crate::lengths::first_wrong;
-use crate::lengths::kind_of;
-use crate::lengths::main_of;
-use crate::lengths::reader_len;
-use crate::lengths::sender_len;
 use crate::states::Outcome;
 use crate::states::fresh_state;
+use modes::delay_len;
+use modes::first_wrong;
+use modes::kind_of;
+use modes::main_of;
+use modes::reader_len;
+use modes::sender_len;
 use runs::Answer;
 use runs::Extended;
 ghost use mathlib.Core.Path.{_≡_};

@@ -1,6 +1,6 @@
 // Document 01, "Operations of a run": states, and what a call gives beside the buffers.
-use crate::lengths::last_age;
-use crate::lengths::main_of;
+use modes::last_age;
+use modes::main_of;
 use runs::Answer;
 use runs::State;
 ghost use mathlib.Core.Path.{_≡_};

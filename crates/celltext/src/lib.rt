@@ -174,6 +174,6 @@ pub fn print_restored(number: u64, line: &[u8], out: &mut [u8]) -> usize
     }
     let mut frame = [0u8; 10];
     let answer = restoring::restore(&cells, &mut frame);
-    let said = calls::number(answer);
+    let said = causes::number(answer);
     put_restored(out, &frame, said)
 }

@@ -1,7 +1,7 @@
 // The matrices of an L1 frame from its transfer frames: sections 8, 9 and 10 one after the other.
-use calls::matrix_len;
-use calls::table_row;
 use coding::Rate;
+use modes::matrix_len;
+use modes::table_row;
 use runs::Kind;
 use runs::Main;
 ghost use mathlib.Core.Path.{_≡_};

@@ -11,7 +11,7 @@ use Rattle.runs.specs.MainChannels.{mainOf, delayLen}
 use Rattle.runs.specs.Lengths.{kindOf, readerLen}
 use Rattle.runs.specs.Starting.{zeros}
 use Rattle.calls.specs.Called.{memory}
-use Rattle.calls.specs.Sizes.{wanted}
+use Rattle.modes.specs.Sizes.{wanted}
 use Rattle.layout.proofs.Cut.{entry-is, matrix-small}
 use Rattle.frames.proofs.Blank.{zeros-of}
 

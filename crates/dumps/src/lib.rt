@@ -1,11 +1,11 @@
 // Document 02, S-13: judging a dump.
-use calls::number;
-use calls::reader_lengths;
 use calls::start_reader;
+use causes::number;
 use frames::read_frame;
 use layout::frame_bytes;
 use layout::head_answer;
 use layout::word_at;
+use modes::reader_lengths;
 use runs::Answer;
 use runs::State;
 ghost use mathlib.Core.Path.{_≡_};

@@ -3,7 +3,7 @@ ghost use mathlib.Core.Path.{_≡_};
 ghost use lib.ListN.{getD};
 ghost use Rattle.runs.specs.declared.Extended.the-variants.{P3, P4};
 ghost use Rattle.runs.specs.Lengths.{kindOf, readerLen, senderLen};
-ghost use Rattle.calls.specs.Sizes.{wanted};
+ghost use Rattle.modes.specs.Sizes.{wanted};
 
 // The length at a place, 0 past the last.
 fn at(lengths: &[usize], place: usize) -> usize

@@ -14,7 +14,7 @@ use Rattle.runs.specs.Lengths.{kindOf, frameLen, readerLen, pidsLen}
 use Rattle.runs.specs.Lent.{Frames, Memory, Result}
 use Rattle.runs.specs.Reading.{readStep}
 use Rattle.calls.specs.Called.{frames, readGave}
-use Rattle.calls.specs.Sizes.{wanted}
+use Rattle.modes.specs.Sizes.{wanted}
 use Rattle.calls.specs.declared.states.ReadOutcome.{ReadOutcome}
 use Rattle.layout.specs.Layout.{signalIn}
 use Rattle.layout.proofs.Cut.{entry-is, frame-small, main-small}

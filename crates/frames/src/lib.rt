@@ -1,7 +1,7 @@
 // Reading an L1 frame of a dump, or of a reader's input: PM, PX1, PX2 and control end to end.
 use calls::ReadOutcome;
-use calls::reader_lengths;
 use layout::end_of;
+use modes::reader_lengths;
 use runs::State;
 ghost use mathlib.Core.Path.{_≡_};
 ghost use Rattle.runs.specs.Reading.{readStep};

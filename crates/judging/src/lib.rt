@@ -1,8 +1,8 @@
 // Documents 01 and 02, causes 4 to 8 of a reading: an L1 frame is judged, and its transfer frames are recovered.
-use calls::kind_of;
-use calls::main_of;
-use calls::matrix_len;
-use calls::number;
+use causes::number;
+use modes::kind_of;
+use modes::main_of;
+use modes::matrix_len;
 use recover::past;
 use runs::Answer;
 use runs::Extended;

@@ -14,7 +14,7 @@ use Rattle.runs.specs.declared.Main.the-variants.{Plain, Mp5, Mp6}
 use Rattle.runs.specs.MainChannels.{mainOf, p1Len, p2Len, p1′Len}
 use Rattle.runs.specs.Lengths.{kindOf, frameLen, matrixLen, pidsLen, pmLen, px2Len, controlLen}
 use Rattle.calls.specs.Called.{signal}
-use Rattle.calls.specs.Sizes.{wanted}
+use Rattle.modes.specs.Sizes.{wanted}
 use Rattle.layout.specs.Layout.{cut, signalIn}
 
 -- a buffer of n bytes that should start at s starts at a and ends at b, where the input allows

@@ -1,5 +1,5 @@
 // The bytes of an L1 frame: PM, PX1, PX2 and control end to end.
-use calls::reader_lengths;
+use modes::reader_lengths;
 ghost use mathlib.Core.Path.{_≡_};
 ghost use Prim.Native.Nat.{_+_, _-_, _≤_, min};
 ghost use Rattle.layout.specs.Layout.{frameBytes};

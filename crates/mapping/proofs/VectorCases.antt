@@ -21,8 +21,8 @@ use Rattle.runs.proofs.Answered.{not-success, success-is}
 use Rattle.runs.specs.Lengths.{kindOf, matrixLen, pmLen, controlLen}
 use Rattle.runs.specs.Lent.{Signal}
 use Rattle.runs.proofs.Passing.{wrong-head}
-use Rattle.calls.specs.Sizes.{placed, sizes}
-use Rattle.calls.proofs.Places.{at-place, no-place}
+use Rattle.modes.specs.Sizes.{placed, sizes}
+use Rattle.modes.proofs.Places.{at-place, no-place}
 use Rattle.subcarriers.specs.declared.Source.{Source}
 use Rattle.points.specs.declared.Point.{Point}
 use Rattle.points.specs.Points.{usable}

@@ -1,8 +1,8 @@
 // Section 12: the output vector of a symbol.
-use calls::first_wrong;
-use calls::kind_of;
-use calls::matrix_len;
-use calls::number;
+use causes::number;
+use modes::first_wrong;
+use modes::kind_of;
+use modes::matrix_len;
 use points::Point;
 use points::constellation;
 use points::is_usable;
@@ -19,7 +19,7 @@ ghost use Prim.Native.Nat.{_+_, _*_, _<_, _≤_};
 ghost use lib.ListN.{length, set};
 ghost use Rattle.bits.specs.Bits.{bitAt};
 ghost use Rattle.calls.specs.Called.{signal};
-ghost use Rattle.calls.specs.Sizes.{sizes};
+ghost use Rattle.modes.specs.Sizes.{sizes};
 ghost use Rattle.runs.specs.Causes.{wrong};
 ghost use Rattle.runs.specs.Lengths.{kindOf, matrixLen};
 ghost use Rattle.runs.specs.declared.Extended.the-variants.{P3, P4};

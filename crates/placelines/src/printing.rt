@@ -50,8 +50,8 @@ fn put_refused(out: &mut [u8], at: usize, answer: Answer) -> usize
     ensures { λ r. ⌜ Put (now (out .entry)) (now (out .exit)) at r 64 (refused (numberOf answer) (placeOf answer)) ⌝ }
 {
     let m = listing::put(out, at, b"REFUSED ");
-    let n = listing::field(out, m, calls::number(answer) as u64, 32);
-    listing::field(out, n, calls::place(answer) as u64, 10)
+    let n = listing::field(out, m, causes::number(answer) as u64, 32);
+    listing::field(out, n, causes::place(answer) as u64, 10)
 }
 
 // Puts that a line is no line of sixteen numbers.
@@ -72,7 +72,7 @@ fn put_shared(out: &mut [u8], at: usize, line: &[u8]) -> usize
     let waiting = eight_at(line, 8);
     let mut places = [0u8; 16];
     let answer = allocation::share_places(shares, waiting, &mut places);
-    if calls::number(answer) == 0 {
+    if causes::number(answer) == 0 {
         return put_places(out, at, &places);
     }
     put_refused(out, at, answer)

@@ -9,7 +9,7 @@ use Rattle.runs.specs.declared.State.{State}
 use Rattle.runs.specs.Lent.{Frames, Memory, Signal}
 use Rattle.calls.specs.declared.states.Outcome.{Outcome}
 use Rattle.calls.specs.Called.{frames, gave}
-use Rattle.calls.specs.Sizes.{wanted}
+use Rattle.modes.specs.Sizes.{wanted}
 use Rattle.frames.specs.Read.{handed}
 use Rattle.layout.proofs.Cut.{cut-is, entry-is, first-end, next-start}
 use Rattle.programs.specs.Inputs.{framesIn, inputStep}

@@ -11,7 +11,7 @@ use Rattle.runs.specs.Lent.{Lent, Memory, Result}
 use Rattle.runs.specs.Sending.{refused, sendStep}
 use Rattle.runs.proofs.Answered.{not-success, success-is}
 use Rattle.calls.specs.Admitted.{admitted}
-use Rattle.calls.specs.Sizes.{sizes, wanted}
+use Rattle.modes.specs.Sizes.{sizes, wanted}
 use Rattle.programs.specs.Inputs.{inputStep, wholeAnswer, wholeSizes}
 
 module _ (n3 n4 : ℕ) (s : State) (m : Memory) (l : Lent) (a : Answer) (m3 m4 : ℕ) (want : List ℕ) (w : want ≡ wanted (s .mode) m3 m4)

@@ -31,10 +31,10 @@ pub fn kind_of_number(mode: u8, channel: u8) -> Kind
         return Kind::Unused;
     }
     if channel == 3 {
-        return calls::kind_of(mode, Extended::P3);
+        return modes::kind_of(mode, Extended::P3);
     }
     if channel == 4 {
-        return calls::kind_of(mode, Extended::P4);
+        return modes::kind_of(mode, Extended::P4);
     }
     Kind::Unused
 }
@@ -72,7 +72,7 @@ fn content(kind: Kind, half: usize, age: usize, y: usize, column: usize) -> Foun
     let x = columns(kind);
     let coded = 64 * x;
     let n = 8 * coded;
-    let o = origin(calls::table_row(kind), n, half, y * x + column);
+    let o = origin(modes::table_row(kind), n, half, y * x + column);
     let earlier = 2 - o / n;
     if age < earlier {
         return FoundPx::Fill;

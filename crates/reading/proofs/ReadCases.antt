@@ -29,7 +29,7 @@ use Rattle.runs.specs.Reading.{pushed, readAnswer, readStep, received, unnumber
 use Rattle.runs.proofs.Answered.{not-success}
 use Rattle.calls.specs.Admitted.{admitted, firstCause}
 use Rattle.calls.specs.Fits.{Fits}
-use Rattle.calls.specs.Sizes.{lengthsOf, sizes, wanted}
+use Rattle.modes.specs.Sizes.{lengthsOf, sizes, wanted}
 use Rattle.calls.proofs.Admitted.{clear, compared, fits}
 use Rattle.judging.proofs.Staged.{stopped, went-on}
 use Rattle.receiving.specs.Received.{receiveStep}

@@ -1,8 +1,8 @@
 // Documents 01 and 02: reading an L1 frame.
 use calls::ReadOutcome;
 use calls::admit;
-use calls::number;
-use calls::reader_lengths;
+use causes::number;
+use modes::reader_lengths;
 use runs::State;
 ghost use mathlib.Core.Path.{_≡_};
 ghost use Rattle.runs.specs.Reading.{readStep};

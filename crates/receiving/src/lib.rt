@@ -1,10 +1,10 @@
 // Reading an L1 frame whose state and lengths are right: it is judged, and the frames that it returns and the reader's memory are written.
 use calls::ReadOutcome;
-use calls::kind_of;
-use calls::main_of;
-use calls::matrix_len;
 use calls::next_of;
-use calls::number;
+use causes::number;
+use modes::kind_of;
+use modes::main_of;
+use modes::matrix_len;
 use runs::Extended;
 use runs::Main;
 use runs::State;

@@ -1,6 +1,6 @@
 // The transfer frames of an L1 frame from its matrices: sections 10, 9 and 8 turned round.
-use calls::table_row;
 use coding::Rate;
+use modes::table_row;
 use runs::Kind;
 use runs::Main;
 ghost use mathlib.Core.Path.{_≡_};

@@ -26,7 +26,7 @@ use Rattle.runs.proofs.Succeeds.{send-succeeds}
 use Rattle.calls.specs.Admitted.{admitted, firstCause}
 use Rattle.calls.specs.Called.{Buffer, memory, signal}
 use Rattle.calls.specs.Fits.{Fits}
-use Rattle.calls.specs.Sizes.{lengthsOf, sizes, wanted}
+use Rattle.modes.specs.Sizes.{lengthsOf, sizes, wanted}
 use Rattle.calls.proofs.Admitted.{clear, compared, fits}
 
 module _ (s : State) (m : Memory) (l : Lent) where

@@ -1,12 +1,12 @@
 // Documents 01 and 02: sending an L1 frame.
 use calls::Outcome;
 use calls::admit;
-use calls::kind_of;
-use calls::main_of;
-use calls::meant_len;
 use calls::next_of;
-use calls::number;
-use calls::sender_lengths;
+use causes::number;
+use modes::kind_of;
+use modes::main_of;
+use modes::meant_len;
+use modes::sender_lengths;
 use runs::Extended;
 use runs::State;
 ghost use mathlib.Core.Path.{_≡_};

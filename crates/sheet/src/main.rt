@@ -149,7 +149,7 @@ fn start(mode: u8, count: u64, n3: usize, n4: usize, memory3: &mut [u8], memory4
 
 // The memory of a run, of its length in this mode. The finders, and so a sheet, keep to the modes without P1'.
 fn run(mode: u8, count: u64, n3: usize, n4: usize) {
-    if calls::delay_len(calls::main_of(mode)) > 0 {
+    if modes::delay_len(modes::main_of(mode)) > 0 {
         no_sheet();
         return;
     }

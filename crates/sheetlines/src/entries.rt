@@ -38,7 +38,7 @@ fn state_before(mode: u8, frame: u64) -> State
     ensures { λ r. ⌜ r ≡ stateAt mode 0 frame ⌝ }
 {
     let half = (frame % 2) as u8;
-    let last = calls::last_age(calls::main_of(mode));
+    let last = modes::last_age(modes::main_of(mode));
     if frame < last as u64 {
         return State {
             mode,

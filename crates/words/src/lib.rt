@@ -1,6 +1,6 @@
 // The words that the entry points of the C library return. Every place, frame and bit is small enough for its field, by the definitions.
-use calls::number;
-use calls::place;
+use causes::number;
+use causes::place;
 use decoding::Decoded;
 use dumps::Verdict;
 use queries::Found;
