@@ -10,7 +10,7 @@ use lib.ListN.{length, take, drop, length-take, length-drop}
 use borrow.Author.Tests.{ltb-true, eqb-true, ne-eqb}
 use Rattle.bits.proofs.Tests.{and-true}
 use Rattle.runs.specs.Lengths.{pmLen}
-use Rattle.queries.specs.Rows.{partOf, pmRow, pxRow}
+use Rattle.rows.specs.Rows.{partOf, pmRow, pxRow}
 use Rattle.words.specs.Words.{chosen, partAt, rowWord}
 use Rattle.words.proofs.Fields.{start-lt}
 

@@ -4,7 +4,7 @@ mod judged;
 mod lengths;
 mod questions;
 mod restored;
-mod rows;
+mod row_words;
 mod sharing;
 mod vectors;
 
@@ -18,7 +18,7 @@ pub use questions::layer1_lookup;
 pub use questions::layer1_lookup_frame;
 pub use questions::layer1_place_of;
 pub use restored::layer1_restore;
-pub use rows::layer1_pm_row;
-pub use rows::layer1_px_row;
+pub use row_words::layer1_pm_row;
+pub use row_words::layer1_px_row;
 pub use sharing::layer1_share_places;
 pub use vectors::layer1_fill_vector;

@@ -1,9 +1,8 @@
-// Documents 01 and 02: what a cell of PM holds and where a row and a column stand, a row of a matrix, and what a control block or the sixteen of an L1 frame say; and what a cell of PX1 or PX2 holds.
+// Documents 01 and 02: what a cell of PM holds and where a row and a column stand, and what a control block or the sixteen of an L1 frame say; and what a cell of PX1 or PX2 holds.
 mod blocks;
 mod finder;
 mod finder_px;
 mod places;
-mod rows;
 
 pub use blocks::LookedUp;
 pub use blocks::LookedUpFrame;
@@ -19,5 +18,3 @@ pub use finder_px::kind_of_number;
 pub use places::Placed;
 pub use places::place_of;
 pub use pm::Position;
-pub use rows::pm_row;
-pub use rows::px_row;

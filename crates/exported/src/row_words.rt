@@ -1,7 +1,7 @@
 // Document 01: one row of a matrix, as where it starts in the matrix and how many bytes it has.
 use words::row_word;
 ghost use mathlib.Core.Path.{_≡_};
-ghost use Rattle.queries.specs.Rows.{pmRow, pxRow};
+ghost use Rattle.rows.specs.Rows.{pmRow, pxRow};
 ghost use Rattle.words.specs.Words.{chosen, partAt, rowWord};
 
 // A row of PM.

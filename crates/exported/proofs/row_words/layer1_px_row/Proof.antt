@@ -4,8 +4,8 @@ use native.Mathlib.Omega.{arith}
 use Rattle.words.specs.Words.{rowWord}
 use Rattle.exported.proofs.Parts.{Handed, long, px-handed, tells}
 use borrow.Author.Needs.{needs}
-use Rattle.exported.proofs.rows.layer1_px_row.Statement.{statement}
-use Rattle.exported.proofs.rows.layer1_px_row.Tie as tie
+use Rattle.exported.proofs.row_words.layer1_px_row.Statement.{statement}
+use Rattle.exported.proofs.row_words.layer1_px_row.Tie as tie
 
 px-row-requires : tie.Need-px-row-requires
 px-row-requires c κs = search needs

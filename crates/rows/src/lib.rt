@@ -1,6 +1,6 @@
-// One row of a matrix, as the part of the lent matrix that it is.
+// Document 01: one row of a matrix, as the part of the lent matrix that it is.
 ghost use mathlib.Core.Path.{_≡_};
-ghost use Rattle.queries.specs.Rows.{pmRow, pxRow};
+ghost use Rattle.rows.specs.Rows.{pmRow, pxRow};
 
 // A row of PM: 90 bytes, or none where the row is out of range or the length is wrong.
 pub fn pm_row(row: usize, pm: &[u8]) -> &[u8]

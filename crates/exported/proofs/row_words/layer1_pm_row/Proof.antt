@@ -4,8 +4,8 @@ use native.Mathlib.Omega.{arith}
 use Rattle.words.specs.Words.{rowWord}
 use Rattle.exported.proofs.Parts.{Handed, long, pm-handed, tells}
 use borrow.Author.Needs.{needs}
-use Rattle.exported.proofs.rows.layer1_pm_row.Statement.{statement}
-use Rattle.exported.proofs.rows.layer1_pm_row.Tie as tie
+use Rattle.exported.proofs.row_words.layer1_pm_row.Statement.{statement}
+use Rattle.exported.proofs.row_words.layer1_pm_row.Tie as tie
 
 pm-row-requires : tie.Need-pm-row-requires
 pm-row-requires c κs = search needs
