@@ -1,11 +1,10 @@
 -- What a search says fits its fields of a word, and the word is of one outcome. Assumes nothing.
 use mathlib.Core.Path.{_≡_, sym, ap, _∙_}
 use mathlib.Core.List.{List}
-use Prim.Native.Nat.{ℕ, _/_, _%_, _^_, _<_, _≤_}
+use Prim.Native.Nat.{ℕ, _^_, _<_, _≤_}
 use native.Mathlib.Decide.{decLt}
 use native.Mathlib.Omega.{arith}
-use Rattle.runs.specs.Answers.{numberOf, placeOf}
-use Rattle.runs.specs.declared.Answer.{Answer}
+use Rattle.runs.specs.Answers.{placeOf}
 use Rattle.runs.specs.declared.Answer.the-variants.{Success}
 use Rattle.trellis.specs.Cells.{scrambledOf}
 use Rattle.trellis.proofs.Distances.{distance-low}

@@ -1,5 +1,5 @@
 -- What the finders and the lookups say fits its fields of a word. Assumes nothing.
-use Prim.Native.Nat.{ℕ, _+_, _*_, _/_, _%_, _^_, _<_, _≤_}
+use Prim.Native.Nat.{ℕ, _*_, _/_, _%_, _^_, _<_, _≤_}
 use mathlib.Core.Path.{_≡_, refl}
 use mathlib.Core.Bool.{Bool, true, false, cond, true≢false}
 use mathlib.Core.List.{List}
@@ -7,7 +7,6 @@ use native.Mathlib.Decide.{decLt}
 use native.Mathlib.Omega.{arith}
 use lib.Dec.{eqb, ltb}
 use lib.ListN.{length}
-use borrow.Author.Tests.{ltb-true}
 use Rattle.interleaving.specs.FinderPM.{source}
 use Rattle.interleaving.specs.Source.{Source, Either, first, second}
 use Rattle.interleaving.specs.Matrix.{Inside, positionAt}
@@ -33,7 +32,6 @@ use Rattle.queries.specs.FinderPX.{columnsOf, cellOf, frameCoded, kindOfNumber,
 use Rattle.queries.specs.FinderPX as FinderPX
 use Rattle.interleaving.specs.PX.{codedBits, codedBytes}
 use native.Mathlib.Nat.{div-lt-iff-lt-mul, mod-lt}
-use Rattle.queries.specs.declared.finder.Found.the-variants.{Refused}
 use Rattle.queries.specs.declared.blocks.LookedUp.the-variants.{Refused as notLookedUp}
 use Rattle.queries.specs.declared.blocks.LookedUpFrame.the-variants.{Refused as noFrame}
 use Rattle.queries.specs.Finder.{found, told, values}

@@ -15,15 +15,12 @@ use Rattle.runs.specs.declared.Answer.{Answer}
 use Rattle.runs.specs.declared.Answer.the-variants.{ModeNotCovered, StateNotValid, WrongLength, WrongControl, MainNotCoded, PidsNotCoded, FillNotZero, ExtendedNotCoded, ReservedTooHigh}
 use Rattle.runs.specs.declared.Extended.the-variants.{P3, P4}
 use Rattle.runs.specs.declared.Kind.{Kind}
-use Rattle.runs.specs.declared.Kind.the-variants.{Unused, Narrow, Wide}
 use Rattle.runs.specs.declared.State.{State}
 use Rattle.runs.specs.Answers.{placeOf}
 use Rattle.runs.specs.Causes.{Size, size, at, first, judge, when, wrong}
-use Rattle.runs.specs.declared.Main.{Main}
-use Rattle.runs.specs.declared.Main.the-variants.{Plain, Mp5, Mp6}
-use Rattle.runs.specs.MainChannels.{mainOf, p1Frames, p1′Len}
+use Rattle.runs.specs.MainChannels.{mainOf}
 use Rattle.runs.specs.Chain.{pidsBad}
-use Rattle.runs.specs.Lengths.{kindOf, matrixLen, pmLen, readerLen, senderLen}
+use Rattle.runs.specs.Lengths.{kindOf, readerLen, senderLen}
 use Rattle.runs.specs.Lent.{Lent, Matrices, Memory, Result, meant}
 use Rattle.runs.specs.Judged.{countedFirst, fillPlace, framePlace, mainPlace}
 use Rattle.runs.specs.Reading.{pushed, readAnswer, readStep, received}
