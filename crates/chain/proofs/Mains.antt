@@ -17,6 +17,7 @@ use Rattle.runs.specs.declared.Main.the-variants.{Plain, Mp5, Mp6}
 use Rattle.runs.specs.MainChannels.{p1Bits, p1Len, p2Bits, p2Len}
 use Rattle.runs.specs.Chain.{Buffer, p1Coded, multiplexed}
 use Rattle.runs.specs.Paths.{scrambledOf}
+use Rattle.runs.proofs.Bounds.{p1-le}
 use Rattle.runs.proofs.PM.{p2Coded}
 use Rattle.runs.proofs.Bridge.{multiplexed-from}
 use Rattle.chain.specs.Rooms.{Split}
@@ -137,11 +138,6 @@ module _ (main : Main) (p1 p2 mixed coded : Buffer) (l₁ : length p1 ≡ p1Len 
         )
 
 -- ---- the scrambled P1 frames, at the front of PM till its cells are written
-
-pub p1-le : (k : Main) → p1Len k ≤ 18272
-p1-le Plain = omega arith
-p1-le Mp5 = omega arith
-p1-le Mp6 = omega arith
 
 pub front-of : (k : Main) (n : ℕ) (mixed rest p1 : Buffer) → length mixed ≡ 18272 → n ≡ p1Len k → take (p1Len k) mixed ≡ scrambledOf k p1 → take n (mixed ++ rest) ≡ scrambledOf k p1
 front-of k n mixed rest p1 l e h = take-append-le n mixed rest (omega (arith, p1-le k)) ∙ ap (λ (m : ℕ). take m mixed) e ∙ h

@@ -12,7 +12,8 @@ use Rattle.runs.specs.Lengths.{kindOf, readerLen}
 use Rattle.runs.specs.Starting.{zeros}
 use Rattle.calls.specs.Called.{memory}
 use Rattle.modes.specs.Sizes.{wanted}
-use Rattle.layout.proofs.Cut.{entry-is, matrix-small}
+use Rattle.runs.proofs.Bounds.{matrix-le}
+use Rattle.layout.proofs.Cut.{entry-is}
 use Rattle.frames.proofs.Blank.{zeros-of}
 
 delay-small : (k : Main) → delayLen k ≤ 27648
@@ -22,10 +23,10 @@ delay-small Mp6 = omega arith
 
 module _ (mode : ℕ) (want : List ℕ) (lengths : want ≡ wanted mode (readerLen (kindOf mode P3)) (readerLen (kindOf mode P4))) where
   pub room-memory3 : getD want 9 0 ≤ 27648
-  room-memory3 = let e : getD want 9 0 ≡ readerLen (kindOf mode P3) = entry-is mode _ _ want lengths 9 in omega (arith, matrix-small (kindOf mode P3))
+  room-memory3 = let e : getD want 9 0 ≡ readerLen (kindOf mode P3) = entry-is mode _ _ want lengths 9 in omega (arith, matrix-le (kindOf mode P3))
 
   pub room-memory4 : getD want 10 0 ≤ 27648
-  room-memory4 = let e : getD want 10 0 ≡ readerLen (kindOf mode P4) = entry-is mode _ _ want lengths 10 in omega (arith, matrix-small (kindOf mode P4))
+  room-memory4 = let e : getD want 10 0 ≡ readerLen (kindOf mode P4) = entry-is mode _ _ want lengths 10 in omega (arith, matrix-le (kindOf mode P4))
 
   pub room-delay : getD want 11 0 ≤ 27648
   room-delay = let e : getD want 11 0 ≡ delayLen (mainOf mode) = entry-is mode _ _ want lengths 11 in omega (arith, delay-small (mainOf mode))

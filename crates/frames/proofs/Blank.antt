@@ -13,11 +13,12 @@ use Rattle.runs.specs.MainChannels.{mainOf, p1Len, p2Len}
 use Rattle.runs.specs.Lengths.{kindOf, frameLen, readerLen, pidsLen}
 use Rattle.runs.specs.Lent.{Frames, Memory, Result}
 use Rattle.runs.specs.Reading.{readStep}
+use Rattle.runs.proofs.Bounds.{frame-le, p2-le}
 use Rattle.calls.specs.Called.{frames, readGave}
 use Rattle.modes.specs.Sizes.{wanted}
 use Rattle.calls.specs.declared.states.ReadOutcome.{ReadOutcome}
 use Rattle.layout.specs.Layout.{signalIn}
-use Rattle.layout.proofs.Cut.{entry-is, frame-small, main-small}
+use Rattle.layout.proofs.Cut.{entry-is, main-small}
 use Rattle.frames.specs.Read.{blank, handed, readFrame}
 
 take-replicate : (n m : ℕ) → n ≤ m → take n (replicate m 0) ≡ replicate {A = ℕ} n 0
@@ -29,11 +30,6 @@ take-replicate (suc n) (suc m) h = ap (λ (l : List ℕ). 0 ∷ l) (take-replica
 pub zeros-of : (n m k : ℕ) → n ≡ k → n ≤ m → take n (replicate m 0) ≡ replicate {A = ℕ} k 0
 zeros-of n m k e h = take-replicate n m h ∙ ap (λ (j : ℕ). replicate j 0) e
 
-p2-small : (k : Main) → p2Len k ≤ 13664
-p2-small Plain = omega arith
-p2-small Mp5 = omega arith
-p2-small Mp6 = omega arith
-
 module _ (mode : ℕ) (want : List ℕ) (lengths : want ≡ wanted mode (readerLen (kindOf mode P3)) (readerLen (kindOf mode P4))) where
   is : (k : ℕ) → getD want k 0 ≡ getD (wanted mode (readerLen (kindOf mode P3)) (readerLen (kindOf mode P4))) k 0
   is = entry-is mode _ _ want lengths
@@ -43,13 +39,13 @@ module _ (mode : ℕ) (want : List ℕ) (lengths : want ≡ wanted mode (readerL
   room-p1 = let e : getD want 0 0 ≡ p1Len (mainOf mode) = is 0 in omega (arith, main-small (mainOf mode))
 
   pub room-p2 : getD want 2 0 ≤ 13664
-  room-p2 = let e : getD want 2 0 ≡ p2Len (mainOf mode) = is 2 in omega (arith, p2-small (mainOf mode))
+  room-p2 = let e : getD want 2 0 ≡ p2Len (mainOf mode) = is 2 in omega (arith, p2-le (mainOf mode))
 
   pub room-p3 : getD want 3 0 ≤ 4608
-  room-p3 = let e : getD want 3 0 ≡ frameLen (kindOf mode P3) = is 3 in omega (arith, frame-small (kindOf mode P3))
+  room-p3 = let e : getD want 3 0 ≡ frameLen (kindOf mode P3) = is 3 in omega (arith, frame-le (kindOf mode P3))
 
   pub room-p4 : getD want 4 0 ≤ 4608
-  room-p4 = let e : getD want 4 0 ≡ frameLen (kindOf mode P4) = is 4 in omega (arith, frame-small (kindOf mode P4))
+  room-p4 = let e : getD want 4 0 ≡ frameLen (kindOf mode P4) = is 4 in omega (arith, frame-le (kindOf mode P4))
 
   -- the frames that are lent to the reader
   abbrev own : Frames

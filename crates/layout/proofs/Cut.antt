@@ -13,6 +13,7 @@ use Rattle.runs.specs.declared.Main.{Main}
 use Rattle.runs.specs.declared.Main.the-variants.{Plain, Mp5, Mp6}
 use Rattle.runs.specs.MainChannels.{mainOf, p1Len, p2Len, p1′Len}
 use Rattle.runs.specs.Lengths.{kindOf, frameLen, matrixLen, pidsLen, pmLen, px2Len, controlLen}
+use Rattle.runs.proofs.Bounds.{frame-le, matrix-le, second-le}
 use Rattle.calls.specs.Called.{signal}
 use Rattle.modes.specs.Sizes.{wanted}
 use Rattle.layout.specs.Layout.{cut, signalIn}
@@ -89,21 +90,6 @@ main-small Plain = refl
 main-small Mp5 = refl
 main-small Mp6 = refl
 
-pub frame-small : (k : Kind) → frameLen k ≤ 4608
-frame-small Unused = omega arith
-frame-small Narrow = omega arith
-frame-small Wide = omega arith
-
-pub matrix-small : (k : Kind) → matrixLen k ≤ 9216
-matrix-small Unused = omega arith
-matrix-small Narrow = omega arith
-matrix-small Wide = omega arith
-
-pub second-small : (k : Main) → p1′Len k ≤ 18432
-second-small Plain = omega arith
-second-small Mp5 = omega arith
-second-small Mp6 = omega arith
-
 -- a bound for each of the first nine
 abbrev Small : List ℕ → Type 0
 Small l =
@@ -117,10 +103,10 @@ lengths-small mode m3 m4 want e =
       omega (arith, main-small (mainOf mode)),
       omega arith,
       omega (arith, main-small (mainOf mode)),
-      frame-small (kindOf mode P3),
-      frame-small (kindOf mode P4),
+      frame-le (kindOf mode P3),
+      frame-le (kindOf mode P4),
       omega arith,
-      matrix-small (kindOf mode P3),
-      omega (arith, matrix-small (kindOf mode P4), second-small (mainOf mode)),
+      matrix-le (kindOf mode P3),
+      omega (arith, matrix-le (kindOf mode P4), second-le (mainOf mode)),
       omega arith,
     )

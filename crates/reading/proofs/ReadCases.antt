@@ -87,18 +87,3 @@ module _ (s : State) (m : Memory) (l : Lent) where
       pub let-in : receiveStep s m l ≡ readStep s m l
       unfolding receiveStep readStep
       let-in = ap (λ (b : Answer). onSuccess b (received s m l) (refused s m (unnumbered l) b)) (went-on a _ zero ∙ judged-next)
-
-pub frame-le : (k : Kind) → frameLen k ≤ 4608
-frame-le Unused = omega arith
-frame-le Narrow = omega arith
-frame-le Wide = omega arith
-
-pub p1-le : (k : Main) → p1Len k ≤ 18272
-p1-le Plain = omega arith
-p1-le Mp5 = omega arith
-p1-le Mp6 = omega arith
-
-pub p2-le : (k : Main) → p2Len k ≤ 13664
-p2-le Plain = omega arith
-p2-le Mp5 = omega arith
-p2-le Mp6 = omega arith

@@ -133,11 +133,6 @@ no-p2 k p2 y e l =
       sym (take-all 0 p2 (omega (arith, rw e at l))),
     )
 
-pub p2-le : (k : Main) → p2Len k ≤ 13664
-p2-le Plain = omega arith
-p2-le Mp5 = omega arith
-p2-le Mp6 = omega arith
-
 -- a mode with P2: b bytes of coded bits of P1, and then those of the n bytes of P2
 pub record Behind (k : Main) (b n : ℕ) : Type 0 where
   pub both : b + n / 2 * 5 ≡ 45680

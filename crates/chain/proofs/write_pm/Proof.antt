@@ -10,8 +10,9 @@ use lib.Seq.{length-take-le, length-front}
 use Rattle.runs.specs.declared.Main.{Main}
 use Rattle.runs.specs.MainChannels.{p1Len}
 use Rattle.runs.specs.Paths.{waiting}
+use Rattle.runs.proofs.Bounds.{p1-le}
 use Rattle.runs.proofs.Bridge.{pm-from}
-use Rattle.chain.proofs.Mains.{front-of, p1-le}
+use Rattle.chain.proofs.Mains.{front-of}
 use borrow.Author.Needs.{needs}
 use Rattle.chain.proofs.write_pm.Statement.{statement}
 use Rattle.chain.proofs.write_pm.Tie as tie

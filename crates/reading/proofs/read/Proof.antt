@@ -9,9 +9,10 @@ use Rattle.runs.specs.declared.Extended.the-variants.{P3, P4}
 use Rattle.runs.specs.MainChannels.{mainOf}
 use Rattle.runs.specs.Lengths.{kindOf, readerLen}
 use Rattle.runs.specs.Lent.{Lent, Memory}
+use Rattle.runs.proofs.Bounds.{frame-le, p1-le, p2-le}
 use Rattle.calls.specs.Called.{lent, memory}
 use Rattle.calls.specs.Fits.{Fits}
-use Rattle.reading.proofs.ReadCases.{frame-le, let-in, p1-le, p2-le, readable, turned-down}
+use Rattle.reading.proofs.ReadCases.{let-in, readable, turned-down}
 use borrow.Author.Needs.{needs}
 use Rattle.reading.proofs.read.Statement.{statement}
 use Rattle.reading.proofs.read.Tie as tie

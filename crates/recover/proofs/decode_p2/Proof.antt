@@ -6,7 +6,8 @@ use denote.Ref.{now}
 use lib.ListN.{length}
 use lib.Seq.{length-take-le}
 use Rattle.runs.specs.Chain.{p1Coded}
-use Rattle.recover.proofs.Mains.{behind, no-p2, p2-buffers, p2-found, p2-le, plain-when, rest-is}
+use Rattle.runs.proofs.Bounds.{p2-le}
+use Rattle.recover.proofs.Mains.{behind, no-p2, p2-buffers, p2-found, plain-when, rest-is}
 use borrow.Author.Needs.{needs}
 use Rattle.recover.proofs.decode_p2.Statement.{statement}
 use Rattle.recover.proofs.decode_p2.Tie as tie
