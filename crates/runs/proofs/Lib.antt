@@ -29,6 +29,9 @@ pub mod Memory
 pub mod TwoPaths
 pub mod Reader
 pub mod ReaderRun
+pub mod AnyRun
+pub mod Coded
+pub mod Relied
 pub mod Readable
 pub mod Sendable
 pub mod NoData

@@ -16,5 +16,6 @@ pub mod Runs
 pub mod Defined
 pub mod Handed
 pub mod WholeRuns
+pub mod Relied
 pub mod Probes
 pub mod ProbesTwoPaths
