@@ -1,3 +1,4 @@
 pub mod Judged
 pub mod Next
 pub mod Accepted
+pub mod Refused

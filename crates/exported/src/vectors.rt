@@ -5,7 +5,8 @@ ghost use Rattle.calls.specs.Called.{signal};
 ghost use Rattle.mapping.specs.Vector.{filled};
 ghost use Rattle.exported.specs.Left.{vectorLeft, vectorLeftBy};
 
-// Fills the vector of a symbol from the matrices and the control of its L1 frame.
+// Fills the vector of a symbol from the matrices and the control of its L1 frame. Of a NaN that a refusal leaves in the vector the contract says only
+// that it is one, as that of `fill_vector`.
 #[no_mangle]
 pub extern "C" fn layer1_fill_vector(
     mode: u8,

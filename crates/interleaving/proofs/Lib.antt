@@ -13,6 +13,7 @@ pub mod Shared
 pub mod OnceI
 pub mod OnceShared
 pub mod OncePM
+pub mod AtPositions
 pub mod PositionsPM
 pub mod Passes
 pub mod Slot

@@ -45,7 +45,6 @@ pids-inside i h = pm-positions-once .there (second i) h
 -- ---- cells
 
 place-is : (s : Source) → place s ≡ cellOf 20 36 (position s)
-unfolding p1Place pidsPlace
 place-is (first i) = refl
 place-is (second i) = refl
 

@@ -1,5 +1,5 @@
--- Each cell of an internal matrix of PX is written once in two L1 frames, in MP2 as in MP3 and MP11: Interleaver IV's law at either kind.
--- Assumes nothing.
+-- Each cell of an internal matrix of PX is written once in two L1 frames, in MP2 as in MP3, MP11 and MP5 (Tables 10-15, 10-16 and 10-18): Interleaver
+-- IV's law at either kind. Assumes nothing.
 use mathlib.Core.Path.{_≡_, refl}
 use Prim.Native.Nat.{ℕ, _*_, _<_}
 use native.Mathlib.Omega.{arith}

@@ -1,4 +1,4 @@
--- The two kinds of Tables 10-15 and 10-16: what they share, so that one argument serves both. Assumes nothing.
+-- The two kinds of Tables 10-15, 10-16 and 10-18: what they share, so that one argument serves both. Assumes nothing.
 use mathlib.Core.Path.{_≡_, refl}
 use mathlib.Core.List.{List}
 use Prim.Native.Nat.{ℕ, zero, suc, _*_, _≤_, _<_}

@@ -9,21 +9,20 @@ use Rattle.interleaving.specs.Source.{Source, first, second, at, Either}
 use Rattle.interleaving.specs.PM.{p1Place, pidsPlace, matrix}
 use Rattle.interleaving.specs.FinderPM.{sourceIn}
 use Rattle.interleaving.proofs.OncePM.{place, pm-each-once, filled}
+use Rattle.interleaving.proofs.AtPositions.{matrix-at, matrix-filled, matrix-stands}
 
 -- the second pass over what the first left in the buffer
 pub both-passes : (p1 pids m : ℕ → ℕ) → ((i : ℕ) → p1 i < 2) → ((c : ℕ) → m c < 2)
     → packed 46080 (written pidsPlace pids 3200 (bitAt (packed 46080 (written p1Place p1 365440 m)))) ≡ packed 46080 (matrix p1 pids)
-unfolding matrix
 both-passes p1 pids m hp hm =
     packed-cong 46080 _ _
     (λ c h. written-mem pidsPlace pids 3200 _ _ c (bitAt-packed 46080 _ (λ i l. written-lt p1Place p1 365440 m hp hm i) c h)
     ∙ filled p1 pids m c h
-    ∙ sym (filled p1 pids (λ c. 0) c h))
+    ∙ sym (matrix-filled p1 pids c h))
 
 -- a matrix whose bits were read, each at its cell, is written again
 pub matrix-again : (x : ℕ → ℕ) (c : ℕ) → c < 368640 → matrix (λ i. x (p1Place i)) (λ i. x (pidsPlace i)) c ≡ x c
-unfolding matrix
-matrix-again x c h = filled _ _ (λ c. 0) c h ∙ each (sourceIn c) ∙ ap x (pm-each-once .back-there c h)
+matrix-again x c h = matrix-filled _ _ c h ∙ each (sourceIn c) ∙ ap x (pm-each-once .back-there c h)
   where
     each : (s : Source) → at (λ i. x (p1Place i)) (λ i. x (pidsPlace i)) s ≡ x (place s)
     each (first i) = refl
@@ -33,15 +32,11 @@ matrix-again x c h = filled _ _ (λ c. 0) c h ∙ each (sourceIn c) ∙ ap x (pm
 
 module _ (p1 pids : ℕ → ℕ) (hp : (i : ℕ) → p1 i < 2) (hq : (i : ℕ) → pids i < 2) where
   pub matrix-lt : (c : ℕ) → matrix p1 pids c < 2
-  unfolding matrix
-  matrix-lt c = written-lt pidsPlace pids 3200 _ hq (λ c. written-lt p1Place p1 365440 (λ c. 0) hp (λ c. omega arith) c) c
+  matrix-lt c = rw (matrix-at p1 pids c) (written-lt pidsPlace pids 3200 _ hq (λ c. written-lt p1Place p1 365440 (λ c. 0) hp (λ c. omega arith) c) c)
 
   in-cell : (s : Source) → Either 365440 3200 s → bitAt (packed 46080 (matrix p1 pids)) (place s) ≡ at p1 pids s
-  unfolding matrix
   in-cell s h =
-      bitAt-packed 46080 (matrix p1 pids) (λ c l. matrix-lt c) (place s) (pm-each-once .there s h)
-      ∙ filled p1 pids (λ c. 0) (place s) (pm-each-once .there s h)
-      ∙ ap (at p1 pids) (pm-each-once .there-back s h)
+      bitAt-packed 46080 (matrix p1 pids) (λ c l. matrix-lt c) (place s) (pm-each-once .there s h) ∙ matrix-stands p1 pids s h
 
   -- what is read at the cells of the P1 bits are the P1 bits
   pub p1-back : packed 45680 (λ i. bitAt (packed 46080 (matrix p1 pids)) (p1Place i)) ≡ packed 45680 p1

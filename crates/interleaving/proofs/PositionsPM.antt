@@ -3,6 +3,7 @@ use native.Mathlib.Omega.{arith}
 use Rattle.interleaving.specs.PositionsPM.{PositionsPM}
 use Rattle.interleaving.proofs.Matrix as M
 use Rattle.interleaving.proofs.OncePM as O
+use Rattle.interleaving.proofs.AtPositions as A
 
 pub positions-pm : PositionsPM
 positions-pm =
@@ -16,4 +17,8 @@ positions-pm =
       inside = λ y x hy hx. M.at-inside 20 16 36 y x (omega arith) hy hx;
       row-is = M.row-at 36;
       column-is = M.column-at 36;
+      p1-stands = A.p1-stands;
+      pids-stands = A.pids-stands;
+      at-cell = A.at-cell;
+      by-cells = A.matrix-at;
     }

@@ -1,5 +1,5 @@
--- 10.4.2, the PX interleaving processes by Interleaver IV. Tables 10-15 and 10-16 have two kinds of parameters: kind 0 is MP2, and kind 1 is MP3
--- and MP11. B = 32 and C = 36. Past the tables' end every number is 0.
+-- 10.4.2, the PX interleaving processes by Interleaver IV. Tables 10-15, 10-16 and 10-18 have two kinds of parameters: kind 0 is MP2, and kind 1 is MP3
+-- (Table 10-15), MP11 (Table 10-16) and MP5 (Table 10-18). Past the tables' end every number is 0.
 use mathlib.Core.Bool.{Bool, cond, _&&_}
 use mathlib.Core.List.{List, [], _∷_}
 use Prim.Native.Nat.{ℕ, suc, _+_, _-_, _*_, _%_}
@@ -9,9 +9,15 @@ use Rattle.bits.specs.Bits.{written}
 use Rattle.bits.specs.Tests.{lowest}
 use Rattle.interleaving.specs.EquationsIV as IV
 
--- J, M and the partition order
+-- J; B and C, the same in every row; M; and the partition order v
 unfoldable pub partitions : ℕ → ℕ
 partitions kind = getD (2 ∷ 4 ∷ []) kind 0
+
+abbrev pub blocks : ℕ
+blocks = 32
+
+abbrev pub columns : ℕ
+columns = 36
 
 unfoldable pub runs : ℕ → ℕ
 runs kind = getD (4 ∷ 2 ∷ []) kind 0
@@ -25,7 +31,7 @@ v4 = 0 ∷ 1 ∷ 2 ∷ 3 ∷ []
 unfoldable pub order : ℕ → List ℕ
 order kind = cond (eqb kind 0) v2 v4
 
--- the bytes and bits of an L1 frame's coded bits, and the cells of the internal matrix, which takes those of two L1 frames
+-- the bytes and bits of an L1 frame's coded bits, eight frames of b, and the cells of the internal matrix, N, which takes those of two L1 frames
 unfoldable pub codedBytes : ℕ → ℕ
 codedBytes kind = getD (4608 ∷ 9216 ∷ []) kind 0
 
@@ -37,7 +43,7 @@ cells kind = 16 * codedBytes kind
 
 -- the cell of the internal matrix that step i writes
 unfoldable pub place : ℕ → ℕ → ℕ
-place kind i = IV.place (partitions kind) 32 36 (runs kind) (order kind) i
+place kind i = IV.place (partitions kind) blocks columns (runs kind) (order kind) i
 
 -- house matter: the step of bit j of an L1 frame, the first (half 0) or the second (half 1) of the internal matrix
 abbrev pub stepOf : (kind half j : ℕ) → ℕ

@@ -31,5 +31,3 @@ pub use rows::px_row;
 pub use runs::Answer;
 pub use runs::State;
 pub use sending::send;
-pub use subcarriers::Source;
-pub use subcarriers::source_at;

@@ -6,6 +6,9 @@ ghost use lib.ListN.{length, getD};
 ghost use Rattle.layout.specs.Layout.{header, word};
 ghost use Rattle.layout.specs.Heads.{headAnswer};
 
+// The letters that a dump begins with: the one string that is compared and written.
+const MARK: [u8; 3] = *b"HDM";
+
 fn wide(byte: u8) -> usize
     ensures { λ r. ⌜ r ≡ byte ⌝ }
 {
@@ -29,8 +32,7 @@ pub fn head_answer(dump: &[u8]) -> Answer
     if dump.len() < 8 {
         return Answer::WrongMark;
     }
-    let mark = b"HDM";
-    if !bits::same(&dump[..3], mark) {
+    if !bits::same(&dump[..3], &MARK) {
         return Answer::WrongMark;
     }
     if word_at(dump, 3) != 1 {
@@ -49,5 +51,5 @@ pub fn header_of(mode: u8, count: usize) -> [u8; 8]
 {
     let high = count / 256;
     let low = count % 256;
-    [b'H', b'D', b'M', 0, 1, mode, high as u8, low as u8]
+    [MARK[0], MARK[1], MARK[2], 0, 1, mode, high as u8, low as u8]
 }

@@ -196,6 +196,7 @@ fn lengths(mode: u8) -> [usize; 6]
 }
 
 // Fills the vector of a symbol from the matrices and the control of its L1 frame.
+// What the contract cannot say: the logic has one NaN, so where the vector holds one before a refusal, that it is still of the same bits is not stated.
 pub fn fill_vector(
     mode: u8,
     symbol: usize,

@@ -63,7 +63,7 @@ module _ (k t : ℕ) (h : t < 320) where
   same-block = rw same-partition (omega arith)
 
   pub p1-shift : p1Place (320 * k + t) ≡ p1Place t + shiftOf k
-  unfolding p1Place p1Position I.position shiftOf spot cellOf matrixRow matrixColumn
+  unfolding p1Position I.position shiftOf spot cellOf matrixRow matrixColumn
   p1-shift =
       let here : I.kOf 20 16 36 1 v (320 * k + t) ≡ k = unfold I.kOf in omega arith in
       let first : I.kOf 20 16 36 1 v t ≡ 0 = unfold I.kOf in omega arith in

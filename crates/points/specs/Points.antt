@@ -3,7 +3,7 @@ use Prim.Native.Nat.{ℕ}
 use mathlib.Core.Bool.{Bool, false, cond, _&&_}
 use lib.Dec.{eqb}
 use lib.IntN.{pos}
-use lib.Ieee.{Float, inf, fin, neg, lt}
+use lib.Ieee.{Float, binary32, inf, fin, fits, neg, lt}
 use Rattle.points.specs.declared.Point.{Point}
 
 -- positive zero
@@ -26,9 +26,9 @@ pointOf i q scale = record { re = part i scale; im = part q scale }
 unfoldable pub noPoint : Point
 noPoint = record { re = zeroPart; im = zeroPart }
 
--- finite and above zero
+-- of single precision, as every f32 is, finite and above zero
 unfoldable pub usable : Float → Bool
-usable scale = lt zeroPart scale && lt scale (inf false)
+usable scale = fits binary32 scale && (lt zeroPart scale && lt scale (inf false))
 
 -- the bit that a part stands for, by its sign
 unfoldable pub bySign : Float → ℕ

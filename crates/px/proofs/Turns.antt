@@ -9,10 +9,10 @@ use Rattle.interleaving.proofs.PXKinds.{kind-is}
 use Rattle.px.specs.Entries.{entry, spot, partOf, countOf}
 use Rattle.px.proofs.Entries.{entry-is, missed-le, part-lt, place-is}
 
--- what the table holds, w the cells of a row, and its bound
-pub spot-is : (kind n w : ℕ) → w ≡ 36 * partitions kind → 11 * n % 1152 / 36 * w + 11 * n % 1152 % 36 ≡ spot kind n
+-- what the table holds, c the columns of a partition and j the partitions, and its bound
+pub spot-is : (kind n c j : ℕ) → c ≡ 36 → j ≡ partitions kind → 11 * n % 1152 / c * (c * j) + 11 * n % 1152 % c ≡ spot kind n
 unfolding spot
-spot-is kind n w w-is = rw w-is
+spot-is kind n c j c-is j-is = rw (c-is, j-is)
 
 pub spot-lt : (kind n : ℕ) → kind < 2 → spot kind n < 4608
 unfolding spot partitions

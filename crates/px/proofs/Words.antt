@@ -50,10 +50,11 @@ step-fits kind hk p x q j m hp hx q-is j-is m-is =
     let b : (q * j + p) * m ≤ 147468 * 4 = rw m-is (mul-le-mul s (K .M-le)) in
     (a, b)
 
--- the products and sums of `entry` fit: w cells in a block, and the place e in it
-pub blocks-fit : (x w e : ℕ) → w ≤ 4608 → e ≤ 4750 → Fits w64 (x % 32 * w) × Fits w64 (x % 32 * w + e)
-blocks-fit x w e h l =
-    let p : x % 32 * w ≤ 31 * 4608 = mul-le-mul {n₂ = 31} {m₂ = 4608} (omega arith) h in
+-- the products and sums of `entry` fit: b blocks, w cells in a block, and the place e in it
+pub blocks-fit : (x b w e : ℕ) → b ≡ 32 → w ≤ 4608 → e ≤ 4750 → Fits w64 (x % b * w) × Fits w64 (x % b * w + e)
+blocks-fit x b w e b-is h l =
+    let r : x % b ≤ 31 = rw b-is (omega arith) in
+    let p : x % b * w ≤ 31 * 4608 = mul-le-mul {n₂ = 31} {m₂ = 4608} r h in
     (omega arith, omega arith)
 
 -- the product and the sum of `byte_of` fit: w bytes in an L1 frame, one or none before, and byte j

@@ -2,20 +2,31 @@
 ghost use mathlib.Core.Path.{_≡_};
 ghost use mathlib.Core.List.{List};
 ghost use Prim.Native.Nat.{ℕ, _+_, _*_, _/_, _%_, _<_, _≤_};
-ghost use lib.ListN.{length};
+ghost use lib.ListN.{length, getD};
 ghost use Rattle.bits.specs.Bits.{bitAt, packed, byteOf, put as «put-bit»};
 ghost use Rattle.interleaving.specs.InverseIV.{missed as «missed-of», count, index};
-ghost use Rattle.interleaving.specs.PX.{partitions as «partitions-of», runs as «runs-of», codedBytes, codedBits, cells};
+ghost use Rattle.interleaving.specs.PX.{partitions as «partitions-of», runs as «runs-of», order as «order-of», codedBytes, codedBits, cells};
+ghost use Rattle.interleaving.specs.PX.{blocks as «blocks-of», columns as «columns-of»};
 ghost use Rattle.interleaving.specs.PX.{place as «place-of», stepOf, after, read, later as «later-of», isFill, firstFill};
 ghost use Rattle.interleaving.specs.FinderPX.{source as «source-of»};
 ghost use Rattle.px.specs.Entries.{entry as «entry-of», Spots, Parts, Counts};
 
-// Tables 10-15 and 10-16: J, M, and the bytes of an L1 frame's coded bits. Kind 0 is MP2, and kind 1 is MP3 and MP11.
+// Tables 10-15, 10-16 and 10-18, a table for each column: J, B, C, M, and the bytes of an L1 frame's coded bits, which are those of eight frames of b bits.
+// The first entry is for kind 0, the row of MP2; the second for kind 1, that of MP3, MP11 and MP5.
 const J: [usize; 2] = [2, 4];
+
+const B: [usize; 2] = [32, 32];
+
+const C: [usize; 2] = [36, 36];
 
 const M: [usize; 2] = [4, 2];
 
 const BYTES: [usize; 2] = [4608, 9216];
+
+// v, of J partitions: of kind 0 and of kind 1.
+const V2: [usize; 2] = [0, 1];
+
+const V4: [usize; 4] = [0, 1, 2, 3];
 
 // J, the number of partitions.
 fn partitions(kind: usize) -> usize
@@ -23,6 +34,37 @@ fn partitions(kind: usize) -> usize
     ensures { λ r. ⌜ (r ≡ «partitions-of» kind) × (0 < r) × (r ≤ 4) ⌝ }
 {
     J[kind]
+}
+
+// B, the number of interleaver blocks. It is used for every bit: an index that is a number costs nothing, where one by kind copies the table.
+fn block_count(kind: usize) -> usize
+    ensures { λ r. ⌜ r ≡ «blocks-of» ⌝ }
+{
+    if kind == 0 {
+        return B[0];
+    }
+    B[1]
+}
+
+// C, the columns of a partition, for every bit too.
+fn columns(kind: usize) -> usize
+    ensures { λ r. ⌜ r ≡ «columns-of» ⌝ }
+{
+    if kind == 0 {
+        return C[0];
+    }
+    C[1]
+}
+
+// v: the partition whose turn is s.
+fn partition(kind: usize, s: usize) -> usize
+    requires { ⌜ (kind < 2) × (s < «partitions-of» kind) ⌝ }
+    ensures { λ r. ⌜ r ≡ getD («order-of» kind) s 0 ⌝ }
+{
+    if kind == 0 {
+        return V2[s];
+    }
+    V4[s]
 }
 
 // M, the length of a run of bits that go to one partition: 2 to the power 2 - kind, so that a shift divides by it and a mask gives the remainder.
@@ -108,15 +150,15 @@ fn byte_of(kind: usize, half: usize, j: usize) -> usize
     half * BYTES[kind] + j
 }
 
-// The cells of a block of 32 rows. A test is quicker than a table here, which is used for every bit.
+// The cells of a block of 32 rows, for every bit too.
 fn block(kind: usize) -> usize
     requires { ⌜ kind < 2 ⌝ }
     ensures { λ r. ⌜ (r ≡ 1152 * «partitions-of» kind) × (r ≤ 4608) ⌝ }
 {
     if kind == 0 {
-        return 2304;
+        return 32 * C[0] * J[0];
     }
-    4608
+    32 * C[1] * J[1]
 }
 
 // 10.2.6.3 and 10.2.6.4: where the 1152 entries of a turn stand in their block, from the partition's first cell.
@@ -125,11 +167,12 @@ fn spots(kind: usize) -> [u16; 1152]
     ensures { λ r. ⌜ Spots kind r ⌝ }
 {
     let mut at = [0u16; 1152];
-    let width = 36 * partitions(kind);
+    let c = columns(kind);
+    let width = c * partitions(kind);
     let mut n = 0;
     while n < 1152 {
         let y = 11 * n % 1152;
-        at[n] = (y / 36 * width + y % 36) as u16;
+        at[n] = (y / c * width + y % c) as u16;
         n += 1;
     }
     at
@@ -140,8 +183,8 @@ fn entry(kind: usize, at: &[u16; 1152], p: usize, turn: usize, n: usize) -> usiz
     requires { ⌜ (kind < 2) × (p < 4) × (turn < 32) × (n < 1152) × Spots kind (now at) ⌝ }
     ensures { λ r. ⌜ r ≡ «entry-of» kind p (1152 * turn + n) ⌝ }
 {
-    let b = (turn + (n + p * 7)) % 32;
-    b * block(kind) + (at[n] as usize + 36 * p)
+    let b = (turn + (n + p * 7)) % block_count(kind);
+    b * block(kind) + (at[n] as usize + columns(kind) * p)
 }
 
 // 10.2.6.1: the partitions of the eight steps of a byte, the same for every byte.
@@ -153,7 +196,7 @@ fn parts(kind: usize) -> [usize; 8]
     let m = runs(kind);
     let mut u = 0;
     while u < 8 {
-        parts[u] = ((u + 2 * (m / 4)) % 8) >> (2 - kind);
+        parts[u] = partition(kind, ((u + 2 * (m / 4)) % 8) >> (2 - kind));
         u += 1;
     }
     parts

@@ -8,28 +8,26 @@ use Rattle.interleaving.specs.Matrix.{matrixRow, matrixColumn, cellOf}
 use Rattle.interleaving.specs.EquationsI as I
 use Rattle.interleaving.specs.PX.{v4}
 use Rattle.interleaving.specs.PX2.{partitions, runs, v8, order, frameBits, place}
-use Rattle.interleaving.proofs.PXKinds.{plain4}
 use Rattle.interleaving.proofs.OncePX2.{one-each-once, px2-each-once}
 
--- MP5
-pub narrow-place : (i : ℕ)
-    → (32 * ((i + i / 8) % 2) + i / 8 * 11 % 32) * 144 + (36 * (i / 2 % 4) + (i / 8 * 11 + i / 8 / 288) % 36) ≡ I.place 4 2 36 2 v4 i
+-- MP5, where p is the partition of the bit's turn
+pub narrow-place : (i p : ℕ) → p ≡ getD v4 (i / 2 % 4) 0
+    → (32 * ((i + i / 8) % 2) + i / 8 * 11 % 32) * 144 + (36 * p + (i / 8 * 11 + i / 8 / 288) % 36) ≡ I.place 4 2 36 2 v4 i
 unfolding I.place I.position I.partition I.partIndex I.block I.kOf I.row I.column cellOf matrixRow matrixColumn
-narrow-place i =
-    let e : (i + 0) / 2 % 4 ≡ i / 2 % 4 = omega arith in
-    let l : i / 2 % 4 < 4 = omega arith in
-    rw (e, plain4 (i / 2 % 4) l)
+narrow-place i p e =
+    let q : (i + 0) / 2 % 4 ≡ i / 2 % 4 = omega arith in
+    rw (q, e)
 
 pub narrow-lt : (i : ℕ) → i < 9216 → I.place 4 2 36 2 v4 i < 9216
 unfolding frameBits partitions runs order
 narrow-lt i h = one-each-once 0 (omega arith) .there i h
 
 -- MP6, where p is the partition of the bit's turn
-pub wide-place : (i p : ℕ) → p ≡ getD v8 (i % 8) 0
+pub wide-place : (i p : ℕ) → p ≡ getD v8 (i / 1 % 8) 0
     → (32 * ((i / 8 + p * 7) % 2) + i / 16 * 11 % 32) * 288 + (36 * p + (i / 16 * 11 + i / 16 / 288) % 36) ≡ I.place 8 2 36 1 v8 i
 unfolding I.place I.position I.partition I.partIndex I.block I.kOf I.row I.column cellOf matrixRow matrixColumn
 wide-place i p e =
-    let q : (i + 0) / 1 % 8 ≡ i % 8 = omega arith in
+    let q : (i + 0) / 1 % 8 ≡ i / 1 % 8 = omega arith in
     rw (q, e)
 
 pub wide-lt : (i : ℕ) → i < 18432 → I.place 8 2 36 1 v8 i < 18432

@@ -148,15 +148,12 @@ noFrame number place = record { number = number; place = place; mode = 0; reserv
 pub of-another-length : (control : List ℕ) → (length control ≡ 4096 → ⊥) → values (lookupFrameOf control) ≡ noFrame 3 0
 of-another-length control h = ap values (other-length control h)
 
-pub of-a-faulty-block : (control : List ℕ) (c : ℕ) → length control ≡ 4096 → lookedUpFrame control ≡ Faulty c → values (lookupFrameOf control) ≡ noFrame 4 c
-of-a-faulty-block control c l e = ap values (of-blocks control l ∙ ap told e)
-
-pub of-an-unfit-block : (control : List ℕ) (c : ℕ) → length control ≡ 4096 → lookedUpFrame control ≡ Unfit c → values (lookupFrameOf control) ≡ noFrame 13 c
-of-an-unfit-block control c l e = ap values (of-blocks control l ∙ ap told e)
+unfit-block : (control : List ℕ) (c : ℕ) → length control ≡ 4096 → lookedUpFrame control ≡ Unfit c → values (lookupFrameOf control) ≡ noFrame 13 c
+unfit-block control c l e = ap values (of-blocks control l ∙ ap told e)
 
 -- Blocks that pass one by one and not as a set: block 0 of MP1 before the others of MP3, and block 0 of number 1 before the others of number 0.
 pub modes-mixed-refused : values (lookupFrameOf (mixed 1 0 3 0)) ≡ noFrame 13 1
-modes-mixed-refused = of-an-unfit-block (mixed 1 0 3 0) 1 (modes-mixed .long) (modes-mixed .refused)
+modes-mixed-refused = unfit-block (mixed 1 0 3 0) 1 (modes-mixed .long) (modes-mixed .refused)
 
 pub numbers-mixed-refused : values (lookupFrameOf (mixed 3 1 3 0)) ≡ noFrame 13 1
-numbers-mixed-refused = of-an-unfit-block (mixed 3 1 3 0) 1 (numbers-mixed .long) (numbers-mixed .refused)
+numbers-mixed-refused = unfit-block (mixed 3 1 3 0) 1 (numbers-mixed .long) (numbers-mixed .refused)

@@ -10,7 +10,9 @@ use borrow.Author.Tests.{lt-ltb, le-ltb}
 use Rattle.bits.specs.Bits.{bitAt}
 use Rattle.coding.specs.declared.Rate.the-variants.{TwoFifths}
 use Rattle.coding.specs.Channel.{channel}
+use Rattle.interleaving.specs.Matrix.{positionAt}
 use Rattle.interleaving.specs.PM.{p1Place}
+use Rattle.interleaving.proofs.Matrix.{cell-at}
 use Rattle.interleaving.specs.PX.{codedBits}
 use Rattle.interleaving.specs.FinderPX.{earlier}
 use Rattle.runs.specs.declared.Answer.{Answer}
@@ -22,7 +24,7 @@ use Rattle.runs.specs.declared.Main.{Main}
 use Rattle.runs.specs.declared.Main.the-variants.{Plain, Mp5, Mp6}
 use Rattle.runs.specs.declared.State.{State}
 use Rattle.runs.specs.MainChannels.{mainOf, lastAge, p1Bits}
-use Rattle.runs.specs.Chain.{codedOf, p1Coded}
+use Rattle.runs.specs.Chain.{Buffer, bitIn, codedOf, p1Coded}
 use Rattle.runs.specs.Lengths.{kindOf, tableRow}
 use Rattle.runs.specs.Lent.{frameOf, matrixOf}
 use Rattle.runs.specs.Runs.{SenderRun, count, frameAt, matricesAt}
@@ -42,6 +44,10 @@ use Rattle.queries.proofs.Placing.{found-inside}
 use Rattle.queries.proofs.Stands.{found-stands}
 
 -- ---- PM
+
+-- a position's bit stands in the cell of its row and its column
+at-position : (pm : Buffer) (row column : ℕ) → bitIn pm (positionAt 36 row column) ≡ bitAt pm (row * 720 + column)
+at-position pm row column = ap (bitAt pm) (cell-at 20 36 row column)
 
 module _ (mode : ℕ) (is : mainOf mode ≡ Plain) (a : SenderRun mode) (t : ℕ) (h : t < count mode a) (row column : ℕ) where
   p1-older : (i : ℕ) → i < 365440 → bitAt (matricesAt mode a t .pm) (p1Place i) ≡ channel TwoFifths 146176 (bitAt (frameAt mode a t .p1)) i
@@ -145,6 +151,8 @@ module _ (mode : ℕ) (is : mainOf mode ≡ Plain) (a : SenderRun mode) (t : ℕ
 pub sheets : (mode : ℕ) → mainOf mode ≡ Plain → (a : SenderRun mode) (t : ℕ) → t < count mode a → Sheet mode a t
 sheets mode is a t h =
     record {
+      p1-position = λ row column bit e. at-position (matricesAt mode a t .pm) row column ∙ p1-in mode is a t h row column bit e;
+      pids-position = λ row column frame bit e. at-position (matricesAt mode a t .pm) row column ∙ pids-in mode is a t h row column frame bit e;
       p1-cell = p1-in mode is a t h;
       pids-cell = pids-in mode is a t h;
       coded-cell = λ e z pair row column n frame bit lz. coded-in mode is a t h e z pair row column lz n frame bit;

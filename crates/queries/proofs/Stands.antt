@@ -30,11 +30,9 @@ pub record PidsAt (row column frame bit : ℕ) : Type 0 where
 
 module _ (row column : ℕ) where
   p1-cell : (i : ℕ) → p1Position i ≡ positionAt 36 row column → p1Place i ≡ row * 720 + column
-  unfolding p1Place
   p1-cell i e = ap (cellOf 20 36) e ∙ cell-at 20 36 row column
 
   pids-cell : (i : ℕ) → pidsPosition i ≡ positionAt 36 row column → pidsPlace i ≡ row * 720 + column
-  unfolding pidsPlace
   pids-cell i e = ap (cellOf 20 36) e ∙ cell-at 20 36 row column
 
 pub found-stands : (row column : ℕ) → row < 512 → column < 720

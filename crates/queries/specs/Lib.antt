@@ -4,3 +4,4 @@ pub mod FinderPX
 pub mod Sheets
 pub mod Lookup
 pub mod LookupFrame
+pub mod OneByOne

@@ -4,10 +4,11 @@ use mathlib.Core.Path.{_≡_}
 use Rattle.bits.specs.Bits.{bitAt}
 use Rattle.coding.specs.declared.Rate.the-variants.{TwoFifths}
 use Rattle.coding.specs.Channel.{channel}
+use Rattle.interleaving.specs.Matrix.{positionAt}
 use Rattle.runs.specs.declared.Extended.{Extended}
 use Rattle.runs.specs.declared.Extended.the-variants.{P3, P4}
 use Rattle.runs.specs.Lengths.{kindOf}
-use Rattle.runs.specs.Chain.{codedOf}
+use Rattle.runs.specs.Chain.{bitIn, codedOf}
 use Rattle.runs.specs.Lent.{frameOf, matrixOf}
 use Rattle.runs.specs.Starting.{stateAt}
 use Rattle.runs.specs.Runs.{SenderRun, frameAt, matricesAt}
@@ -22,6 +23,12 @@ channelNumber P4 = 4
 
 -- L1 frame t of the run a in MP1, MP2, MP3 or MP11, whose sending was handed the state `stateAt mode z t`: z is the number sent last, and makes no difference
 pub record Sheet (mode : ℕ) (a : SenderRun mode) (t : ℕ) : Type 0 where
+  -- S-3: the coded bit that the finder names for a row and a column stands at their position
+  pub p1-position : (row column bit : ℕ) → found row column ≡ P1 bit
+      → bitIn (matricesAt mode a t .pm) (positionAt 36 row column) ≡ channel TwoFifths 146176 (bitAt (frameAt mode a t .p1)) bit
+  pub pids-position : (row column frame bit : ℕ) → found row column ≡ Pids frame bit
+      → bitIn (matricesAt mode a t .pm) (positionAt 36 row column) ≡ channel TwoFifths 80 (bitAt (frameAt mode a t .pids)) (frame * 200 + bit)
+  -- and in the cell of that row and that column, which is printed
   pub p1-cell : (row column bit : ℕ) → found row column ≡ P1 bit
       → bitAt (matricesAt mode a t .pm) (row * 720 + column) ≡ channel TwoFifths 146176 (bitAt (frameAt mode a t .p1)) bit
   pub pids-cell : (row column frame bit : ℕ) → found row column ≡ Pids frame bit

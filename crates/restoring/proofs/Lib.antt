@@ -3,3 +3,4 @@ pub mod Lengths
 pub mod Opposites
 pub mod Unique
 pub mod Outcomes
+pub mod Sent

@@ -1,2 +1,3 @@
 pub mod Restored
+pub mod Sent
 pub mod Opposites

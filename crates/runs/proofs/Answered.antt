@@ -68,6 +68,20 @@ not-success {A} a done refused ne = go (either a)
     go (inl e) = absurd (ne e)
     go (inr f) = f done refused
 
+-- and success is done
+pub success-done : {A : Type 0} (a : Answer) (done refused : A) → a ≡ Success → onSuccess a done refused ≡ done
+unfolding onSuccess
+success-done a done refused e = ap (λ (x : Answer). onSuccess x done refused) e
+
+-- the answer goes out either way
+pub answer-out : {A : Type 0} (out : A → Answer) (a : Answer) (done refused : A) → out done ≡ Success → out refused ≡ a
+    → out (onSuccess a done refused) ≡ a
+answer-out {A} out a done refused d r = go (either a)
+  where
+    go : (a ≡ Success) ⊎ ((x y : A) → onSuccess a x y ≡ y) → out (onSuccess a done refused) ≡ a
+    go (inl e) = ap out (success-done a done refused e) ∙ d ∙ sym e
+    go (inr f) = ap out (f done refused) ∙ r
+
 -- the number 0 is success alone
 pub success-is : (a : Answer) → numberOf a ≡ 0 → a ≡ Success
 success-is Success e = refl

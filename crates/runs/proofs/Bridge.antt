@@ -14,6 +14,7 @@ use Rattle.coding.specs.Buffers.{Buffers}
 use Rattle.coding.specs.Channel.{channel}
 use Rattle.coding.proofs.Channel.{channel-bit}
 use Rattle.interleaving.specs.PM.{p1Place, pidsPlace, matrix}
+use Rattle.interleaving.proofs.AtPositions.{matrix-is}
 use Rattle.interleaving.specs.PX.{codedBytes, codedBits, stepOf, after, read}
 use Rattle.runs.specs.declared.Main.{Main}
 use Rattle.runs.specs.declared.Main.the-variants.{Plain, Mp5, Mp6}
@@ -27,10 +28,11 @@ use Rattle.runs.proofs.PM.{p2Coded, multiplexed-bit}
 -- ---- PM
 
 pub matrix-same : (f g f′ g′ : ℕ → ℕ) → ((i : ℕ) → i < 365440 → f i ≡ f′ i) → ((i : ℕ) → i < 3200 → g i ≡ g′ i) → matrix f g ≡ matrix f′ g′
-unfolding matrix
 matrix-same f g f′ g′ hf hg =
-    written-cong pidsPlace pidsPlace g g′ 3200 _ (λ i h. (refl, hg i h))
+    matrix-is f g
+    ∙ written-cong pidsPlace pidsPlace g g′ 3200 _ (λ i h. (refl, hg i h))
     ∙ ap (written pidsPlace g′ 3200) (written-cong p1Place p1Place f f′ 365440 _ (λ i h. (refl, hf i h)))
+    ∙ sym (matrix-is f′ g′)
 
 pub pm-from : (k : Main) (a b c u pids : Buffer) → u ≡ packed 45680 (multiplexed k a b) → pids ≡ packed 400 (channel TwoFifths 80 (bitAt c))
     → packed 46080 (matrix (bitAt u) (bitAt pids)) ≡ pmOf k a b c

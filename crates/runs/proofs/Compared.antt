@@ -1,7 +1,7 @@
 -- The second path of P1 compared: P1' frame f is refused exactly where its matrix in PX2 is not the one that the waiting P1 frame gives. So a reader need
 -- not decode P1'. Assumes nothing.
-use Prim.Native.Nat.{ℕ, _+_, _*_, _/_, _%_, _<_, _≤_}
-use mathlib.Core.Path.{_≡_, refl, sym, ap, ap₂, _∙_}
+use Prim.Native.Nat.{ℕ, _+_, _*_, _/_, _<_, _≤_}
+use mathlib.Core.Path.{_≡_, refl, sym, ap, _∙_}
 use mathlib.Core.Logic.{_↔_}
 use mathlib.Core.Bool.{Bool, true, false, not, true≢false}
 use native.Mathlib.Nat.{mul-le-mul-right, mul-left-comm, not-suc-le-zero}
@@ -10,7 +10,7 @@ use native.Mathlib.Omega.{arith}
 use lib.Arith.{digits-div, digits-mod, digits-lt}
 use lib.ListN.{length, take, drop, length-take, length-drop, List·getD-eq-default}
 use lib.Seq.{getD-take, getD-drop}
-use Rattle.bits.specs.Bits.{Bytes, bitAt, packed}
+use Rattle.bits.specs.Bits.{Bytes, bitAt}
 use Rattle.bits.specs.Once.{EachOnce, Below}
 use Rattle.bits.specs.Tests.{same}
 use Rattle.bits.proofs.Packed.{packed-of, packed-bitAt}
@@ -19,7 +19,7 @@ use Rattle.bits.proofs.Tests.{same-eq, same-true}
 use Rattle.coding.specs.declared.Rate.the-variants.{Half}
 use Rattle.coding.specs.Coder.{coded, rate12}
 use Rattle.coding.specs.Rates.{codedLength}
-use Rattle.coding.specs.Channel.{part, Agree}
+use Rattle.coding.specs.Channel.{part}
 use Rattle.coding.specs.Buffers.{codedEach}
 use Rattle.interleaving.specs.PX2.{partitions, runs, order, frameBits, place}
 use Rattle.interleaving.specs.EquationsI as I
@@ -28,9 +28,10 @@ use Rattle.runs.specs.declared.Main.{Main}
 use Rattle.runs.specs.declared.Main.the-variants.{Plain, Mp5, Mp6}
 use Rattle.runs.specs.MainChannels.{p1′Bits, p1′Row, p1′Len}
 use Rattle.runs.specs.Chain.{Buffer}
-use Rattle.runs.specs.Paths.{p1′Of, p1′Cells, p1′Bad}
+use Rattle.runs.specs.Paths.{p1′Of, p1′Bad}
+use Rattle.runs.specs.TableReading.{SamePath}
 use Rattle.runs.proofs.PX2.{p1′-at, p1′-length, p1′-bytes}
-use Rattle.runs.proofs.Refusals.{SamePath, p1′-refused}
+use Rattle.runs.proofs.Refusals.{p1′-refused}
 
 -- part f of a buffer, in parts of n bytes
 abbrev pub piece : ℕ → ℕ → Buffer → Buffer

@@ -5,6 +5,12 @@ pub mod PX2
 pub mod Delay
 pub mod Bridge
 pub mod Refusals
+pub mod Decided
+pub mod TableStates
+pub mod Table
+pub mod TableRows
+pub mod TableCells
+pub mod TableReading
 pub mod Compared
 pub mod Older
 pub mod Lists
@@ -23,6 +29,9 @@ pub mod Memory
 pub mod TwoPaths
 pub mod Reader
 pub mod ReaderRun
+pub mod AnyRun
+pub mod Coded
+pub mod Relied
 pub mod Readable
 pub mod Sendable
 pub mod NoData

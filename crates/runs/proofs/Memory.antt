@@ -1,15 +1,15 @@
 -- The reader's memory holds the matrices of the last three L1 frames. Assumes nothing.
-use Prim.Native.Nat.{ℕ, zero, suc, _*_, _≤_}
+use Prim.Native.Nat.{ℕ, zero, suc, _*_, _≤_, _<_}
 use mathlib.Core.Path.{_≡_, refl, ap}
 use mathlib.Core.Logic.{_≢_}
 use mathlib.Core.List.{[], _++_}
 use native.Mathlib.Omega.{arith}
-use lib.ListN.{length, drop, length-append, length-drop, drop-of-length-le}
+use lib.ListN.{length, drop, length-append, length-drop, length-replicate, drop-of-length-le}
 use lib.Seq.{drop-append-le}
 use Rattle.runs.specs.declared.State.{State}
 use Rattle.runs.specs.declared.Extended.{Extended}
 use Rattle.runs.specs.declared.Extended.the-variants.{P3, P4}
-use Rattle.runs.specs.Lengths.{readerLen}
+use Rattle.runs.specs.Lengths.{kindOf, matrixLen, readerLen}
 use Rattle.runs.specs.Chain.{Buffer}
 use Rattle.runs.specs.Lent.{Matrices, Signal, Lent, Memory, Result, matrixOf, memoryOf}
 use Rattle.runs.specs.Answers.{numberOf}
@@ -70,3 +70,25 @@ push-three k m x y z hm hx hy hz = rw (hx, hy, hz, drop-append-le k m₁ x p₁,
 
     p₄ : drop k m₂ ≡ []
     p₄ = drop-of-length-le m₂ {i = k} (omega (arith, l₂))
+
+-- ---- the L1 frames S, of which n have matrices of the right lengths
+
+module _ (mode : ℕ) (S : ℕ → Signal) (n : ℕ)
+    (fits : (e : Extended) (t : ℕ) → t < n → length (matrixOf mode (S t .matrices) e) ≡ matrixLen (kindOf mode e)) where
+  pub holds-right : (t : ℕ) → t ≤ n → (e : Extended) → length (memoryOf (readMemory mode S t) e) ≡ readerLen (kindOf mode e)
+  unfolding readMemory
+  holds-right zero h P3 = length-replicate _ 0
+  holds-right zero h P4 = length-replicate _ 0
+  holds-right (suc t) h e =
+      rw (pushed-of mode (readMemory mode S t) (S t .matrices) e)
+      (push-length (matrixLen (kindOf mode e)) _ _ (holds-right t (omega arith) e) (fits e t h))
+
+  -- after three L1 frames it holds their matrices
+  pub holds-three : (t : ℕ) → suc (suc t) < n → (e : Extended)
+      → memoryOf (readMemory mode S (suc (suc (suc t)))) e
+      ≡ matrixOf mode (S t .matrices) e ++ matrixOf mode (S (suc t) .matrices) e ++ matrixOf mode (S (suc (suc t)) .matrices) e
+  unfolding readMemory pushed
+  holds-three t h P3 =
+      push-three (matrixLen (kindOf mode P3)) _ _ _ _ (holds-right t (omega arith) P3) (fits P3 t (omega arith)) (fits P3 (suc t) (omega arith)) (fits P3 (suc (suc t)) h)
+  holds-three t h P4 =
+      push-three (matrixLen (kindOf mode P4)) _ _ _ _ (holds-right t (omega arith) P4) (fits P4 t (omega arith)) (fits P4 (suc t) (omega arith)) (fits P4 (suc (suc t)) h)

@@ -19,6 +19,7 @@ use Rattle.coding.proofs.Channel.{channel-bit, unchannel-is, frame-there, frame
 use Rattle.coding.proofs.Paths.{each-twice, uncoded-frames}
 use Rattle.interleaving.specs.PM.{p1Place, pidsPlace, matrix}
 use Rattle.interleaving.specs.Source.{first, second}
+use Rattle.interleaving.proofs.AtPositions.{matrix-stands}
 use Rattle.interleaving.proofs.OncePM as pm
 use Rattle.interleaving.proofs.Passes.{matrix-lt}
 use Rattle.runs.specs.declared.Main.{Main}
@@ -105,8 +106,7 @@ module _ (k : Main) (a b c : Buffer) where
   cell-is x h = bitAt-packed 46080 _ (λ i _. matrix-lt (multiplexed k a b) pids-coded multiplexed-bit (channel-bit TwoFifths 80 (bitAt c)) i) x h
 
   pub main-at : (i : ℕ) → i < 365440 → bitAt (pmOf k a b c) (p1Place i) ≡ multiplexed k a b i
-  unfolding matrix
-  main-at i h = cell-is (p1Place i) (pm.pm-each-once .there (first i) h) ∙ pm.stands (multiplexed k a b) pids-coded (λ c. 0) (first i) h
+  main-at i h = cell-is (p1Place i) (pm.pm-each-once .there (first i) h) ∙ matrix-stands (multiplexed k a b) pids-coded (first i) h
 
   pub p1-at : (i : ℕ) → i < p1Coded k → bitAt (pmOf k a b c) (p1Place i) ≡ channel TwoFifths (p1Bits k) (bitAt a) i
   unfolding multiplexed
@@ -117,8 +117,7 @@ module _ (k : Main) (a b c : Buffer) where
   p2-at i h = main-at (p1Coded k + i) (omega (arith, filled k)) ∙ in-second (p1Coded k) _ _ i
 
   pub pids-at : (i : ℕ) → i < 3200 → bitAt (pmOf k a b c) (pidsPlace i) ≡ pids-coded i
-  unfolding matrix
-  pids-at i h = cell-is (pidsPlace i) (pm.pm-each-once .there (second i) h) ∙ pm.stands (multiplexed k a b) pids-coded (λ c. 0) (second i) h
+  pids-at i h = cell-is (pidsPlace i) (pm.pm-each-once .there (second i) h) ∙ matrix-stands (multiplexed k a b) pids-coded (second i) h
 
   -- ---- the frames
 

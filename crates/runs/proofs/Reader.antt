@@ -6,7 +6,7 @@ use mathlib.Core.Option.{none}
 use mathlib.Core.List.{_++_}
 use native.Mathlib.Omega.{arith}
 use native.Mathlib.Decide.{decLt}
-use lib.ListN.{length, replicate, length-replicate}
+use lib.ListN.{length, replicate}
 use lib.Dec.{ltb}
 use Rattle.bits.specs.Bits.{bitAt}
 use Rattle.bits.proofs.Parts.{bitAt-zeros}
@@ -19,14 +19,14 @@ use Rattle.runs.specs.declared.Extended.the-variants.{P3, P4}
 use Rattle.runs.specs.declared.Main.{Main}
 use Rattle.runs.specs.MainChannels.{mainOf, p1Frames, delayFrames, lastAge, p1Len, p1′Len, delayLen}
 use Rattle.runs.specs.Lengths.{kindOf, matrixLen, senderLen, readerLen}
-use Rattle.runs.specs.Chain.{Buffer, p1Of, pxOf, memOf, fillBad}
-use Rattle.runs.specs.Paths.{scrambledOf, oldest, waiting, p1′Of, p1′Bad, delayBad}
-use Rattle.runs.specs.Lent.{Frames, Signal, Lent, Memory, frameOf, matrixOf, p1′In, memoryOf, signalOf, memoryNext}
+use Rattle.runs.specs.Chain.{Buffer, pxOf, memOf, fillBad}
+use Rattle.runs.specs.Paths.{scrambledOf, p1′Bad, delayBad}
+use Rattle.runs.specs.Lent.{Frames, Signal, Lent, frameOf, matrixOf, p1′In, memoryOf, signalOf, memoryNext}
 use Rattle.runs.specs.Causes.{wrong}
 use Rattle.runs.specs.Starting.{stateAt, next, memorySizes}
 use Rattle.runs.specs.Sending.{lentSizes}
-use Rattle.runs.specs.Judged.{due, mainBad, mainPlace, fillPlace, framePlace}
-use Rattle.runs.specs.Reading.{pushed, readStep, received}
+use Rattle.runs.specs.Judged.{mainBad, mainPlace, fillPlace, framePlace}
+use Rattle.runs.specs.Reading.{readStep, received}
 use Rattle.runs.specs.Runs.{Fitting}
 use Rattle.runs.specs.Defined.{memoryBefore, defined, numberBefore}
 use Rattle.runs.specs.Handed.{Given}
@@ -40,7 +40,7 @@ use Rattle.runs.proofs.Passing.{beside-good, first-none, wrong-append, 
 use Rattle.runs.proofs.States.{late, old, two-le, valid-at}
 use Rattle.runs.proofs.Succeeds.{Clear, early-kept, late-kept, read-succeeds}
 use Rattle.runs.proofs.Fixed.{extended-back, extended-good, in-length, matrix-of, matrixIn}
-use Rattle.runs.proofs.Memory.{push-length, push-three, pushed-of, readMemory}
+use Rattle.runs.proofs.Memory.{holds-right, holds-three, readMemory}
 
 module _ (mode : ℕ) (cov : covered mode ≡ true) (F : ℕ → Frames) (n : ℕ)
     (right : (t : ℕ) → t < n → Fitting mode (F t)) where
@@ -61,25 +61,19 @@ module _ (mode : ℕ) (cov : covered mode ≡ true) (F : ℕ → Frames) (n : �
 
   -- ---- the memory for P3 and P4
 
+  fits : (e : Extended) (t : ℕ) → t < n → length (matrixOf mode (S t .matrices) e) ≡ matrixLen (kindOf mode e)
+  unfolding matrixIn
+  fits e t h = in-length mode cov F n right e t h
+
   read-right : (t : ℕ) → t ≤ n → (e : Extended) → length (memoryOf (readMemory mode S t) e) ≡ readerLen (kindOf mode e)
-  unfolding readMemory matrixIn
-  read-right zero h P3 = length-replicate _ 0
-  read-right zero h P4 = length-replicate _ 0
-  read-right (suc t) h e =
-      rw (pushed-of mode (readMemory mode S t) (S t .matrices) e)
-      (push-length (matrixLen (kindOf mode e)) _ _ (read-right t (omega arith) e) (in-length mode cov F n right e t h))
+  read-right = holds-right mode S n fits
 
   -- after three L1 frames it holds their matrices
   read-three : (t : ℕ) → suc (suc t) < n → (e : Extended)
       → memoryOf (readMemory mode S (suc (suc (suc t)))) e
       ≡ matrixIn mode F e t ++ matrixIn mode F e (suc t) ++ matrixIn mode F e (suc (suc t))
-  unfolding readMemory matrixIn pushed
-  read-three t h P3 =
-      push-three (matrixLen (kindOf mode P3)) _ _ _ _ (read-right t (omega arith) P3) (in-length mode cov F n right P3 t (omega arith))
-      (in-length mode cov F n right P3 (suc t) (omega arith)) (in-length mode cov F n right P3 (suc (suc t)) h)
-  read-three t h P4 =
-      push-three (matrixLen (kindOf mode P4)) _ _ _ _ (read-right t (omega arith) P4) (in-length mode cov F n right P4 t (omega arith))
-      (in-length mode cov F n right P4 (suc t) (omega arith)) (in-length mode cov F n right P4 (suc (suc t)) h)
+  unfolding matrixIn
+  read-three = holds-three mode S n fits
 
   -- ---- the causes
 

@@ -1,5 +1,5 @@
 -- The tests by which a reading refuses say what the table of causes says. Assumes nothing.
-use Prim.Native.Nat.{ℕ, suc, _*_, _<_, _≤_}
+use Prim.Native.Nat.{ℕ, suc, _<_, _≤_}
 use mathlib.Core.Path.{_≡_, refl, sym, ap, ap₂, subst, _∙_}
 use mathlib.Core.Logic.{_↔_, _≢_}
 use mathlib.Core.Bool.{Bool, true, false, cond, not, _&&_, _||_, true≢false}
@@ -28,13 +28,14 @@ use Rattle.runs.specs.declared.Main.{Main}
 use Rattle.runs.specs.declared.Main.the-variants.{Plain, Mp5, Mp6}
 use Rattle.runs.specs.declared.Kind.{Kind}
 use Rattle.runs.specs.declared.Kind.the-variants.{Unused, Narrow, Wide}
-use Rattle.runs.specs.MainChannels.{mainOf, p1Frames, p1Bits, p2Bits, p1′Bits, delayFrames}
+use Rattle.runs.specs.MainChannels.{mainOf, p1Frames, p1Bits, p2Bits, delayFrames}
 use Rattle.runs.specs.Lengths.{frameBits, tableRow}
 use Rattle.runs.specs.Chain.{Buffer, p1Cells, p2Cells, p1Bad, p2Bad, pidsBad, gathered, frameBad, fillBad}
 use Rattle.runs.specs.Paths.{p1′Cells, agree, p1′Bad, delayBad}
 use Rattle.runs.specs.Causes.{first}
 use Rattle.runs.specs.Lent.{Matrices, Memory, p1′In}
 use Rattle.runs.specs.Judged.{due, mainBad}
+use Rattle.runs.specs.TableReading.{SamePath}
 use Rattle.runs.proofs.PM.{p1-long, pids-long}
 use Rattle.runs.proofs.Rows.{long}
 
@@ -54,10 +55,6 @@ p2-refused Mp5 pm f = no-frame TwoFifths 109312 (long 109312 (omega arith) refl)
 p2-refused Mp6 pm f = no-frame TwoFifths 72448 (long 72448 (omega arith) refl) (p2Cells Mp6 pm) f
 
 -- the cells of P1' frame f in PX2 are not the coding of P1 frame f of the scrambled frames s
-abbrev pub SamePath : Main → Buffer → Buffer → ℕ → Type 0
-SamePath k x s f =
-    Agree (codedLength Half (p1′Bits k)) (part (codedLength Half (p1′Bits k)) f (p1′Cells k x)) (coded rate12 (p1′Bits k) (part (p1′Bits k) f (bitAt s)))
-
 not-both : (n : ℕ) → Long n → (s y : ℕ → ℕ) → ((i : ℕ) → s i < 2) → (f : ℕ)
     → (noFrame Half n y f || not (all n (λ i. eqb (part n f (uncodedEach Half n y) i) (part n f s i)))) ≡ true
     ↔ (Agree (codedLength Half n) (part (codedLength Half n) f y) (coded rate12 n (part n f s)) → ⊥)

@@ -1,14 +1,23 @@
--- What the cells of a sender's run show: in PM the coded bit of its L1 frame, in PX1 and PX2 the one that the finder names, or the zero fill.
+-- What the cells of a sender's run show: in PM the coded bit of its L1 frame, in PX1 and PX2 the one that the finder names, or the zero fill, and in PX2 of MP5 and MP6 the P1 frames of
+-- three L1 frames earlier, or the delay's zeros.
 -- Assumes nothing.
 use Prim.Native.Nat.{ℕ, zero, suc, _+_, _-_, _*_, _/_, _%_, _≤_, _<_, min}
 use mathlib.Core.Path.{_≡_, refl, sym, ap, ap₂, _∙_}
-use native.Mathlib.Nat.{zero-add, mod-eq-of-lt}
+use native.Mathlib.Nat.{zero-add, div-lt-iff-lt-mul, mod-eq-of-lt, not-suc-le-zero}
 use native.Mathlib.Omega.{arith}
 use lib.ListN.{replicate}
 use borrow.Author.Tests.{lt-ltb}
-use Rattle.bits.specs.Bits.{bitAt}
-use Rattle.coding.specs.declared.Rate.the-variants.{TwoFifths}
+use Rattle.bits.specs.Bits.{bitAt, packed}
+use Rattle.bits.proofs.Packed.{bitAt-packed}
+use Rattle.bits.proofs.Parts.{bitAt-zeros}
+use Rattle.scrambling.specs.Scrambler.{scrambledEach}
+use Rattle.scrambling.proofs.Frames.{scrambledEach-bit}
+use Rattle.coding.specs.declared.Rate.the-variants.{TwoFifths, Half}
+use Rattle.coding.specs.Rates.{codedLength}
+use Rattle.coding.specs.Buffers.{Long, codedEach}
 use Rattle.coding.specs.Channel.{channel}
+use Rattle.coding.proofs.Channel.{length-pos}
+use Rattle.coding.proofs.Passes.{channel-each, codedEach-same}
 use Rattle.interleaving.specs.PM.{p1Place, pidsPlace}
 use Rattle.interleaving.specs.PX.{codedBits, later}
 use Rattle.interleaving.specs.FinderPX.{earlier, codedBit}
@@ -18,15 +27,22 @@ use Rattle.interleaving.proofs.Mod.{div-of, mod-of}
 use Rattle.runs.specs.declared.Extended.{Extended}
 use Rattle.runs.specs.declared.Extended.the-variants.{P3, P4}
 use Rattle.runs.specs.declared.Kind.{Kind}
-use Rattle.runs.specs.MainChannels.{mainOf, p1Bits, p2Bits}
+use Rattle.runs.specs.declared.Main.{Main}
+use Rattle.runs.specs.declared.Main.the-variants.{Plain, Mp5, Mp6}
+use Rattle.runs.specs.MainChannels.{mainOf, p1Bits, p2Bits, p1′Bits, p1Len, p1′Len, delayFrames}
 use Rattle.runs.specs.Lengths.{kindOf, tableRow, senderLen}
 use Rattle.runs.specs.Chain.{Buffer, p1Coded, p2Cells, codedOf}
-use Rattle.runs.specs.Lent.{Frames, frameOf, matrixOf, memoryOf}
+use Rattle.runs.specs.Paths.{p1′Cells, p1′Of, scrambledOf}
+use Rattle.runs.specs.Lent.{Frames, Matrices, frameOf, matrixOf, memoryOf, p1′In}
 use Rattle.runs.specs.Runs.{SenderRun, count, frameAt, matricesAt}
 use Rattle.runs.specs.Defined.{memoryBefore, defined}
-use Rattle.runs.proofs.Rows.{bitsOf}
+use Rattle.runs.proofs.Rows.{bitsOf, long}
 use Rattle.runs.proofs.PM.{p2Coded, p1-at, p2-at, pids-at}
 use Rattle.runs.proofs.PX.{memories, matrices, codes, matrices-are, fill-zero}
+use Rattle.runs.proofs.PX2.{p1′-at, p1′-zero}
+use Rattle.runs.proofs.Delay.{goes-frame, goes-zero}
+use Rattle.runs.proofs.TwoPaths.{delayed-path, s as s-of, s-fits, second-is}
+use Rattle.runs.proofs.Sender.{matrices-at}
 use Rattle.runs.proofs.Fixed.{matrixIn, matrix-of, memory-of, pm-at, px-at}
 
 -- ---- an extended channel from a fresh start, L1 frame t bringing the frames A t
@@ -79,6 +95,24 @@ module _ (k : Kind) (A : ℕ → Buffer) where
         below : t < earlier kind (t % 2) c
         below = omega arith
 
+-- ---- scrambled P1 frames, coded for PX2, are the channel's coded bits
+
+scrambled-coded : (n len : ℕ) → Long n → 8 * len ≡ 8 * n → (a : Buffer) (i : ℕ) → i < 8 * codedLength Half n
+    → codedEach Half n (bitAt (packed len (scrambledEach n (bitAt a)))) i ≡ channel Half n (bitAt a) i
+scrambled-coded n len l e a i h =
+    codedEach-same Half n 8 _ (scrambledEach n (bitAt a)) pos
+    (λ j b. bitAt-packed len _ (λ m _. scrambledEach-bit n (bitAt a) m) j (omega arith)) i (div-lt-iff-lt-mul (length-pos Half n (l .enough)) .1 h)
+    ∙ channel-each Half n (bitAt a) i pos
+  where
+    pos : 0 < n
+    pos = omega (arith, l .enough)
+
+second-coded : (k : Main) (a : Buffer) (i : ℕ) → i < 8 * p1′Len k → codedEach Half (p1′Bits k) (bitAt (scrambledOf k a)) i ≡ channel Half (p1′Bits k) (bitAt a) i
+unfolding scrambledOf
+second-coded Plain a i h = absurd (not-suc-le-zero h)
+second-coded Mp5 a i h = scrambled-coded 4608 4608 (long 4608 (omega arith) refl) refl a i h
+second-coded Mp6 a i h = scrambled-coded 9216 9216 (long 9216 (omega arith) refl) refl a i h
+
 -- ---- the matrices of a run
 
 module _ (mode : ℕ) (F : ℕ → Frames) (e : Extended) where
@@ -115,3 +149,24 @@ module _ (mode : ℕ) (a : SenderRun mode) (t : ℕ) (h : t < count mode a) wher
 
     pub fill-shown : min 2 t < earlier (tableRow (kindOf mode e)) (t % 2) c → bitAt (matrixOf mode (matricesAt mode a t) e) c ≡ 0
     fill-shown n = cell-is ∙ fill-in (kindOf mode e) (λ i. frameOf (frameAt mode a i) e) u t c l n
+
+  -- P1' in PX2: the coded bits of the P1 frames of the L1 frame so much earlier, and zeros before
+  path-is : p1′In mode (matricesAt mode a t) ≡ p1′Of (mainOf mode) (delayed-path mode (frameAt mode a) t)
+  path-is = ap (λ (x : Matrices). p1′In mode x) (matrices-at mode a t h) ∙ second-is mode (frameAt mode a) t
+
+  pub p1′-shown : (s : ℕ) → t ≡ s + delayFrames (mainOf mode) → (i : ℕ) → i < 8 * p1′Len (mainOf mode)
+      → p1′Cells (mainOf mode) (p1′In mode (matricesAt mode a t)) i ≡ channel Half (p1′Bits (mainOf mode)) (bitAt (frameAt mode a s .p1)) i
+  unfolding s-of
+  p1′-shown s e i l =
+      ap (λ (x : Buffer). p1′Cells (mainOf mode) x i)
+      (path-is ∙ ap (λ (u : ℕ). p1′Of (mainOf mode) (delayed-path mode (frameAt mode a) u)) e
+      ∙ ap (p1′Of (mainOf mode)) (goes-frame (mainOf mode) (s-of mode (frameAt mode a)) (s-fits mode (frameAt mode a)) s))
+      ∙ p1′-at (mainOf mode) _ i l
+      ∙ second-coded (mainOf mode) (frameAt mode a s .p1) i l
+
+  pub delay-zeros-shown : t < delayFrames (mainOf mode) → (c : ℕ) → c < 8 * p1′Len (mainOf mode) → bitAt (p1′In mode (matricesAt mode a t)) c ≡ 0
+  delay-zeros-shown n c l =
+      ap (λ (x : Buffer). bitAt x c) path-is
+      ∙ p1′-zero (mainOf mode) _
+      (λ i. ap (λ (x : Buffer). bitAt x i) (goes-zero (mainOf mode) (s-of mode (frameAt mode a)) (s-fits mode (frameAt mode a)) t n) ∙ bitAt-zeros (p1Len (mainOf mode)) i)
+      c l

@@ -8,7 +8,9 @@ use Rattle.coding.specs.declared.Rate.the-variants.{TwoFifths, Half}
 use Rattle.coding.specs.Rates.{codedLength}
 use Rattle.coding.specs.Channel.{channel, unchannel, noFrame}
 use Rattle.coding.specs.Buffers.{uncodedEach}
-use Rattle.interleaving.specs.PM.{p1Place, pidsPlace, matrix}
+use Rattle.interleaving.specs.declared.Position.{Position}
+use Rattle.interleaving.specs.Matrix.{cellOf}
+use Rattle.interleaving.specs.PM.{p1Position, pidsPosition, matrix}
 use Rattle.interleaving.specs.PX.{codedBits, after, read, later, isFill}
 use Rattle.runs.specs.declared.Kind.{Kind}
 use Rattle.runs.specs.declared.Main.{Main}
@@ -31,15 +33,18 @@ multiplexed k p1 p2 = beside (p1Coded k) (channel TwoFifths (p1Bits k) (bitAt p1
 unfoldable pub pmOf : Main → Buffer → Buffer → Buffer → Buffer
 pmOf k p1 p2 pids = packed pmLen (matrix (multiplexed k p1 p2) (channel TwoFifths 80 (bitAt pids)))
 
--- back: each coded bit is read from the cell of its position
+-- back: the bit of PM at a position, and each coded bit, read at its position
+abbrev pub bitIn : Buffer → Position → ℕ
+bitIn pm at = bitAt pm (cellOf 20 36 at)
+
 abbrev pub p1Cells : Buffer → ℕ → ℕ
-p1Cells pm i = bitAt pm (p1Place i)
+p1Cells pm i = bitIn pm (p1Position i)
 
 abbrev pub p2Cells : Main → Buffer → ℕ → ℕ
-p2Cells k pm i = bitAt pm (p1Place (p1Coded k + i))
+p2Cells k pm i = bitIn pm (p1Position (p1Coded k + i))
 
 abbrev pub pidsCells : Buffer → ℕ → ℕ
-pidsCells pm i = bitAt pm (pidsPlace i)
+pidsCells pm i = bitIn pm (pidsPosition i)
 
 -- the P1 frames, still scrambled
 unfoldable pub p1Of : Main → Buffer → Buffer

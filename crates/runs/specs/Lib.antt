@@ -9,9 +9,13 @@ pub mod Starting
 pub mod Sending
 pub mod Judged
 pub mod Reading
+pub mod TableStates
+pub mod Table
+pub mod TableReading
 pub mod Runs
 pub mod Defined
 pub mod Handed
 pub mod WholeRuns
+pub mod Relied
 pub mod Probes
 pub mod ProbesTwoPaths

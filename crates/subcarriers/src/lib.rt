@@ -364,7 +364,8 @@ pub fn source_of(n: usize, k: usize) -> Source
     slot_source(n, 15 + j / 19, j % 19)
 }
 
-// What element k of a mode's vectors carries; nothing where there is no such vector or element.
+// What element k of a mode's vectors carries, for a program that prints it once `fill_vector` has answered 0. It refuses nothing, and is no entry point of
+// `layer1`: where there is no such vector or element it says that nothing is carried.
 pub fn source_at(mode: u8, k: usize) -> Source
     ensures { λ r. ⌜ r ≡ sourceAt mode k ⌝ }
 {

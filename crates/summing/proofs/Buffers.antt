@@ -13,6 +13,7 @@ use Rattle.bits.proofs.Parts.{bitAt-behind, bitAt-front, bitAt-zeros}
 use Rattle.runs.specs.Chain.{Buffer}
 use Rattle.runs.specs.Runs.{Every}
 use Rattle.summing.specs.Sums.{total, sumOf}
+use Rattle.summing.specs.Keys.{SumOfThree}
 use Rattle.summing.proofs.Sums.{Sum, Sums, sum-zero}
 
 -- the bits past the end of a buffer, of its first bytes and of what is left
@@ -181,9 +182,10 @@ module _ {R : Type 0} where
       size b e = length-take-le n (drop from b) (omega (arith, length-drop from b))
 
 -- a buffer that is the sum of three, bit by bit
-abbrev pub SumOfThree : Buffer → Buffer → Buffer → Buffer → Type 0
-SumOfThree s a b c = (i : ℕ) → i < 8 * length a → bitAt s i ≡ (bitAt a i + bitAt b i + bitAt c i) % 2
-
 pub of-three : {R : Type 0} (a b c : R) (x : R → Buffer) → SumOfThree (sumOf (a ∷ b ∷ c ∷ []) x) (x a) (x b) (x c)
 unfolding sumOf
-of-three a b c x i h = bitAt-packed (length (x a)) _ (λ j _. omega arith) i h ∙ ap (λ (k : ℕ). k % 2) (omega arith)
+of-three a b c x =
+    record {
+      long = length-packed (length (x a)) _;
+      each = λ i h. bitAt-packed (length (x a)) _ (λ j _. omega arith) i h ∙ ap (λ (k : ℕ). k % 2) (omega arith);
+    }

@@ -1,6 +1,6 @@
 -- What is sent for an L1 frame, and the memory after it, of modulo 2 sums of frames and memories. Assumes nothing.
 use Prim.Native.Nat.{ℕ, zero, suc, _+_, _%_, _<_}
-use mathlib.Core.Path.{_≡_, sym, ap, ap₂, _∙_}
+use mathlib.Core.Path.{_≡_, sym, ap, ap₂, _∙_, fun-ext}
 use mathlib.Core.List.{List, _++_}
 use native.Mathlib.Omega.{arith}
 use lib.ListN.{length, length-append}
@@ -9,12 +9,14 @@ use Rattle.bits.proofs.Written.{written-lt}
 use Rattle.bits.proofs.Packed.{bitAt-lt, packed-bytes}
 use Rattle.scrambling.proofs.Frames.{scrambledEach-bit}
 use Rattle.coding.specs.declared.Rate.the-variants.{TwoFifths, Half}
+use Rattle.coding.specs.Channel.{channel}
 use Rattle.coding.specs.Buffers.{codedEach}
 use Rattle.coding.proofs.Channel.{channel-bit}
 use Rattle.coding.proofs.Passes.{codedEach-bit}
 use Rattle.interleaving.specs.PM.{p1Place, pidsPlace, matrix}
 use Rattle.interleaving.specs.PX.{codedBits, after, read}
 use Rattle.interleaving.specs.PX2 as PX2
+use Rattle.interleaving.proofs.AtPositions.{matrix-at}
 use Rattle.interleaving.proofs.Passes.{matrix-lt}
 use Rattle.interleaving.proofs.OncePX2 as once
 use Rattle.control.specs.Control.{controlOf}
@@ -34,7 +36,7 @@ use Rattle.runs.proofs.PX.{matrix-length, memory-length}
 use Rattle.runs.proofs.PX2.{p1′-bytes, p1′-length}
 use Rattle.runs.proofs.Delay.{waiting-length}
 use Rattle.runs.proofs.Sender.{MemoryRight, zeros-right}
-use Rattle.summing.specs.Sums.{sumOf, sumNumber, sumMatrices, sumMemory}
+use Rattle.summing.specs.Sums.{total, sumOf, sumNumber, sumMatrices, sumMemory}
 use Rattle.summing.proofs.Sums.{Sums, sum-zero, sums-beside, sums-channel, sums-coded-each, sums-each, sums-written}
 use Rattle.summing.proofs.Buffers.{SumsOf, bits-sum, bytes-drop, bytes-sum, every-all, length-sum, packed-sum, sum-is, sums-append, sums-drop, sums-packed, sums-take, zeros-sum}
 use Rattle.summing.proofs.Controls.{control-sum}
@@ -55,15 +57,20 @@ module _ {R : Type 0} (rs : List R) where
 
 module _ {R : Type 0} (rs : List R) (odd : length rs % 2 ≡ 1) where
   -- 10.4.1
+  sums-matrix : (f g : R → ℕ → ℕ) (p q : ℕ → ℕ) → Sums rs f p → Sums rs g q → Sums rs (λ r. matrix (f r) (g r)) (matrix p q)
+  sums-matrix f g p q ef eg c =
+      matrix-at p q c
+      ∙ sums-written pidsPlace rs g q _ _ eg (sums-written p1Place rs f p _ _ ef (λ c. sum-zero rs) 365440) 3200 c
+      ∙ ap (λ (x : R → ℕ). total rs x % 2) (fun-ext (λ r. sym (matrix-at (f r) (g r) c)))
+
   pub pm-sum : (k : Main) (a b c : R → Buffer) (s u v : Buffer) → SumsOf rs a s → SumsOf rs b u → SumsOf rs c v
       → pmOf k s u v ≡ sumOf rs (λ r. pmOf k (a r) (b r) (c r))
-  unfolding pmOf matrix multiplexed
+  unfolding pmOf multiplexed
   pm-sum k a b c s u v ea eb ec =
       packed-sum pmLen rs odd _ _ (λ r. matrix-lt _ _ (multiplexed-bit k (a r) (b r) (c r)) (channel-bit _ _ _)) (matrix-lt _ _ (multiplexed-bit k s u v) (channel-bit _ _ _))
-      (λ i _. sums-written pidsPlace rs _ _ _ _ (sums-channel TwoFifths 80 rs odd _ _ ec)
-      (sums-written p1Place rs _ _ _ _
+      (λ i _. sums-matrix (λ r. multiplexed k (a r) (b r)) (λ r. channel TwoFifths 80 (bitAt (c r))) (multiplexed k s u) (channel TwoFifths 80 (bitAt v))
       (sums-beside (p1Coded k) rs _ _ _ _ (sums-channel TwoFifths (p1Bits k) rs odd _ _ ea) (sums-channel TwoFifths (p2Bits k) rs odd _ _ eb))
-      (λ c. sum-zero rs) 365440) 3200 i)
+      (sums-channel TwoFifths 80 rs odd _ _ ec) i)
 
   -- 10.4.2
   module _ (k : Kind) (half : ℕ) (m a : R → Buffer) (n s : Buffer) (em : SumsOf rs m n) (ea : SumsOf rs a s) where

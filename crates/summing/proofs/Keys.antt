@@ -18,8 +18,8 @@ use Rattle.runs.proofs.Lists.{table-at}
 use Rattle.runs.proofs.Sender.{control-at, covered-of, matrices-at, memory-at, right-at}
 use Rattle.runs.proofs.Sendable.{can-send}
 use Rattle.summing.specs.Sums.{sumOf, sumNumber, sumFrames, sumMatrices, sumMemory}
-use Rattle.summing.specs.Keys.{Together, Summed, Keys}
-use Rattle.summing.proofs.Buffers.{SumOfThree, bits-sum, bytes-sum, every-map, length-sum, of-three, sumOf-cong}
+use Rattle.summing.specs.Keys.{Together, Summed, Keys, ThreeOf, ThreeKeys, Three}
+use Rattle.summing.proofs.Buffers.{bits-sum, bytes-sum, every-map, length-sum, of-three, sumOf-cong}
 use Rattle.summing.proofs.Chained.{SumsFrames, before-sums, defined-control, defined-matrices}
 
 -- ---- the sums of frames
@@ -149,22 +149,28 @@ keys mode =
     covered-all [] odd = absurd (omega arith)
     covered-all (r ∷ rs) odd = covered-of mode r
 
--- ---- three runs, cell by cell
+-- ---- three runs, bit by bit
 
-module _ (mode : ℕ) (a b c s : SenderRun mode) (n : ℕ) (su : Summed mode (a ∷ b ∷ c ∷ []) n s) (t : ℕ) (h : t < n) where
-  -- of a buffer that each run sends for L1 frame t
-  abbrev Three : (SenderRun mode → Buffer) → Type 0
-  Three x = SumOfThree (x s) (x a) (x b) (x c)
-
-  of-runs : (x : SenderRun mode → Buffer) → x s ≡ sumOf (a ∷ b ∷ c ∷ []) x → Three x
+module _ (mode : ℕ) (a b c s : SenderRun mode) (n : ℕ) (su : Summed mode (a ∷ b ∷ c ∷ []) n s) where
+  of-runs : (x : SenderRun mode → Buffer) → x s ≡ sumOf (a ∷ b ∷ c ∷ []) x → ThreeOf a b c s x
   of-runs x e = rw e (of-three a b c x)
 
-  pub three : Three (λ r. matricesAt mode r t .pm) × Three (λ r. matricesAt mode r t .px1) × Three (λ r. matricesAt mode r t .px2) × Three (λ r. controlAt mode r t)
-  unfolding sumMatrices
-  three =
-      let e = keys mode .matrices _ n s su t h in (
-        of-runs _ (ap (λ (m : Matrices). m .pm) e),
-        of-runs _ (ap (λ (m : Matrices). m .px1) e),
-        of-runs _ (ap (λ (m : Matrices). m .px2) e),
-        of-runs _ (keys mode .control _ n s su t h),
-      )
+  three-keys : ThreeKeys mode a b c s n
+  unfolding sumMatrices sumMemory
+  three-keys =
+      record {
+        pm = λ t h. of-runs _ (ap (λ (m : Matrices). m .pm) (keys mode .matrices _ n s su t h));
+        px1 = λ t h. of-runs _ (ap (λ (m : Matrices). m .px1) (keys mode .matrices _ n s su t h));
+        px2 = λ t h. of-runs _ (ap (λ (m : Matrices). m .px2) (keys mode .matrices _ n s su t h));
+        control = λ t h. of-runs _ (keys mode .control _ n s su t h);
+        for3 = λ t h. of-runs _ (ap (λ (m : Memory). m .for3) (keys mode .memories _ n s su t h));
+        for4 = λ t h. of-runs _ (ap (λ (m : Memory). m .for4) (keys mode .memories _ n s su t h));
+        delayed = λ t h. of-runs _ (ap (λ (m : Memory). m .delayed) (keys mode .memories _ n s su t h));
+      }
+
+pub three : (mode : ℕ) → Three mode
+three mode =
+    record {
+      sums = three-keys mode;
+      summed = λ a b c n ea eb ec. keys mode .summed (a ∷ b ∷ c ∷ []) n (record { odd = refl; counts = (ea, (eb, (ec, tt))) });
+    }

@@ -24,7 +24,7 @@ use Rattle.unmapping.proofs.TablesOnce.{at-most-once, pm-at, px1-at, px
 use Rattle.mapping.proofs.VectorCases.{on-success}
 
 module _ (mode symbol : ℕ) (lower upper : Float) (g : Signal) (l : usable lower ≡ true) (u : usable upper ≡ true) where
-  usable-at : (k : ℕ) → usable (scaleAt lower upper k) ≡ true
+  pub usable-at : (k : ℕ) → usable (scaleAt lower upper k) ≡ true
   usable-at k = go (ltb k 546)
     where
       go : (b : Bool) → usable (cond b lower upper) ≡ true

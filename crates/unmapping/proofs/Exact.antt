@@ -6,7 +6,7 @@ use mathlib.Core.List.{List}
 use Prim.Native.Nat.{ℕ, _<_}
 use lib.Dec.{eqb}
 use lib.ListN.{getD}
-use lib.Ieee.{Float, binary32, neg, ofBits}
+use lib.Ieee.{Float, binary32, mul, neg, ofBits}
 use Rattle.bits.proofs.Listed.{getD-listed}
 use Rattle.runs.specs.Answers.{numberOf}
 use Rattle.runs.specs.declared.Extended.the-variants.{P3, P4}
@@ -15,11 +15,13 @@ use Rattle.runs.specs.Lent.{Signal}
 use Rattle.points.specs.declared.Point.{Point}
 use Rattle.subcarriers.specs.declared.Source.{Source}
 use Rattle.subcarriers.specs.declared.Source.the-variants.{Unused, Pm, Px1, Px2, Control}
-use Rattle.unmapping.specs.Exact.{Exact, ScaleOrNegation}
-use Rattle.points.specs.Points.{noPoint, part, pointOf, zeroPart}
+use Rattle.unmapping.specs.Exact.{Exact, ScaleOrNegation, Products, inPhase, quadrature}
+use Rattle.points.specs.Points.{noPoint, part, pointOf, unit, usable, zeroPart}
 use Rattle.subcarriers.specs.Tables.{sourceOf}
 use Rattle.mapping.specs.Vector.{Vector, filled, imaginaryParts, pointAt, pointFor, points, realParts, scaleAt, width}
 use Rattle.mapping.proofs.VectorCases.{on-success}
+use Rattle.unmapping.proofs.CellsBack.{usable-at}
+use Rattle.unmapping.proofs.Units.{part-is-product}
 
 -- positive zero is the number of bit pattern 0
 pub zero-bits : zeroPart ≡ ofBits binary32 0
@@ -73,7 +75,46 @@ module _ (mode symbol : ℕ) (lower upper : Float) (g : Signal) (k : ℕ) where
     unfolding noPoint
     unused-parts e = (real-is ∙ ap (λ (p : Point). p .re) (unused-zero e), imaginary-is ∙ ap (λ (p : Point). p .im) (unused-zero e))
 
+-- ---- each part is a product
+
+module _ (mode symbol : ℕ) (g : Signal) (scale : Float) (u : usable scale ≡ true) where
+  abbrev point : Source → Point
+  point s = pointFor symbol (width (kindOf mode P3)) (width (kindOf mode P4)) g s scale
+
+  real-product : (s : Source) → s ≢ Unused → point s .re ≡ mul binary32 (unit (inPhase mode symbol g s)) scale
+  unfolding pointFor pointOf
+  real-product Unused ne = absurd (ne refl)
+  real-product (Pm c) ne = part-is-product _ scale u
+  real-product (Px1 c) ne = part-is-product _ scale u
+  real-product (Px2 c) ne = part-is-product _ scale u
+  real-product (Control c) ne = part-is-product _ scale u
+
+  imaginary-product : (s : Source) → s ≢ Unused → point s .im ≡ mul binary32 (unit (quadrature mode symbol g s)) scale
+  unfolding pointFor pointOf
+  imaginary-product Unused ne = absurd (ne refl)
+  imaginary-product (Pm c) ne = part-is-product _ scale u
+  imaginary-product (Px1 c) ne = part-is-product _ scale u
+  imaginary-product (Px2 c) ne = part-is-product _ scale u
+  imaginary-product (Control c) ne = part-is-product _ scale u
+
+module _ (mode symbol : ℕ) (lower upper : Float) (g : Signal) (l : usable lower ≡ true) (u : usable upper ≡ true) where
+  of-parts : Products mode symbol lower upper g (realParts mode symbol lower upper g) (imaginaryParts mode symbol lower upper g)
+  unfolding pointAt
+  of-parts =
+      record {
+        real = λ k h ne d. real-is mode symbol lower upper g k h d ∙ real-product mode symbol g (scaleAt lower upper k) (usable-at mode symbol lower upper g l u k) (sourceOf mode k) ne;
+        imaginary = λ k h ne d.
+            imaginary-is mode symbol lower upper g k h d ∙ imaginary-product mode symbol g (scaleAt lower upper k) (usable-at mode symbol lower upper g l u k) (sourceOf mode k) ne;
+      }
+
 -- what a call that succeeds leaves
+pub parts-products : (mode symbol : ℕ) (lower upper : Float) (g : Signal) (re im : List Float)
+    → numberOf (filled mode symbol lower upper g re im .answer) ≡ 0
+    → Products mode symbol lower upper g (filled mode symbol lower upper g re im .re) (filled mode symbol lower upper g re im .im)
+parts-products mode symbol lower upper g re im n =
+    let (m, l, u, e) = on-success mode symbol lower upper g re im n in
+    subst (λ (v : Vector). Products mode symbol lower upper g (v .re) (v .im)) (sym e) (of-parts mode symbol lower upper g l u)
+
 pub parts-exact : (mode symbol : ℕ) (lower upper : Float) (g : Signal) (re im : List Float)
     → numberOf (filled mode symbol lower upper g re im .answer) ≡ 0
     → Exact mode lower upper (filled mode symbol lower upper g re im .re) (filled mode symbol lower upper g re im .im)

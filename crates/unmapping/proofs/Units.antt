@@ -14,7 +14,7 @@ use lib.Ieee.Exact.{HasValue, round-exact}
 use lib.Ieee.Fits.{and-l, and-r, down-pos, reach, round-fits}
 use lib.Ieee.Nearest.{div-same}
 use Rattle.points.specs.Points.{part, unit, usable, zeroPart}
-use Rattle.unmapping.proofs.Signs.{above-zero}
+use Rattle.unmapping.proofs.Signs.{above-zero, finite, single}
 
 -- ---- a value that fits is written in one way
 
@@ -125,15 +125,7 @@ product (fin u zero e) b t a h = absurd (zero-not-above u e a)
 product (fin u (suc m) e) true t a h = sym (unit-times binary32 true u m e t ∙ ap (λ (x : Bool). fin x (suc m) e) (other-sign u))
 product (fin u (suc m) e) false t a h = sym (unit-times binary32 false u m e t ∙ ap (λ (x : Bool). fin x (suc m) e) (same-sign u))
 
-and-second : (a b : Bool) → a && b ≡ true → b ≡ true
-and-second true b e = e
-and-second false b e = absurd (true≢false (sym e))
-
-finite : (scale : Float) → usable scale ≡ true → lt scale (inf false) ≡ true
-unfolding usable
-finite scale u = and-second (lt zeroPart scale) (lt scale (inf false)) u
-
--- every f32 fits, so this is said of every scale that is taken
-pub part-is-product : (bit : ℕ) (scale : Float) → T (fits binary32 scale) → usable scale ≡ true → part bit scale ≡ mul binary32 (unit bit) scale
+-- a scale that is taken is of single precision
+pub part-is-product : (bit : ℕ) (scale : Float) → usable scale ≡ true → part bit scale ≡ mul binary32 (unit bit) scale
 unfolding part
-part-is-product bit scale t u = product scale (eqb bit 0) t (above-zero scale u) (finite scale u)
+part-is-product bit scale u = product scale (eqb bit 0) (subst T (sym (single scale u)) tt) (above-zero scale u) (finite scale u)

@@ -3,7 +3,6 @@
 mod numbers;
 mod scales;
 
-use layer1::Source;
 use libc::STDIN_FILENO;
 use libc::STDOUT_FILENO;
 use numbers::print_part;
@@ -11,6 +10,7 @@ use programs::Arguments;
 use scales::Typed;
 use scales::scale_of;
 use scales::value_of;
+use subcarriers::Source;
 
 // Prints a subcarrier's number, k - 546.
 fn print_subcarrier(k: usize) {
@@ -55,7 +55,7 @@ fn print_line(mode: u8, k: usize, re: f32, im: f32) {
     io::write_all(STDOUT_FILENO, b" ");
     print_part(im);
     io::write_all(STDOUT_FILENO, b" ");
-    print_source(layer1::source_at(mode, k));
+    print_source(subcarriers::source_at(mode, k));
     io::write_all(STDOUT_FILENO, b"\n");
 }
 

@@ -15,7 +15,6 @@ cell-of-requires : tie.Need-cell-of-requires
 cell-of-requires c κs = subst (Inside 20 16 36) (sym (c .p1-position .ensures)) (p1-inside _ (c .before .pre))
 
 returns : tie.Need-returns
-unfolding p1Place
 returns c = c .cell-of .ensures ∙ ap (cellOf 20 36) (c .before .p1-position .ensures)
 
 pub p1-cell-spec : {M : Type 1} → statement M

@@ -14,7 +14,6 @@ cell-of-requires : tie.Need-cell-of-requires
 cell-of-requires c κs = subst (Inside 20 16 36) (sym (c .pids-position .ensures)) (pids-inside _ (c .before .pre))
 
 returns : tie.Need-returns
-unfolding pidsPlace
 returns c = c .cell-of .ensures ∙ ap (cellOf 20 36) (c .before .pids-position .ensures)
 
 pub pids-cell-spec : {M : Type 1} → statement M

@@ -8,8 +8,23 @@ use borrow.Author.Needs.{needs}
 use Rattle.px2.proofs.cell.Statement.{statement}
 use Rattle.px2.proofs.cell.Tie as tie
 
+array-read-f : tie.Need-array-read-f
+array-read-f c = search needs
+
+div-f : tie.Need-div-f
+div-f c = search needs
+
+array-read-result : tie.Need-array-read-result
+array-read-result c = search needs
+
 mul-result : tie.Need-mul-result
 mul-result c = search needs
+
+array-read-narrow-cell : tie.Need-array-read-narrow-cell
+array-read-narrow-cell c = search needs
+
+rem-narrow-cell : tie.Need-rem-narrow-cell
+rem-narrow-cell c = search needs
 
 narrow-cell-requires : tie.Need-narrow-cell-requires
 narrow-cell-requires c κs = search needs
@@ -31,8 +46,23 @@ add-result c = omega (arith, narrow c .1, bits-le (c .before .before .args .row)
 returns : tie.Need-returns
 returns c = narrow c
 
+array-read-f-2 : tie.Need-array-read-f-2
+array-read-f-2 c = search needs
+
+div-f-2 : tie.Need-div-f-2
+div-f-2 c = search needs
+
+array-read-result-2 : tie.Need-array-read-result-2
+array-read-result-2 c = search needs
+
 mul-result-2 : tie.Need-mul-result-2
 mul-result-2 c = search needs
+
+array-read-wide-cell : tie.Need-array-read-wide-cell
+array-read-wide-cell c = search needs
+
+rem-wide-cell : tie.Need-rem-wide-cell
+rem-wide-cell c = search needs
 
 wide-cell-requires : tie.Need-wide-cell-requires
 wide-cell-requires c κs = search needs
@@ -47,11 +77,21 @@ pub cell-spec : {M : Type 1} → statement M
 cell-spec =
     tie.close
     (tie.spec
+    array-read-f
+    div-f
+    array-read-result
     mul-result
+    array-read-narrow-cell
+    rem-narrow-cell
     narrow-cell-requires
     add-result
     returns
+    array-read-f-2
+    div-f-2
+    array-read-result-2
     mul-result-2
+    array-read-wide-cell
+    rem-wide-cell
     wide-cell-requires
     add-result-2
     returns-2)

@@ -17,9 +17,12 @@ returns c = too-short _ (c .if1 .taken)
 
 slice-aggregate-same : tie.Need-slice-aggregate-same
 slice-aggregate-same c =
-    let at-start = c .before .before .before .before in
-    let le : 3 ≤ length (now (at-start .args .dump)) = omega (arith, c .before .before .if1 .left) in
+    let at-start = c .before .before .before in
+    let le : 3 ≤ length (now (at-start .args .dump)) = omega (arith, c .before .if1 .left) in
     sym (length-take-le 3 (now (at-start .args .dump)) le)
+
+slice-aggregate-same-2 : tie.Need-slice-aggregate-same-2
+slice-aggregate-same-2 c = search needs
 
 same-requires : tie.Need-same-requires
 same-requires c κs = search needs
@@ -27,7 +30,7 @@ same-requires c κs = search needs
 returns-2 : tie.Need-returns-2
 unfolding mark
 returns-2 c =
-    let at-if1 = c .before .before .before .before .before in
+    let at-if1 = c .before .before .before .before in
     not-marked _ (at-if1 .if1 .left) (sym (c .before .same .ensures) ∙ not-true _ (c .if2 .taken))
 
 word-at-requires : tie.Need-word-at-requires
@@ -37,7 +40,7 @@ returns-3 : tie.Need-returns-3
 unfolding mark
 returns-3 c =
     let at-same = c .before .before .before in
-    let at-if1 = at-same .before .before .before .before in
+    let at-if1 = at-same .before .before .before in
     other-version _ (at-if1 .if1 .left) (sym (at-same .same .ensures) ∙ not-false _ (c .before .before .if2 .left))
     (λ z. c .if3 .taken (c .before .word-at .ensures ∙ z))
 
@@ -54,7 +57,7 @@ returns-4 c =
     let at-word-at = at-if3 .before in
     let at-if2 = at-word-at .before in
     let at-same = at-if2 .before in
-    let at-if1 = at-same .before .before .before .before in
+    let at-if1 = at-same .before .before .before in
     not-covered _ (at-if1 .if1 .left) (sym (at-same .same .ensures) ∙ not-false _ (at-if2 .if2 .left))
     (sym (at-word-at .word-at .ensures) ∙ at-if3 .if3 .left) (sym (c .before .is-covered .ensures) ∙ not-true _ (c .if4 .taken))
 
@@ -65,7 +68,7 @@ returns-5 c =
     let at-word-at = at-if3 .before in
     let at-if2 = at-word-at .before in
     let at-same = at-if2 .before in
-    let at-if1 = at-same .before .before .before .before in
+    let at-if1 = at-same .before .before .before in
     head-good _ (at-if1 .if1 .left) (sym (at-same .same .ensures) ∙ not-false _ (at-if2 .if2 .left))
     (sym (at-word-at .word-at .ensures) ∙ at-if3 .if3 .left) (sym (c .before .is-covered .ensures) ∙ not-false _ (c .if4 .left))
 
@@ -75,6 +78,7 @@ head-answer-spec =
     (tie.spec
     returns
     slice-aggregate-same
+    slice-aggregate-same-2
     same-requires
     returns-2
     word-at-requires

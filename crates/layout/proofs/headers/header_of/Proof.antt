@@ -5,15 +5,32 @@ use Rattle.layout.specs.Layout.{header, mark}
 use Rattle.layout.proofs.headers.header_of.Statement.{statement}
 use Rattle.layout.proofs.headers.header_of.Tie as tie
 
-cast-t5 : tie.Need-cast-t5
-cast-t5 c = search needs
+array-read-t8 : tie.Need-array-read-t8
+array-read-t8 c = search needs
 
-cast-t6 : tie.Need-cast-t6
-cast-t6 c = search needs
+array-read-t12 : tie.Need-array-read-t12
+array-read-t12 c = search needs
+
+array-read-t16 : tie.Need-array-read-t16
+array-read-t16 c = search needs
+
+cast-t17 : tie.Need-cast-t17
+cast-t17 c = search needs
+
+cast-t18 : tie.Need-cast-t18
+cast-t18 c = search needs
 
 returns : tie.Need-returns
 unfolding header mark
 returns c = refl
 
 pub header-of-spec : {M : Type 1} → statement M
-header-of-spec = tie.close (tie.spec cast-t5 cast-t6 returns)
+header-of-spec =
+    tie.close
+    (tie.spec
+    array-read-t8
+    array-read-t12
+    array-read-t16
+    cast-t17
+    cast-t18
+    returns)
