@@ -1,15 +1,15 @@
 -- A call case by case, and what a call that succeeds promises. Assumes nothing.
 use mathlib.Core.Path.{_≡_, refl, sym, ap, subst, _∙_}
 use mathlib.Core.Bool.{Bool, true, false, cond}
-use mathlib.Core.List.{List, _++_}
+use mathlib.Core.List.{List}
 use Prim.Native.Nat.{ℕ, _+_, _<_, _≤_}
 use native.Mathlib.Omega.{arith}
-use borrow.Author.Tests.{eq-eqb, ne-eqb, lt-ltb, le-ltb, eqb-true, ltb-false}
+use borrow.Author.Tests.{eq-eqb, ne-eqb, lt-ltb, le-ltb, ltb-false}
 use lib.Dec.{eqb, ltb}
 use lib.ListN.{getD, length, length-append, length-replicate, replicate}
 use Rattle.runs.specs.declared.Answer.the-variants.{Success, WrongLength, SharesTooMany}
 use Rattle.runs.specs.Answers.{numberOf}
-use Rattle.allocation.specs.Allocation.{granted, outcome, placesOf, bySource, shared, total, turns}
+use Rattle.allocation.specs.Allocation.{granted, outcome, placesOf, bySource, shared, total}
 use Rattle.bits.specs.Listed.{listed}
 use Rattle.allocation.specs.Owners.{ownerOf}
 use Rattle.allocation.specs.Promises.{Owner, Promises, count}

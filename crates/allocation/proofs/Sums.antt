@@ -1,14 +1,13 @@
 -- Sums for the first sources, of the smaller numbers and after one more. Assumes nothing.
-use mathlib.Core.Path.{_≡_, refl, sym, ap, ap₂, subst, _∙_}
+use mathlib.Core.Path.{_≡_, refl, ap₂}
 use mathlib.Core.List.{List}
 use Prim.Native.Nat.{ℕ, zero, suc, _+_, _<_, _≤_, min}
-use native.Mathlib.Nat.{min-le-left, min-le-right}
+use native.Mathlib.Nat.{min-le-left}
 use native.Mathlib.Decide.{ℕ-discrete}
 use native.Mathlib.Omega.{arith}
 use lib.ListN.{getD, length, set}
 use lib.Seq.{getD-set-same, getD-set-other}
 use Rattle.allocation.specs.Allocation.{total, smaller}
-use Rattle.bits.specs.Listed.{listed}
 use Rattle.bits.proofs.Listed.{getD-listed}
 
 pub smaller-at : (shares waiting : List ℕ) (d : ℕ) → d < 8 → getD (smaller shares waiting) d 0 ≡ min (getD shares d 0) (getD waiting d 0)

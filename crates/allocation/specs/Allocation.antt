@@ -1,7 +1,7 @@
 -- Document 02, S-4: the sixteen PIDS places of an L1 frame, shared by eight sources. A list of eight numbers has one for each source.
 use Prim.Native.Nat.{ℕ, zero, suc, _+_, _-_, _%_, min}
 use mathlib.Core.Bool.{Bool, cond, _&&_}
-use mathlib.Core.List.{List, [], _∷_, _++_}
+use mathlib.Core.List.{List, [], _++_}
 use lib.Dec.{eqb, ltb}
 use lib.ListN.{getD, length, replicate, set}
 use Rattle.bits.specs.Listed.{listed}

@@ -21,6 +21,3 @@ module _ (N : ℕ) (place source : ℕ → ℕ) (o : EachOnce (Below N) N place 
   read-written bits i h =
       let l : source (place i) < N = o .back (place i) (o .there i h) in
       new N place source o bits m N (omega arith) (place i) (o .there i h) l ∙ ap bits (o .there-back i h)
-
-  pub written-read : (x : ℕ → ℕ) (c : ℕ) → c < N → written place (λ i. x (place i)) N m c ≡ x c
-  written-read x c h = new N place source o (λ i. x (place i)) m N (omega arith) c h (o .back c h) ∙ ap x (o .back-there c h)

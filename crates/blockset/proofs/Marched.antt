@@ -15,7 +15,7 @@ use Rattle.control.specs.Lookup.{lookedUp}
 use Rattle.blockset.specs.LookupFrame.{noBlock, fitting, named, says, faulty, unfit, lookedUpFrame}
 use Rattle.control.specs.declared.Looked.{Looked}
 use Rattle.blockset.specs.declared.LookedFrame.{LookedFrame}
-use Rattle.blockset.specs.declared.LookedFrame.the-variants.{Of, Faulty, Unfit}
+use Rattle.blockset.specs.declared.LookedFrame.the-variants.{Faulty, Unfit}
 use Rattle.blockset.specs.Words.{onward}
 
 not-not : (t : Bool) → not (not t) ≡ t

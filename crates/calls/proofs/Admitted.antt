@@ -7,7 +7,6 @@ use Prim.Native.Nat.{ℕ, _%_, _<_, _≤_}
 use native.Mathlib.Omega.{arith}
 use borrow.Author.Tests.{eqb-true, ltb-true, lt-ltb, le-ltb}
 use lib.Dec.{eqb, ltb}
-use lib.ListN.{length}
 use Rattle.bits.proofs.Tests.{and-true}
 use Rattle.control.specs.Modes.{covered}
 use Rattle.control.proofs.Covered.{covered-lt}

@@ -1,19 +1,18 @@
 -- A channel whose frames are scrambled once and coded for two paths: each path gives back the scrambled frames, and they come out whole. Assumes nothing.
-use mathlib.Core.Path.{_≡_, refl, sym, ap, _∙_}
-use mathlib.Core.Bool.{Bool, true, false, not}
-use Prim.Native.Nat.{ℕ, _+_, _*_, _/_, _%_, _<_}
+use mathlib.Core.Path.{_≡_, sym, ap, _∙_}
+use mathlib.Core.Bool.{false, not}
+use Prim.Native.Nat.{ℕ, _+_, _*_, _<_}
 use native.Mathlib.Nat.{div-lt-iff-lt-mul}
 use native.Mathlib.Omega.{arith}
 use lib.Arith.{digits-div, digits-mod}
 use borrow.Author.Tests.{not-false}
-use Rattle.scrambling.specs.Scrambler.{sequence, scrambled, scrambledEach}
+use Rattle.scrambling.specs.Scrambler.{scrambledEach}
 use Rattle.scrambling.proofs.Frames.{scrambledEach-bit}
 use Rattle.coding.specs.declared.Rate.{Rate}
-use Rattle.coding.specs.declared.Rate.the-variants.{TwoFifths, Half}
 use Rattle.coding.specs.Coder.{coded, output}
 use Rattle.coding.specs.Inverse.{uncoded}
 use Rattle.coding.specs.Rates.{patternOf, recipeOf, codedLength, isCoded}
-use Rattle.coding.specs.Channel.{part, channel, unchannel, noFrame, Agree}
+use Rattle.coding.specs.Channel.{part, channel, noFrame, Agree}
 use Rattle.coding.specs.Buffers.{Long, codedEach, uncodedEach}
 use Rattle.coding.proofs.Coder.{coded-again, coded-same, uncoded-coded, uncoded-same}
 use Rattle.coding.proofs.Inverts.{inverts}

@@ -1,8 +1,8 @@
 -- A block of a covered mode, a count and a number is found as these, and any other block as none. Assumes nothing.
-use mathlib.Core.Path.{_≡_, refl, sym, ap, ap₂, _∙_}
+use mathlib.Core.Path.{_≡_, refl, sym, ap, _∙_}
 use mathlib.Core.List.{List}
 use mathlib.Core.Bool.{Bool, true, false, cond}
-use Prim.Native.Nat.{ℕ, _+_, _*_, _/_, _≤_, _<_}
+use Prim.Native.Nat.{ℕ, _+_, _*_, _/_, _<_}
 use native.Mathlib.Omega.{arith}
 use borrow.Author.Tests.{lt-ltb, le-ltb, ltb-true}
 use lib.Dec.{ltb}
@@ -13,7 +13,6 @@ use Rattle.bits.proofs.Tests.{same-true, same-eq, same-ne, lowest-passes, lowes
 use Rattle.control.specs.Control.{blockOf}
 use Rattle.control.specs.Modes.{modes, covered}
 use Rattle.control.specs.Lookup.{triples, modeOf, countOf, reservedOf, lookedUp}
-use Rattle.control.specs.declared.Looked.{Looked}
 use Rattle.control.specs.declared.Looked.the-variants.{Found, NotABlock}
 use Rattle.control.specs.Words.{decoded, reservedRead}
 use Rattle.control.proofs.Covered.{covered-place, covered-at, mode-lt, covered-lt}

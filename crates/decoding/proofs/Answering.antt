@@ -12,7 +12,7 @@ use borrow.Author.Tests.{eq-eqb, ne-eqb, le-leb, lt-leb}
 use Rattle.runs.specs.declared.Answer.{Answer}
 use Rattle.runs.specs.declared.Answer.the-variants.{Success, WrongLength, WrongBudget}
 use Rattle.runs.specs.Answers.{numberOf, placeOf}
-use Rattle.runs.specs.Causes.{at, judge, size, when, wrong}
+use Rattle.runs.specs.Causes.{at, judge, when, wrong}
 use Rattle.runs.proofs.Answered.{success-is}
 use Rattle.decoding.specs.declared.Decoded.{Decoded}
 use Rattle.decoding.specs.Outcomes.{lengths, judged, Named, Answered}

@@ -29,7 +29,6 @@ use Rattle.runs.specs.Lengths.{tableRow}
 use Rattle.runs.specs.Starting.{valid}
 use Rattle.queries.specs.declared.finder_px.FoundPx.the-variants.{Coded, Fill, Refused as RefusedPX}
 use Rattle.queries.specs.FinderPX.{columnsOf, cellOf, frameCoded, kindOfNumber, foundPX, told as toldPX, values as valuesPX}
-use Rattle.queries.specs.FinderPX as FinderPX
 use Rattle.interleaving.specs.PX.{codedBits, codedBytes}
 use native.Mathlib.Nat.{div-lt-iff-lt-mul, mod-lt}
 use Rattle.queries.specs.declared.blocks.LookedUp.the-variants.{Refused as notLookedUp}
@@ -37,7 +36,6 @@ use Rattle.queries.specs.declared.blocks.LookedUpFrame.the-variants.{Refused as
 use Rattle.queries.specs.Finder.{found, told, values}
 use Rattle.queries.specs.Lookup.{lookupOf, values as valuesOfBlock, told as toldOfBlock}
 use Rattle.queries.specs.LookupFrame.{lookupFrameOf, values as valuesOfFrame, told as toldOfFrame}
-use Rattle.queries.specs.Finder as Finder
 use Rattle.queries.specs.Places.{placed}
 use Rattle.queries.specs.Places as Places
 use Rattle.words.proofs.Fields.{Small, SmallPlace, SmallPX}

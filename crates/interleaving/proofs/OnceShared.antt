@@ -1,12 +1,12 @@
 -- Interleavers I (with M = 1) and II together, in one matrix: the PM, SM and SB interleaving processes. Conditions: C = 9 * g with g * h ≡ 32, v
 -- names each partition once, b = J * d, I₀ = J * B * K and K + d ≡ 32 * C. Assumes nothing.
-use mathlib.Core.Path.{_≡_, refl}
+use mathlib.Core.Path.{_≡_}
 use mathlib.Core.List.{List}
 use Prim.Native.Nat.{ℕ, _+_, _*_, _<_}
 use native.Mathlib.Omega.{arith}
 use Rattle.interleaving.specs.declared.Position.{Position}
 use Rattle.interleaving.specs.Once.{PositionsOnce}
-use Rattle.interleaving.specs.Source.{Source, first, second, at, Either}
+use Rattle.interleaving.specs.Source.{Source, at, Either}
 use Rattle.interleaving.proofs.Permutation.{Permutes}
 use Rattle.interleaving.specs.EquationsI as I
 use Rattle.interleaving.specs.EquationsII as II

@@ -7,12 +7,10 @@ use native.Mathlib.Omega.{arith}
 use lib.ListN.{getD, length, take, drop, length-drop, drop-of-length-le}
 use lib.Seq.{take-all}
 use Rattle.runs.specs.declared.Extended.the-variants.{P3, P4}
-use Rattle.runs.specs.declared.Kind.{Kind}
-use Rattle.runs.specs.declared.Kind.the-variants.{Unused, Narrow, Wide}
 use Rattle.runs.specs.declared.Main.{Main}
 use Rattle.runs.specs.declared.Main.the-variants.{Plain, Mp5, Mp6}
-use Rattle.runs.specs.MainChannels.{mainOf, p1Len, p2Len, p1′Len}
-use Rattle.runs.specs.Lengths.{kindOf, frameLen, matrixLen, pidsLen, pmLen, px2Len, controlLen}
+use Rattle.runs.specs.MainChannels.{mainOf, p1Len, p2Len}
+use Rattle.runs.specs.Lengths.{kindOf, matrixLen, pidsLen, pmLen, px2Len, controlLen}
 use Rattle.runs.proofs.Bounds.{frame-le, matrix-le, second-le}
 use Rattle.calls.specs.Called.{signal}
 use Rattle.modes.specs.Sizes.{wanted}

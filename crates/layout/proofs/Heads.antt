@@ -16,8 +16,7 @@ use Rattle.control.specs.Modes.{covered}
 use Rattle.runs.specs.declared.Answer.the-variants.{Success, ModeNotCovered, WrongMark, WrongVersion}
 use Rattle.runs.specs.Answers.{numberOf, placeOf}
 use Rattle.runs.specs.Causes.{judge, when}
-use Rattle.runs.specs.Lent.{Signal}
-use Rattle.layout.specs.Layout.{dumpOf, header, mark, word}
+use Rattle.layout.specs.Layout.{header, mark, word}
 use Rattle.layout.specs.Heads.{headAnswer}
 
 -- what a header that is not refused says
@@ -82,10 +81,6 @@ head-place d = go (ltb (length d) 8 || not (same (take 3 d) mark)) (eqb (word (g
 
 pub whole-word : (n : ℕ) → word (n / 256) (n % 256) ≡ n
 whole-word n = omega arith
-
-pub head-clear : (mode : ℕ) (xs : List Signal) → covered mode ≡ true → numberOf (headAnswer (dumpOf mode xs)) ≡ 0
-unfolding headAnswer judge dumpOf header mark same
-head-clear mode xs cov = rw (le-ltb (length (dumpOf mode xs)) 8 (omega arith), cov)
 
 -- the bytes of a header that is not refused
 pub head-bytes : (d : List ℕ) → Bytes d → Head d → d ≡ header (getD d 5 0) (word (getD d 6 0) (getD d 7 0)) ++ drop 8 d

@@ -5,7 +5,7 @@ use queries::Found;
 ghost use mathlib.Core.Path.{_≡_};
 ghost use Prim.Native.Nat.{ℕ, _+_, _≤_};
 ghost use mathlib.Core.List.{List, [], _∷_, _++_};
-ghost use lib.ListN.{length, take};
+ghost use lib.ListN.{length};
 ghost use Rattle.interleaving.specs.TableI.{ks};
 ghost use Rattle.listing.specs.Numbers.{decimal};
 ghost use Rattle.listing.specs.Printed.{cell as «cell-of», refused, space, printed};

@@ -5,7 +5,7 @@ use causes::number;
 use runs::Answer;
 use runs::State;
 ghost use mathlib.Core.Path.{_≡_};
-ghost use Prim.Native.Nat.{_+_, _*_, _<_, _%_};
+ghost use Prim.Native.Nat.{_*_, _<_};
 ghost use lib.ListN.{length};
 ghost use Rattle.bits.specs.Bits.{bitAt, packed};
 ghost use Rattle.scrambling.specs.Scrambler.{scrambledEach};

@@ -1,6 +1,5 @@
 -- What is put for a line, part by part. Assumes nothing.
 use mathlib.Core.Path.{_≡_, refl, sym, ap, ap₂, _∙_}
-use mathlib.Core.Logic.{_≢_}
 use mathlib.Core.Bool.{Bool, true, false, cond}
 use mathlib.Core.List.{List, [], _∷_, _++_, append-nil}
 use Prim.Native.Nat.{ℕ, zero, suc, _+_, _*_, _/_, _%_, _^_, _<_, _≤_}
@@ -12,7 +11,6 @@ use lib.Dec.{ltb}
 use lib.ListN.{getD, length, length-append, replicate, take}
 use lib.Seq.{length-take-le}
 use Rattle.runs.specs.declared.Answer.{Answer}
-use Rattle.runs.specs.declared.Answer.the-variants.{Success}
 use Rattle.runs.specs.Answers.{numberOf, onSuccess, placeOf}
 use Rattle.runs.proofs.Answered.{not-success, success-is}
 use Rattle.allocation.specs.Allocation.{Outcome, outcome, shared}

@@ -6,7 +6,7 @@ ghost use mathlib.Core.Bool.{true};
 ghost use lib.ListN.{length, drop};
 ghost use Rattle.operands.specs.Operands.{operandOf};
 ghost use Rattle.sheetlines.specs.Cuts.{after, space};
-ghost use Rattle.placelines.specs.Read.{afterSpaces, eightAt, isRead, numberAt, valueOf, wordAt};
+ghost use Rattle.placelines.specs.Read.{afterSpaces, eightAt, isRead, numberAt, valueOf};
 
 // Where the text after the next space begins: at the line's end, where there is none.
 fn past_space(line: &[u8], at: usize) -> usize

@@ -1,5 +1,5 @@
 -- A sending of what an input has, case by case: it has ended early, or it has not. Assumes nothing.
-use mathlib.Core.Path.{_≡_, refl, sym, ap, _∙_}
+use mathlib.Core.Path.{_≡_, sym, ap, _∙_}
 use mathlib.Core.List.{List, [], _∷_}
 use Prim.Native.Nat.{ℕ}
 use lib.ListN.{getD, length}
@@ -7,7 +7,7 @@ use Rattle.runs.specs.declared.Answer.{Answer}
 use Rattle.runs.specs.declared.State.{State}
 use Rattle.runs.specs.Answers.{numberOf, onSuccess}
 use Rattle.runs.specs.Causes.{wrong}
-use Rattle.runs.specs.Lent.{Lent, Memory, Result}
+use Rattle.runs.specs.Lent.{Lent, Memory}
 use Rattle.runs.specs.Sending.{refused, sendStep}
 use Rattle.runs.proofs.Answered.{not-success, success-is}
 use Rattle.calls.specs.Admitted.{admitted}

@@ -8,8 +8,8 @@ use Rattle.runs.specs.declared.Answer.{Answer}
 use Rattle.runs.specs.declared.State.{State}
 use Rattle.runs.specs.Answers.{numberOf}
 use Rattle.runs.specs.Lengths.{senderLen}
-use Rattle.runs.specs.Lent.{Lent, Memory, Result, Signal}
-use Rattle.runs.specs.Starting.{Started, start}
+use Rattle.runs.specs.Lent.{Lent, Memory, Signal}
+use Rattle.runs.specs.Starting.{start}
 use Rattle.frames.specs.Read.{handed}
 use Rattle.programs.specs.declared.Step.{Step}
 use Rattle.programs.specs.Inputs.{framesIn, inputStep}

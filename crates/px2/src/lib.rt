@@ -1,6 +1,6 @@
 // The PX interleaving process of P1' (sections 10.4.2.3 and 10.4.2.4): Interleaver I takes each of the eight P1' frames of an L1 frame to a matrix of its own.
 ghost use mathlib.Core.Path.{_≡_};
-ghost use Prim.Native.Nat.{_+_, _*_, _<_, _≤_};
+ghost use Prim.Native.Nat.{_+_, _*_, _<_};
 ghost use lib.ListN.{length, getD};
 ghost use Rattle.bits.specs.Bits.{bitAt, written};
 ghost use Rattle.interleaving.specs.PX.{v4};

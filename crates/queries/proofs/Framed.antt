@@ -33,7 +33,6 @@ use Rattle.runs.proofs.Answered.{not-success, success-is}
 use Rattle.runs.proofs.Refusals.{first-clear}
 use Rattle.calls.specs.Admitted.{firstCause}
 use Rattle.calls.proofs.Admitted.{clear, fits, valid-says}
-use Rattle.queries.specs.declared.blocks.LookedUpFrame.{LookedUpFrame}
 use Rattle.queries.specs.declared.blocks.LookedUpFrame.the-variants.{Found, Refused}
 use Rattle.queries.specs.LookupFrame.{lookupFrameOf, told, values, Values}
 

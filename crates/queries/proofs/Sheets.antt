@@ -6,7 +6,6 @@ use Prim.Native.Nat.{ℕ, _+_, _-_, _*_, _%_, _≤_, _<_, min}
 use native.Mathlib.Decide.{decLt, ℕ-discrete}
 use native.Mathlib.Omega.{arith}
 use lib.Dec.{eqb}
-use borrow.Author.Tests.{lt-ltb, le-ltb}
 use Rattle.bits.specs.Bits.{bitAt}
 use Rattle.coding.specs.declared.Rate.the-variants.{TwoFifths}
 use Rattle.coding.specs.Channel.{channel}
@@ -16,7 +15,6 @@ use Rattle.interleaving.proofs.Matrix.{cell-at}
 use Rattle.interleaving.specs.PX.{codedBits}
 use Rattle.interleaving.specs.FinderPX.{earlier}
 use Rattle.runs.specs.declared.Answer.{Answer}
-use Rattle.runs.specs.declared.Answer.the-variants.{WrongLength}
 use Rattle.runs.specs.declared.Extended.{Extended}
 use Rattle.runs.specs.declared.Extended.the-variants.{P3, P4}
 use Rattle.runs.specs.declared.Kind.{Kind}
@@ -32,7 +30,7 @@ use Rattle.runs.specs.Starting.{stateAt, valid}
 use Rattle.runs.proofs.Sender.{covered-of}
 use Rattle.runs.proofs.Shown.{p1-shown, pids-shown, coded-shown, fill-shown}
 use Rattle.runs.proofs.States.{valid-at}
-use Rattle.queries.specs.declared.finder.Found.the-variants.{P1, Pids, Refused as no-cell}
+use Rattle.queries.specs.declared.finder.Found.the-variants.{P1, Pids}
 use Rattle.queries.specs.declared.finder_px.FoundPx.{FoundPx}
 use Rattle.queries.specs.declared.finder_px.FoundPx.the-variants.{Coded, Fill, Refused}
 use Rattle.queries.specs.Finder.{found}

@@ -3,24 +3,19 @@ use mathlib.Core.Path.{_≡_, refl, sym, ap, _∙_}
 use mathlib.Core.Bool.{Bool, true, false, cond, not}
 use mathlib.Core.Option.{Option, none, some}
 use mathlib.Core.List.{List, [], _∷_, _++_}
-use Prim.Native.Nat.{ℕ, _+_, _<_, _≤_}
-use native.Mathlib.Omega.{arith}
+use Prim.Native.Nat.{ℕ, _+_, _<_}
 use lib.Dec.{ltb}
 use lib.ListN.{length}
 use Rattle.control.specs.Departs.{strays}
 use Rattle.runs.specs.declared.Answer.{Answer}
 use Rattle.runs.specs.declared.Answer.the-variants.{Success, StateNotValid, WrongLength, WrongControl, MainNotCoded, PidsNotCoded, FillNotZero, ExtendedNotCoded}
 use Rattle.runs.specs.declared.Extended.the-variants.{P3, P4}
-use Rattle.runs.specs.declared.Kind.{Kind}
-use Rattle.runs.specs.declared.Kind.the-variants.{Unused, Narrow, Wide}
-use Rattle.runs.specs.declared.Main.{Main}
-use Rattle.runs.specs.declared.Main.the-variants.{Plain, Mp5, Mp6}
 use Rattle.runs.specs.declared.State.{State}
-use Rattle.runs.specs.MainChannels.{mainOf, p1Len, p2Len}
+use Rattle.runs.specs.MainChannels.{mainOf}
 use Rattle.runs.specs.Answers.{numberOf, onSuccess}
 use Rattle.runs.specs.Causes.{at, first, judge, when, wrong}
 use Rattle.runs.specs.Chain.{pidsBad}
-use Rattle.runs.specs.Lengths.{kindOf, frameLen, readerLen}
+use Rattle.runs.specs.Lengths.{kindOf, readerLen}
 use Rattle.runs.specs.Lent.{Lent, Memory}
 use Rattle.runs.specs.Judged.{countedFirst, fillPlace, framePlace, mainPlace}
 use Rattle.runs.specs.Starting.{memorySizes, valid}

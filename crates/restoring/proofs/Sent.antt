@@ -6,7 +6,7 @@ use mathlib.Core.List.{List, [], _∷_}
 use Prim.Native.Nat.{ℕ, zero, suc, _+_, _*_, _/_, _%_, _<_, _≤_}
 use native.Mathlib.Decide.{decLt}
 use native.Mathlib.Omega.{arith}
-use lib.ListN.{length, getD, take, drop, length-take, length-drop}
+use lib.ListN.{length, take, drop, length-take, length-drop}
 use lib.Seq.{getD-drop}
 use Rattle.bits.specs.Bits.{Bytes, bitAt}
 use Rattle.bits.proofs.Numbers.{number-cong}
@@ -23,11 +23,11 @@ use Rattle.runs.specs.declared.Answer.{Answer}
 use Rattle.runs.specs.declared.Answer.the-variants.{Success, SeveralFit}
 use Rattle.runs.specs.Lengths.{pidsLen}
 use Rattle.runs.specs.Lent.{Frames}
-use Rattle.runs.specs.Runs.{Fitting, SenderRun, count, frameAt, matricesAt}
+use Rattle.runs.specs.Runs.{Fitting, frameAt, matricesAt}
 use Rattle.runs.proofs.PM.{pids-long}
 use Rattle.runs.proofs.Sender.{right-at}
 use Rattle.runs.proofs.Shown.{pids-shown}
-use Rattle.trellis.specs.Cells.{Frame, scrambledOf, codedBits, apart, distance}
+use Rattle.trellis.specs.Cells.{Frame, scrambledOf, codedBits, distance}
 use Rattle.trellis.specs.Paths.{start}
 use Rattle.trellis.proofs.Closing.{start-lt}
 use Rattle.trellis.proofs.Distances.{apart-cong}
@@ -37,7 +37,7 @@ use Rattle.decoding.proofs.Answering.{judged-right}
 use Rattle.decoding.proofs.Margins.{lex-distance}
 use Rattle.decoding.proofs.Outcomes.{no-nearer}
 use Rattle.decoding.proofs.Ranking.{frame-bits, frame-same, rank-order}
-use Rattle.restoring.specs.Restored.{Fits, One, None, Several, Settled, Restored}
+use Rattle.restoring.specs.Restored.{Fits, Settled}
 use Rattle.restoring.specs.Sent.{frameIn, cellIn, Copied, AllRead, misCopied, PidsSent, SentPids}
 use Rattle.restoring.proofs.Fitting.{fits-zero, zero-fits}
 use Rattle.restoring.proofs.Lengths.{lengths-right}

@@ -1,9 +1,9 @@
 -- The delay memory is a row of L1 frames' scrambled P1 frames: before L1 frame t those of the last ones sent, behind zeros, and the oldest goes on.
 -- Assumes nothing.
-use Prim.Native.Nat.{ℕ, zero, suc, _+_, _-_, _*_, _≤_, _<_}
-use mathlib.Core.Path.{_≡_, refl, sym, ap, ap₂, _∙_}
+use Prim.Native.Nat.{ℕ, zero, suc, _+_, _-_, _*_, _<_}
+use mathlib.Core.Path.{_≡_, sym, ap, ap₂, _∙_}
 use mathlib.Core.Bool.{Bool, true, false, cond}
-use mathlib.Core.List.{List, [], _++_, append-assoc, append-nil}
+use mathlib.Core.List.{[], _++_, append-assoc, append-nil}
 use native.Mathlib.Nat.{add-zero, add-suc, suc-add, zero-mul}
 use native.Mathlib.Omega.{arith}
 use lib.Dec.{ltb}

@@ -1,5 +1,5 @@
 -- The matrices of a sender's run fix its frames. Assumes nothing.
-use Prim.Native.Nat.{ℕ, zero, suc, _+_, _*_, _%_, _≤_, _<_}
+use Prim.Native.Nat.{ℕ, suc, _+_, _*_, _%_, _≤_, _<_}
 use mathlib.Core.Path.{_≡_, refl, sym, ap, _∙_}
 use mathlib.Core.Logic.{_≢_}
 use mathlib.Core.Bool.{true, false}
@@ -14,7 +14,7 @@ use Rattle.control.proofs.Numbers.{control-determines}
 use Rattle.runs.specs.declared.Extended.{Extended}
 use Rattle.runs.specs.declared.Extended.the-variants.{P3, P4}
 use Rattle.runs.specs.MainChannels.{mainOf}
-use Rattle.runs.specs.Lengths.{kindOf, matrixLen, senderLen}
+use Rattle.runs.specs.Lengths.{kindOf, matrixLen}
 use Rattle.runs.specs.Chain.{Buffer, pmOf, p1Of, p2Of, pidsOf, pxOf, memOf, framesOf, frameBad}
 use Rattle.runs.specs.Paths.{scrambledOf}
 use Rattle.runs.specs.Lent.{Frames, Matrices, Memory, frameOf, matrixOf, memoryOf, signalOf, memoryNext}
@@ -24,7 +24,7 @@ use Rattle.runs.specs.WholeRuns.{SameMain, SameMatrices}
 use Rattle.runs.proofs.Rows.{window}
 use Rattle.runs.proofs.PX.{matrix-length, frames-back, frames-good}
 use Rattle.runs.proofs.PM.{p1-back, p2-back, pids-back, scrambled-again}
-use Rattle.runs.proofs.Sender.{MemoryRight, control-at, covered-of, matrices-at, memory-right, right-at, zeros-right}
+use Rattle.runs.proofs.Sender.{control-at, covered-of, matrices-at, right-at}
 
 -- ---- what the matrices of n L1 frames of right lengths say
 
@@ -46,11 +46,6 @@ matrixIn mode F e t = matrixOf mode (defined mode F t .matrices) e
 
 module _ (mode : ℕ) (cov : covered mode ≡ true) (F : ℕ → Frames) (n : ℕ)
     (right : (t : ℕ) → t < n → Fitting mode (F t)) where
-  before-right : (t : ℕ) → t ≤ n → MemoryRight senderLen mode (memoryBefore mode F t)
-  unfolding memoryBefore
-  before-right zero h = zeros-right senderLen mode
-  before-right (suc t) h = memory-right mode cov t (memoryBefore mode F t) (F t) (before-right t (omega arith)) (right t h)
-
   pub in-length : (e : Extended) (t : ℕ) → t < n → length (matrixIn mode F e t) ≡ matrixLen (kindOf mode e)
   unfolding matrixIn defined
   in-length e t h =

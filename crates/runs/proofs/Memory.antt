@@ -1,6 +1,6 @@
 -- The reader's memory holds the matrices of the last three L1 frames. Assumes nothing.
 use Prim.Native.Nat.{ℕ, zero, suc, _*_, _≤_, _<_}
-use mathlib.Core.Path.{_≡_, refl, ap}
+use mathlib.Core.Path.{_≡_, refl}
 use mathlib.Core.Logic.{_≢_}
 use mathlib.Core.List.{[], _++_}
 use native.Mathlib.Omega.{arith}
@@ -11,7 +11,7 @@ use Rattle.runs.specs.declared.Extended.{Extended}
 use Rattle.runs.specs.declared.Extended.the-variants.{P3, P4}
 use Rattle.runs.specs.Lengths.{kindOf, matrixLen, readerLen}
 use Rattle.runs.specs.Chain.{Buffer}
-use Rattle.runs.specs.Lent.{Matrices, Signal, Lent, Memory, Result, matrixOf, memoryOf}
+use Rattle.runs.specs.Lent.{Matrices, Signal, Lent, Memory, matrixOf, memoryOf}
 use Rattle.runs.specs.Answers.{numberOf}
 use Rattle.runs.specs.Starting.{zeros}
 use Rattle.runs.specs.Sending.{refused}
@@ -28,9 +28,6 @@ pub read-refused : (s : State) (m : Memory) (l : Lent) → numberOf (readStep s 
     → readStep s m l ≡ refused s m (unnumbered l) (readAnswer s m l)
 unfolding readStep received
 read-refused s m l = refused-is (readAnswer s m l) (received s m l) (refused s m (unnumbered l) (readAnswer s m l)) refl
-
-pub number-refused : (s : State) (m : Memory) (l : Lent) → numberOf (readStep s m l .answer) ≢ 0 → readStep s m l .lent .frames .reserved ≡ 0
-number-refused s m l ne = ap (λ (r : Result). r .lent .frames .reserved) (read-refused s m l ne)
 
 pub pushed-of : (mode : ℕ) (m : Memory) (x : Matrices) (e : Extended) → memoryOf (pushed mode m x) e ≡ push (memoryOf m e) (matrixOf mode x e)
 unfolding pushed

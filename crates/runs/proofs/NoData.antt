@@ -6,7 +6,6 @@ use mathlib.Core.List.{List, [], _∷_, _++_, map}
 use native.Mathlib.Omega.{arith}
 use lib.Dec.{eqb, ltb}
 use lib.ListN.{length}
-use Rattle.runs.specs.declared.Answer.{Answer}
 use Rattle.runs.specs.declared.Answer.the-variants.{Success, StateNotValid, ReservedTooHigh, WrongLength}
 use Rattle.runs.specs.declared.State.{State}
 use Rattle.runs.specs.Lengths.{senderLen}

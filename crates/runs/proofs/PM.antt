@@ -1,15 +1,14 @@
 -- PM there and back: each coded bit of P1, P2 and PIDS stands at its cell, and the frames come back, P1 still scrambled. Assumes nothing.
 use Prim.Native.Nat.{ℕ, _+_, _-_, _*_, _<_}
-use mathlib.Core.Path.{_≡_, refl, sym, ap, _∙_}
+use mathlib.Core.Path.{_≡_, refl, sym, _∙_}
 use mathlib.Core.Bool.{Bool, true, false, cond}
 use native.Mathlib.Nat.{not-suc-le-zero}
 use native.Mathlib.Omega.{arith}
 use lib.Dec.{ltb}
 use lib.ListN.{length}
-use Rattle.bits.specs.Bits.{Bytes, bitAt, beside, packed}
+use Rattle.bits.specs.Bits.{Bytes, bitAt, beside}
 use Rattle.bits.proofs.Beside.{in-first, in-second}
 use Rattle.bits.proofs.Packed.{bitAt-lt, bitAt-packed, length-packed, packed-cong, packed-of}
-use Rattle.scrambling.specs.Scrambler.{scrambledEach}
 use Rattle.scrambling.proofs.Frames.{scrambledEach-bit, scrambledEach-same}
 use Rattle.coding.specs.declared.Rate.the-variants.{TwoFifths}
 use Rattle.coding.specs.Buffers.{Long}

@@ -1,8 +1,8 @@
 -- P1' in PX2, there and back: each coded bit stands at its cell, the frames come out whole and agree with those that were coded, and zeros leave zeros.
 -- Assumes nothing.
 use Prim.Native.Nat.{ℕ, _+_, _*_, _/_, _<_}
-use mathlib.Core.Path.{_≡_, refl, sym, ap, ap₂, _∙_}
-use mathlib.Core.Bool.{Bool, true, false, not, _||_}
+use mathlib.Core.Path.{_≡_, refl, ap, ap₂, _∙_}
+use mathlib.Core.Bool.{Bool, false, not, _||_}
 use native.Mathlib.Nat.{not-suc-le-zero}
 use native.Mathlib.Omega.{arith}
 use lib.Dec.{eqb}
@@ -19,7 +19,7 @@ use Rattle.coding.specs.Channel.{noFrame}
 use Rattle.coding.proofs.Channel.{empty-passes}
 use Rattle.coding.proofs.Passes.{codedEach-bit}
 use Rattle.coding.proofs.Paths.{codedEach-zero, uncoded-scrambled, scrambled-passes}
-use Rattle.interleaving.specs.PX2.{frameBits, place, matrix}
+use Rattle.interleaving.specs.PX2.{frameBits}
 use Rattle.interleaving.proofs.OncePX2.{px2-each-once, stands, matrix-lt, matrix-zero}
 use Rattle.runs.specs.declared.Main.{Main}
 use Rattle.runs.specs.declared.Main.the-variants.{Plain, Mp5, Mp6}

@@ -13,7 +13,7 @@ use Rattle.control.proofs.Covered.{covered-lt}
 use Rattle.control.proofs.Numbers.{number-sent}
 use Rattle.runs.specs.declared.State.{State}
 use Rattle.runs.specs.Answers.{numberOf}
-use Rattle.runs.specs.Lent.{Frames, Signal, Lent, Memory, Result, signalOf}
+use Rattle.runs.specs.Lent.{Frames, Signal, Lent, Result, signalOf}
 use Rattle.runs.specs.Starting.{stateAt, next}
 use Rattle.runs.specs.Reading.{readStep, received}
 use Rattle.runs.specs.Runs.{Call, calls, Fitting}

@@ -10,7 +10,7 @@ use Rattle.control.specs.Modes.{covered}
 use Rattle.runs.specs.declared.State.{State}
 use Rattle.runs.specs.declared.Extended.the-variants.{P3, P4}
 use Rattle.runs.specs.Lengths.{kindOf, matrixLen, senderLen, pmLen, px2Len, controlLen}
-use Rattle.runs.specs.Lent.{Frames, Lent, Memory, Result, ByteFrames, filled, memoryNext}
+use Rattle.runs.specs.Lent.{Frames, Lent, Memory, Result, ByteFrames, memoryNext}
 use Rattle.runs.specs.Causes.{wrong}
 use Rattle.runs.specs.Starting.{Started, next, stateAt, memorySizes, zeros}
 use Rattle.runs.specs.Sending.{lentSizes, sendStep, sent}

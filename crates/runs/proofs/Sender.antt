@@ -4,7 +4,7 @@ use mathlib.Core.Path.{_≡_, refl, sym, ap, ap₂, _∙_, subst, fun-ext}
 use mathlib.Core.Bool.{Bool, true, false, cond, not}
 use mathlib.Core.Option.{Option, none, some}
 use mathlib.Core.List.{List, [], _∷_, _++_, map}
-use native.Mathlib.Nat.{add-zero, add-suc, suc-add, zero-add, not-suc-le-zero, le-of-suc-le-suc}
+use native.Mathlib.Nat.{add-zero, add-suc, suc-add, not-suc-le-zero, le-of-suc-le-suc}
 use native.Mathlib.Omega.{arith}
 use lib.ListN.{length, getD, length-replicate}
 use lib.Dec.{eqb, ltb}
@@ -176,14 +176,6 @@ as-defined-is mode a =
 pub right-at : (mode : ℕ) (a : SenderRun mode) (t : ℕ) → t < count mode a → Fitting mode (frameAt mode a t)
 unfolding frameAt framesSent
 right-at mode a t h = sent-facts mode a .rights t (rw (count-is mode a) at h)
-
--- the state that the sending of L1 frame t returned is the one before L1 frame t + 1
-pub state-after : (mode : ℕ) (a : SenderRun mode) (t : ℕ) → t < count mode a → getD (statesIn (succeeded (sendings mode a))) t (fresh mode)
-    ≡ stateAt mode (frameAt mode a t .reserved) (suc t)
-unfolding frameAt framesSent
-state-after mode a t h =
-    sent-facts mode a .states t (rw (count-is mode a) at h)
-    ∙ ap (λ (k : ℕ). stateAt mode (frameAt mode a t .reserved) (suc k)) (zero-add t)
 
 -- the memory that the start zeroed, and then the one that each sending returned
 pub memory-after : (mode : ℕ) (a : SenderRun mode) (t : ℕ) → t < suc (count mode a)

@@ -1,6 +1,6 @@
 -- Points of our own for MP5 and MP6, worked by hand from 9.2, Figure 10-5 and Tables 10-12 and 10-13, as what the definitions give beside what the hand gave. The
 -- laws leave them open: a delay of any length comes back, and so does P2 wherever it stands in U. Those of PX2 are in `interleaving/specs/PointsPX2.antt`.
-use mathlib.Core.List.{List, [], _∷_, _++_, map}
+use mathlib.Core.List.{List, [], _∷_, map}
 use Prim.Native.Nat.{ℕ, zero, suc, _+_, _*_}
 use lib.ListN.{getD, replicate}
 use Rattle.interleaving.specs.PM.{p1Position}

@@ -1,26 +1,23 @@
 -- A sending case by case: its answer, and what a refusal and a success leave. Assumes nothing.
 use mathlib.Core.Path.{_≡_, refl, sym, ap, ap₂, _∙_}
 use mathlib.Core.List.{List, _∷_, _++_}
-use Prim.Native.Nat.{ℕ, _≤_}
-use native.Mathlib.Omega.{arith}
+use Prim.Native.Nat.{ℕ}
 use lib.ListN.{length, drop, getD}
 use Rattle.control.specs.Control.{controlOf}
 use Rattle.runs.specs.declared.Answer.{Answer}
 use Rattle.runs.specs.declared.Extended.the-variants.{P3, P4}
 use Rattle.runs.specs.declared.Kind.{Kind}
 use Rattle.runs.specs.declared.Main.{Main}
-use Rattle.runs.specs.declared.Main.the-variants.{Plain, Mp5, Mp6}
 use Rattle.runs.specs.declared.State.{State}
 use Rattle.runs.specs.Answers.{numberOf}
 use Rattle.runs.specs.Causes.{wrong}
-use Rattle.runs.specs.MainChannels.{mainOf, p1Len}
+use Rattle.runs.specs.MainChannels.{mainOf}
 use Rattle.runs.specs.Chain.{memOf, pmOf, pxOf}
 use Rattle.runs.specs.Paths.{oldest, p1′Of, scrambledOf, waiting}
 use Rattle.runs.specs.Lengths.{frameLen, kindOf, senderLen}
 use Rattle.runs.specs.Lent.{Frames, Lent, Memory, Signal, filled, meant, memoryNext, orZeros, signalOf}
 use Rattle.runs.specs.Starting.{memorySizes, next}
 use Rattle.runs.specs.Sending.{lentSizes, refused, sendAnswer, sendStep, sent}
-use Rattle.runs.proofs.PM.{scrambled-length}
 use Rattle.runs.proofs.Answered.{not-success, success-is}
 use Rattle.runs.proofs.Succeeds.{send-succeeds}
 use Rattle.calls.specs.Admitted.{admitted, firstCause}

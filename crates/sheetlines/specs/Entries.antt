@@ -1,6 +1,6 @@
 -- House matter: what an answer sheet says of a cell that is asked for. The sheet is of the first `count` L1 frames of a sender's run.
 use Prim.Native.Nat.{ℕ, _+_, _-_, _*_}
-use mathlib.Core.Bool.{Bool, true, false, cond}
+use mathlib.Core.Bool.{Bool, false, cond}
 use lib.Dec.{eqb, ltb}
 use Rattle.runs.specs.Starting.{stateAt}
 use Rattle.queries.specs.Finder.{found}

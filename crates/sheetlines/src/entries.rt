@@ -4,7 +4,7 @@ use queries::Found;
 use queries::FoundPx;
 use runs::State;
 ghost use mathlib.Core.Path.{_≡_};
-ghost use Prim.Native.Nat.{_+_, _*_, _≤_, _<_};
+ghost use Prim.Native.Nat.{_+_, _*_, _<_};
 ghost use Rattle.interleaving.specs.TableI.{ks};
 ghost use Rattle.runs.specs.Starting.{stateAt};
 ghost use Rattle.queries.specs.Finder.{found};

@@ -1,13 +1,13 @@
 -- The tables by slots are the tables of section 12: one test, computed over every element of every mode. Assumes nothing.
 use mathlib.Core.Path.{_≡_, refl, sym, ap, ap₂, _∙_}
-use mathlib.Core.Bool.{Bool, true, false, cond, _&&_}
+use mathlib.Core.Bool.{Bool, true}
 use Prim.Native.Nat.{ℕ, zero, suc, _+_, _-_, _*_, _/_, _%_, _<_, _≤_}
 use native.Mathlib.Omega.{arith}
 use borrow.Author.Tests.{lt-ltb, le-ltb}
 use lib.Dec.{T, eqb, eqb→eq}
 use lib.ListN.{length, getD}
 use Rattle.bits.specs.Tests.{all}
-use Rattle.bits.proofs.Tests.{all-at, both}
+use Rattle.bits.proofs.Tests.{all-at}
 use Rattle.subcarriers.specs.declared.Source.{Source}
 use Rattle.subcarriers.specs.declared.Source.the-variants.{Unused, Pm, Px1, Px2, Control}
 use Rattle.subcarriers.specs.Slots.{modeAt, placedSource, slotSource, partitionSource, columnSource, columnTable, partitionTable}

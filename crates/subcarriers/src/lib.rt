@@ -1,7 +1,7 @@
 // Tables 12-3 to 12-6 and Table 12-12: what each element of the vector carries.
 ghost use mathlib.Core.Path.{_≡_};
 ghost use mathlib.Core.Bool.{true};
-ghost use Prim.Native.Nat.{ℕ, _+_, _*_, _<_};
+ghost use Prim.Native.Nat.{_+_, _*_, _<_};
 ghost use lib.ListN.{getD};
 ghost use Rattle.subcarriers.specs.Slots.{columnSource, columnTable, modeAt, partitionSource, partitionTable, slotSource};
 ghost use Rattle.subcarriers.specs.Tables.{mapped, sourceAt, sourceOf};

@@ -13,7 +13,7 @@ use Rattle.runs.specs.Lengths.{kindOf, frameLen, pidsLen}
 use Rattle.runs.specs.Chain.{Buffer}
 use Rattle.runs.specs.Lent.{Frames, Matrices, Memory}
 use Rattle.runs.specs.Runs.{Every, Fitting, SenderRun, framesSent, noFrames, count, frameAt, matricesAt, controlAt, memoryAfter}
-use Rattle.runs.specs.Defined.{memoryBefore, table}
+use Rattle.runs.specs.Defined.{table}
 use Rattle.runs.proofs.Lists.{table-at}
 use Rattle.runs.proofs.Sender.{control-at, covered-of, matrices-at, memory-at, right-at}
 use Rattle.runs.proofs.Sendable.{can-send}

@@ -18,10 +18,6 @@ pub reg-lt : (x : ℕ → ℕ) (j : ℕ) → ((i : ℕ) → i < 6 → x (j + i) 
 unfolding reg
 reg-lt x j h = number-lt 6 (λ i. x (j + i)) h
 
-pub win-lt : (x : ℕ → ℕ) (j : ℕ) → ((i : ℕ) → i < 7 → x (j + i) < 2) → win x j < 128
-unfolding win
-win-lt x j h = number-lt 7 (λ i. x (j + i)) h
-
 pub win-reg : (x : ℕ → ℕ) (j : ℕ) → win x j ≡ 2 * reg x j + x (j + 6)
 unfolding win reg number
 win-reg x j = omega arith

@@ -2,8 +2,7 @@
 use mathlib.Core.Path.{_≡_, refl, sym, ap, _∙_, subst}
 use mathlib.Core.Bool.{Bool, true, false, cond, _&&_, _||_}
 use mathlib.Core.Logic.{_≢_}
-use mathlib.Core.List.{List, [], _∷_, _++_}
-use Prim.Native.Nat.{ℕ, zero, suc, _+_, _-_, _*_, _/_, _%_, _<_}
+use Prim.Native.Nat.{ℕ, _+_, _-_, _*_, _/_, _%_, _<_}
 use native.Mathlib.Omega.{arith}
 use lib.Dec.{T, eqb, eqb→eq, leb, leb→le, ltb, ltb→lt}
 use lib.ListN.{length, getD}
@@ -14,7 +13,7 @@ use Rattle.runs.specs.Lengths.{kindOf}
 use Rattle.subcarriers.specs.declared.Source.{Source}
 use Rattle.subcarriers.specs.declared.Source.the-variants.{Unused, Pm, Px1, Px2, Control}
 use Rattle.unmapping.specs.Back.{At, AtMostOnce, InRow, cellsIn, columnAt, elementAt, elementIn, namedIn, referenceAt, referredIn, rowAt}
-use Rattle.subcarriers.specs.Tables.{Row, Reference, mapped, mappedModes, sourceOf, inRows, inReferences, rowsOf, referencesOf, lowerMain, upperMain, extended2, extended3, extended11, lowerReferences, upperReferences, references2, references3, references11}
+use Rattle.subcarriers.specs.Tables.{mapped, mappedModes, sourceOf, inRows, inReferences, rowsOf, referencesOf, lowerMain, upperMain, extended2, extended3, extended11, lowerReferences, upperReferences, references2, references3, references11}
 use Rattle.mapping.specs.Vector.{width}
 use Rattle.subcarriers.proofs.BySlots.{code, same-code}
 use Rattle.subcarriers.proofs.Mapped.{mapped-place}

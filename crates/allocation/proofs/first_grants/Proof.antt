@@ -1,7 +1,6 @@
 -- `first_grants` meets its contract. Assumes nothing.
-use mathlib.Core.Path.{_≡_, ap, _∙_}
-use mathlib.Core.List.{List}
-use Prim.Native.Nat.{ℕ, _-_}
+use mathlib.Core.Path.{ap, _∙_}
+use Prim.Native.Nat.{_-_}
 use native.Mathlib.Omega.{arith}
 use Rattle.allocation.specs.Allocation.{first, total}
 use Rattle.allocation.proofs.Sums.{total-smaller}

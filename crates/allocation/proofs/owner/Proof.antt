@@ -3,7 +3,6 @@ use mathlib.Core.Path.{_≡_, refl, sym, subst, ap, _∙_}
 use Prim.Native.Nat.{ℕ, _+_, _-_, _≤_, _<_}
 use native.Mathlib.Omega.{arith}
 use borrow.Author.Needs.{needs}
-use lib.ListN.{getD}
 use Rattle.allocation.specs.Owners.{ownerOf}
 use Rattle.allocation.proofs.Steps.{here, further, nobody}
 use Rattle.allocation.proofs.owner.Statement.{statement}

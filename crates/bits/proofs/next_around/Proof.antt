@@ -1,5 +1,5 @@
 -- `bits::next_around` meets its contract: the laws `next-inside` and `next-first`. Assumes nothing.
-use mathlib.Core.Path.{_≡_, sym, ap, _∙_}
+use mathlib.Core.Path.{sym, ap, _∙_}
 use Prim.Native.Nat.{ℕ, _+_}
 use native.Mathlib.Omega.{arith}
 use Rattle.bits.proofs.Around.{next-inside, next-first}

@@ -1,5 +1,5 @@
 -- `blockset::lookup_frame` meets its contract. The loop's invariant: no block below c is faulty, and `fitted` is the lowest of them that does not fit, or c. Assumes nothing.
-use mathlib.Core.Path.{_≡_, sym, _∙_}
+use mathlib.Core.Path.{_≡_, sym}
 use mathlib.Core.Bool.{false}
 use Prim.Native.Nat.{ℕ, _-_, _≤_, _<_}
 use native.Mathlib.Omega.{arith}

@@ -1,9 +1,7 @@
 -- `blockset::more` meets its contract. Assumes nothing.
-use mathlib.Core.Path.{sym}
 use borrow.Author.Needs.{needs}
 use borrow.Author.Tests.{eq-eqb, ne-eqb, not-true, not-false}
 use Rattle.blockset.specs.Words.{onward}
-use mathlib.Core.Bool.{Bool, false, true, cond, _&&_}
 use Rattle.blockset.proofs.more.Statement.{statement}
 use Rattle.blockset.proofs.more.Tie as tie
 

@@ -1,5 +1,5 @@
 -- `blockset::name` meets its contract. Assumes nothing.
-use mathlib.Core.Path.{sym, ap, _∙_}
+use mathlib.Core.Path.{sym, ap}
 use borrow.Author.Needs.{needs}
 use Rattle.blockset.specs.LookupFrame.{named}
 use Rattle.blockset.proofs.name.Statement.{statement}

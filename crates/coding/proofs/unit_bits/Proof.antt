@@ -1,6 +1,6 @@
 -- `coding::unit_bits` meets its contract. The loop's invariant: the bits of q groups are found. Assumes nothing.
 use mathlib.Core.Path.{refl, sym, ap, _∙_, _≡_}
-use Prim.Native.Nat.{ℕ, _+_, _*_, _/_, _%_, _^_, _≤_, _-_}
+use Prim.Native.Nat.{ℕ, _+_, _*_, _/_, _^_, _≤_, _-_}
 use native.Mathlib.Nat.{add-zero, mul-le-mul}
 use native.Mathlib.Omega.{arith}
 use borrow.Author.Needs.{needs}

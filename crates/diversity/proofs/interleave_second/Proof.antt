@@ -1,6 +1,6 @@
 -- `interleave_second` meets its contract. The loop's invariant: the first f frames are written. Assumes nothing.
-use mathlib.Core.Path.{_≡_, sym, ap, _∙_}
-use Prim.Native.Nat.{ℕ, _+_, _-_, _*_, _/_, _≤_}
+use mathlib.Core.Path.{_≡_, ap, _∙_}
+use Prim.Native.Nat.{ℕ, _-_, _*_, _/_, _≤_}
 use native.Mathlib.Omega.{arith}
 use denote.Ref.{now}
 use lib.ListN.{length}
@@ -9,7 +9,7 @@ use Rattle.bits.specs.Bits.{Bytes, bitAt, written}
 use Rattle.coding.specs.declared.Rate.the-variants.{Half}
 use Rattle.coding.specs.Buffers.{codedEach}
 use Rattle.interleaving.specs.PX2.{frameBits, place}
-use Rattle.diversity.proofs.Seconds.{all-eight, coded-long, eight, frame-buffers, frame-le, none-yet, one-more, row-is}
+use Rattle.diversity.proofs.Seconds.{all-eight, coded-long, frame-buffers, frame-le, none-yet, one-more, row-is}
 use Rattle.diversity.proofs.interleave_second.Statement.{statement}
 use Rattle.diversity.proofs.interleave_second.Tie as tie
 

@@ -1,7 +1,6 @@
 -- `sum_all` meets its contract. The loop's invariant: no buffer's length changes. The measure is the L1 frames that are left. Assumes nothing.
-use mathlib.Core.Path.{_≡_, _∙_}
+use mathlib.Core.Path.{_≡_}
 use Prim.Native.Nat.{_-_}
-use native.Mathlib.Omega.{arith}
 use lib.ListN.{length}
 use borrow.Author.Needs.{needs}
 use Rattle.keys.proofs.sum_all.Statement.{statement}

@@ -1,7 +1,6 @@
 -- `turn` meets its contract. The loop's invariant: no buffer's length changes. The measure is the runs that are left. Assumes nothing.
-use mathlib.Core.Path.{_≡_, _∙_}
+use mathlib.Core.Path.{_≡_}
 use Prim.Native.Nat.{_-_}
-use native.Mathlib.Omega.{arith}
 use lib.ListN.{length}
 use borrow.Author.Needs.{needs}
 use Rattle.keys.proofs.turn.Statement.{statement}

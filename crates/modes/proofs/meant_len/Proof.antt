@@ -1,5 +1,5 @@
 -- `meant_len` meets its contract: nothing means zeros in full, and anything else itself. Assumes nothing.
-use mathlib.Core.Path.{_≡_, sym, ap, _∙_}
+use mathlib.Core.Path.{sym, ap, _∙_}
 use Prim.Native.Nat.{ℕ}
 use lib.ListN.{length, length-replicate}
 use Rattle.runs.proofs.Filled.{or-zeros-none, or-zeros-some}

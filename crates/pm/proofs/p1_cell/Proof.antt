@@ -1,12 +1,10 @@
 -- `pm::p1_cell` meets its contract: the cell of the bit's position. Assumes nothing.
 use mathlib.Core.Path.{sym, ap, subst, _∙_}
 use Rattle.interleaving.specs.Matrix.{Inside, cellOf}
-use Rattle.interleaving.specs.PM.{p1Place}
 use Rattle.interleaving.proofs.OncePM.{p1-inside}
 use borrow.Author.Needs.{needs}
 use Rattle.pm.proofs.p1_cell.Statement.{statement}
 use Rattle.pm.proofs.p1_cell.Tie as tie
-use Rattle.pm.proofs.p1_position.Reads as p1-position-reads
 
 p1-position-requires : tie.Need-p1-position-requires
 p1-position-requires c κs = search needs

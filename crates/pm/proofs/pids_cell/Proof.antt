@@ -1,7 +1,6 @@
 -- `pm::pids_cell` meets its contract: the cell of the bit's position. Assumes nothing.
 use mathlib.Core.Path.{sym, ap, subst, _∙_}
 use Rattle.interleaving.specs.Matrix.{Inside, cellOf}
-use Rattle.interleaving.specs.PM.{pidsPlace}
 use Rattle.interleaving.proofs.OncePM.{pids-inside}
 use borrow.Author.Needs.{needs}
 use Rattle.pm.proofs.pids_cell.Statement.{statement}

@@ -1,11 +1,11 @@
 -- `px::gather_byte` meets its contract. The loop's invariant: a is the number of the first u bits. Assumes nothing.
-use mathlib.Core.Path.{_≡_, refl, sym, ap, _∙_}
+use mathlib.Core.Path.{_≡_, refl, ap, _∙_}
 use Prim.Native.Nat.{ℕ, _+_, _-_, _*_, _≤_, _<_}
 use native.Mathlib.Omega.{arith}
 use Rattle.bits.specs.Bits.{bitAt, number}
 use Rattle.bits.proofs.Packed.{bitAt-lt}
 use Rattle.bits.proofs.Stores.{number-turn}
-use Rattle.interleaving.specs.PX.{cells, codedBytes, codedBits, stepOf, place, later}
+use Rattle.interleaving.specs.PX.{cells, codedBits, stepOf, place, later}
 use Rattle.interleaving.proofs.OncePX.{place-lt}
 use Rattle.interleaving.proofs.PXKinds.{codedBytes-le}
 use Rattle.interleaving.proofs.Steps.{later-lt}

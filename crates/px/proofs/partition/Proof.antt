@@ -1,8 +1,6 @@
 -- `px::partition` meets its contract: the tables are the definition's v2 and v4. Assumes nothing.
-use mathlib.Core.Path.{_≡_, refl, ap, _∙_}
-use Prim.Native.Nat.{ℕ}
+use mathlib.Core.Path.{_≡_}
 use native.Mathlib.Omega.{arith}
-use lib.ListN.{getD}
 use Rattle.interleaving.specs.PX.{partitions, order, v2, v4}
 use Rattle.interleaving.proofs.PXKinds.{kind-is}
 use Rattle.px.proofs.partition.Statement.{statement}

@@ -1,5 +1,5 @@
 -- `decode_p2` meets its contract: the coded bits behind those of P1 are P2's, where the mode has it. Assumes nothing.
-use mathlib.Core.Path.{sym, _∙_}
+use mathlib.Core.Path.{sym}
 use Prim.Native.Nat.{_+_, _*_, _/_, _≤_}
 use native.Mathlib.Omega.{arith}
 use denote.Ref.{now}

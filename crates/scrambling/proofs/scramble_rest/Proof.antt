@@ -1,7 +1,7 @@
 -- `scrambling::scramble_rest` meets its contract. The loop's invariant: the first i bytes are written, and i has not left the word that is given.
 -- The measure is what is left of the length. Assumes nothing.
-use mathlib.Core.Path.{_≡_, refl, ap, _∙_}
-use Prim.Native.Nat.{ℕ, _+_, _-_, _*_, _/_, _≤_, _<_}
+use mathlib.Core.Path.{refl}
+use Prim.Native.Nat.{_+_, _-_, _*_, _/_, _≤_, _<_}
 use native.Mathlib.Omega.{arith}
 use lib.ListN.{length, length-set}
 use lib.Bits.{and-le-r, and-mask}

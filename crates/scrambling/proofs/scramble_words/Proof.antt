@@ -1,18 +1,18 @@
 -- `scrambling::scramble_words` meets its contract. The loop's invariant: the first i bytes, w words, are written, and the ring has the words of the
 -- sequence from w on. The measure is what is left of the length. Assumes nothing.
 use mathlib.Core.Path.{_≡_, refl, ap, ap₂, _∙_, subst}
-use Prim.Native.Nat.{ℕ, _+_, _-_, _*_, _/_, _≤_, _<_}
+use Prim.Native.Nat.{ℕ, _+_, _-_, _*_, _/_}
 use native.Mathlib.Omega.{arith}
 use lib.ListN.{length, length-set, take}
-use lib.Bits.{bitXor, and-le-r, and-mask}
+use lib.Bits.{bitXor, and-mask}
 use borrow.Author.Needs.{needs}
 use Rattle.bits.specs.Bits.{bitAt, packed}
 use Rattle.bits.proofs.Packed.{bitAt-lt}
-use Rattle.bits.proofs.Stores.{Stored, stored-none, stored-turn, stored-all}
-use Rattle.scrambling.specs.Scrambler.{sequence, scrambled}
+use Rattle.bits.proofs.Stores.{Stored, stored-none}
+use Rattle.scrambling.specs.Scrambler.{scrambled}
 use Rattle.scrambling.specs.Words.{wordOf, Ahead}
 use Rattle.scrambling.proofs.Laws.{scrambled-bit}
-use Rattle.scrambling.proofs.Words.{sequence-bit, word-law, index-below, offset-below, ahead-at, ahead-first, ahead-turn, scrambled-word, scrambled-byte}
+use Rattle.scrambling.proofs.Words.{word-law, index-below, offset-below, ahead-at, ahead-first, ahead-turn, scrambled-word}
 use Rattle.scrambling.proofs.scramble_words.Statement.{statement}
 use Rattle.scrambling.proofs.scramble_words.Tie as tie
 

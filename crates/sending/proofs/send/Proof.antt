@@ -1,5 +1,5 @@
 -- `send` meets its contract: a refusal leaves everything, and a success leaves what the work ensures. Assumes nothing.
-use mathlib.Core.Path.{refl, sym, _∙_}
+use mathlib.Core.Path.{sym, _∙_}
 use denote.Ref.{now}
 use Rattle.runs.specs.Lent.{Lent, Memory}
 use Rattle.calls.specs.Called.{lent, memory}

@@ -1,5 +1,5 @@
 -- `slot_source` meets its contract. Assumes nothing.
-use mathlib.Core.Path.{_≡_, ap, _∙_}
+use mathlib.Core.Path.{ap, _∙_}
 use Prim.Native.Nat.{ℕ, _-_, _*_}
 use borrow.Author.Tests.{eq-eqb, ne-eqb}
 use Rattle.subcarriers.specs.Slots.{slotSource, columnSource, partitionSource}

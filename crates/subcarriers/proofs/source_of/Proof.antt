@@ -1,5 +1,5 @@
 -- `source_of` meets its contract: the tables by slots are those of section 12. Assumes nothing.
-use mathlib.Core.Path.{sym, _∙_}
+use mathlib.Core.Path.{_∙_}
 use Rattle.subcarriers.proofs.BySlots.{in-lower, between, in-upper}
 use borrow.Author.Needs.{needs}
 use Rattle.subcarriers.proofs.source_of.Statement.{statement}

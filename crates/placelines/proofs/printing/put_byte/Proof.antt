@@ -1,5 +1,4 @@
 -- `put_byte` meets its contract: a byte has at most three digits. Assumes nothing.
-use native.Mathlib.Omega.{arith}
 use Rattle.placelines.proofs.Texts.{put-short}
 use borrow.Author.Needs.{needs}
 use Rattle.placelines.proofs.printing.put_byte.Statement.{statement}

@@ -1,5 +1,4 @@
 -- `send_input` meets its contract: the number and the buffers that it hands over are those that the definition takes from the input. Assumes nothing.
-use native.Mathlib.Omega.{arith}
 use denote.Ref.{now}
 use Rattle.programs.proofs.Cut.{frames-are, sent-in}
 use borrow.Author.Needs.{needs}

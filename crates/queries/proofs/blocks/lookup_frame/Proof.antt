@@ -1,14 +1,7 @@
 -- `lookup_frame` meets its contract: the length decides, and then what the sixteen control blocks are. Assumes nothing.
-use mathlib.Core.Path.{_≡_, sym, ap, _∙_}
-use mathlib.Core.List.{List}
+use mathlib.Core.Path.{sym, ap, _∙_}
 use borrow.Author.Needs.{needs}
-use borrow.Author.Tests.{eq-eqb, ne-eqb}
-use lib.ListN.{length}
-use Rattle.blockset.specs.declared.LookedFrame.{LookedFrame}
-use Rattle.blockset.specs.LookupFrame.{lookedUpFrame}
-use Rattle.runs.specs.declared.Answer.the-variants.{WrongLength}
-use Rattle.queries.specs.declared.blocks.LookedUpFrame.the-variants.{Refused}
-use Rattle.queries.specs.LookupFrame.{lookupFrameOf, told, values}
+use Rattle.queries.specs.LookupFrame.{told, values}
 use Rattle.queries.proofs.Framed.{other-length, of-blocks}
 use Rattle.queries.proofs.Valued.{valued}
 use Rattle.queries.proofs.blocks.lookup_frame.Statement.{statement}

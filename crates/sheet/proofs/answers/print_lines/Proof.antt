@@ -1,5 +1,5 @@
 -- `print_lines` meets its contract. The loop's invariant: as many bytes as lines were passed, at least. Assumes nothing.
-use Prim.Native.Nat.{_+_, _-_, _≤_}
+use Prim.Native.Nat.{_-_, _≤_}
 use native.Mathlib.Omega.{arith}
 use borrow.Author.Needs.{needs}
 use denote.Ref.{now}

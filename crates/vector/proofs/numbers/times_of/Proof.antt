@@ -1,6 +1,5 @@
 -- `times_of` meets its contract: each turn halves the power. Assumes nothing.
 use Prim.Native.Nat.{_≤_, _<_}
-use native.Mathlib.Omega.{arith}
 use borrow.Author.Needs.{needs}
 use Rattle.vector.proofs.numbers.times_of.Statement.{statement}
 use Rattle.vector.proofs.numbers.times_of.Tie as tie
