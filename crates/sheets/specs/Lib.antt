@@ -1,0 +1,4 @@
+pub mod Inputs
+pub mod Sheet
+pub mod Ideal
+pub mod Turned
