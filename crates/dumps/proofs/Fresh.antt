@@ -13,7 +13,7 @@ use Rattle.runs.specs.Starting.{zeros}
 use Rattle.calls.specs.Called.{memory}
 use Rattle.modes.specs.Sizes.{wanted}
 use Rattle.layout.proofs.Cut.{entry-is, matrix-small}
-use Rattle.frames.proofs.Blank.{zeros-of}
+use Rattle.layout.proofs.Zeros.{zeros-of}
 
 delay-small : (k : Main) → delayLen k ≤ 27648
 delay-small Plain = omega arith

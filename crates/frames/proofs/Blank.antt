@@ -18,16 +18,8 @@ use Rattle.modes.specs.Sizes.{wanted}
 use Rattle.calls.specs.declared.states.ReadOutcome.{ReadOutcome}
 use Rattle.layout.specs.Layout.{signalIn}
 use Rattle.layout.proofs.Cut.{entry-is, frame-small, main-small}
+use Rattle.layout.proofs.Zeros.{zeros-of}
 use Rattle.frames.specs.Read.{blank, handed, readFrame}
-
-take-replicate : (n m : ℕ) → n ≤ m → take n (replicate m 0) ≡ replicate {A = ℕ} n 0
-take-replicate zero m h = refl
-take-replicate (suc n) zero h = absurd (not-suc-le-zero h)
-take-replicate (suc n) (suc m) h = ap (λ (l : List ℕ). 0 ∷ l) (take-replicate n m (le-of-suc-le-suc h))
-
--- the first k of m zeros
-pub zeros-of : (n m k : ℕ) → n ≡ k → n ≤ m → take n (replicate m 0) ≡ replicate {A = ℕ} k 0
-zeros-of n m k e h = take-replicate n m h ∙ ap (λ (j : ℕ). replicate j 0) e
 
 p2-small : (k : Main) → p2Len k ≤ 13664
 p2-small Plain = omega arith

@@ -31,5 +31,7 @@ pub use rows::px_row;
 pub use runs::Answer;
 pub use runs::State;
 pub use sending::send;
+pub use sheets::Written;
+pub use sheets::sheet;
 pub use subcarriers::Source;
 pub use subcarriers::source_at;

@@ -5,12 +5,13 @@ use libc::STDOUT_FILENO;
 use programs::Sending;
 ghost use mathlib.Core.Path.{_≡_};
 ghost use lib.ListN.{length};
+ghost use Rattle.io.specs.Counts.{Counts};
 
-// Room for a list of 4,096 bytes and 64 L1 frames of the longest mode, and one byte to tell a longer input.
-fn input_room() -> [u8; 1773633]
-    ensures { λ r. ⌜ 1773633 ≡ length r ⌝ }
+// Room for the longest input that has a sheet, and one byte more: of a longer one the rest cannot matter.
+fn input_room() -> [u8; 1773634]
+    ensures { λ r. ⌜ 1773634 ≡ length r ⌝ }
 {
-    [0; 1773633]
+    [0; 1773634]
 }
 
 // Room for what is printed.
@@ -20,33 +21,36 @@ fn output_room() -> [u8; 1200000]
     [0; 1200000]
 }
 
-// Says what the program does not take.
-fn refuse() {
-    io::write_all(
-        STDERR_FILENO,
-        b"refused: the sheet is of more than 64 L1 frames, or the input has more bytes than those\n",
-    );
+// Puts the sheet for the input, and answers how many bytes it has.
+fn answer(mode: u8, count: u64, n3: usize, n4: usize, input: &[u8], out: &mut [u8]) -> usize
+    ensures { λ r. ⌜ Counts r (now (out .exit)) ⌝ }
+{
+    let want = modes::sender_lengths(mode);
+    let sheet = sheets::sheet(mode, count, n3 < want[3], n4 < want[4], input, out);
+    programs::within(sheet.length, out)
 }
 
-// Reads the input, and writes the sheet. No channel has more than 4,608 bytes in an L1 frame.
+// Writes the text, and says why there is no sheet, or that it could not be written.
+fn tell(text: &[u8]) {
+    if !io::write_all(STDOUT_FILENO, text) {
+        io::write_all(STDERR_FILENO, b"refused: the sheet could not be written\n");
+        return;
+    }
+    if text.len() == 0 {
+        return;
+    }
+    if text[0] == b'N' {
+        io::write_all(STDERR_FILENO, text);
+    }
+}
+
+// A channel with fewer bytes than the mode's is without data.
 fn run(mode: u8, count: u64, n3: usize, n4: usize) {
     let mut input = input_room();
     let n = io::read_full(STDIN_FILENO, &mut input);
-    if n > 1773632 {
-        return refuse();
-    }
-    if count > 64 {
-        return refuse();
-    }
-    if n3 > 4608 {
-        return refuse();
-    }
-    if n4 > 4608 {
-        return refuse();
-    }
     let mut out = output_room();
-    let end = sheets::sheet(mode, count, n3, n4, &input[..n], &mut out);
-    io::write_all(STDOUT_FILENO, &out[..end]);
+    let end = answer(mode, count, n3, n4, &input[..n], &mut out);
+    tell(&out[..end]);
 }
 
 fn main() {

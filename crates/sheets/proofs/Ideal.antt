@@ -2,111 +2,33 @@
 use mathlib.Core.Path.{_≡_, refl, sym, ap, ap₂, subst, _∙_}
 use mathlib.Core.Bool.{Bool, true, false, cond}
 use mathlib.Core.List.{List, [], _∷_, _++_, map, append-assoc}
-use Prim.Native.Nat.{ℕ, zero, suc, _+_, _-_, _*_, _<_, _≤_}
-use native.Mathlib.Nat.{not-suc-le-zero, le-of-suc-le-suc, suc-mul, zero-mul}
+use Prim.Native.Nat.{ℕ, suc, _+_, _*_, _<_}
 use native.Mathlib.Omega.{arith}
-use lib.Dec.{eqb}
-use lib.ListN.{length, getD, take, drop}
-use lib.Seq.{drop-drop, getD-drop}
-use borrow.Author.Tests.{eq-eqb}
+use lib.ListN.{length, getD, drop}
 use Rattle.bits.specs.Bits.{Bytes}
-use Rattle.runs.specs.declared.Answer.{Answer}
 use Rattle.runs.specs.declared.Extended.the-variants.{P3, P4}
-use Rattle.runs.specs.declared.State.{State}
-use Rattle.runs.specs.Answers.{numberOf, onSuccess}
-use Rattle.runs.specs.Lengths.{pidsLen, senderLen}
-use Rattle.runs.specs.MainChannels.{mainOf, p1Len, p2Len}
-use Rattle.runs.specs.Lent.{ByteFrames, Frames, Lent, Matrices, Memory, Result, Signal, filled}
-use Rattle.runs.specs.Runs.{Call, Every, SenderRun, calls, count, frameAt, framesSent, matricesAt, noFrames, noSignal, sendings, signalsSent, succeeded}
-use Rattle.runs.specs.Sending.{sendStep}
-use Rattle.runs.specs.Starting.{start, zeros}
-use Rattle.runs.proofs.Answered.{success-is}
+use Rattle.runs.specs.Lengths.{senderLen}
+use Rattle.runs.specs.Lent.{Frames, Matrices, Signal}
+use Rattle.runs.specs.Runs.{Call, Every, SenderRun, count, frameAt, framesSent, matricesAt, noFrames, noSignal, sendings, signalsSent, succeeded}
+use Rattle.runs.specs.Starting.{zeros}
 use Rattle.runs.proofs.Lists.{length-map}
 use Rattle.runs.proofs.Readable.{start-clear}
-use Rattle.layout.specs.Layout.{cut}
-use Rattle.listing.specs.Lines.{lines}
-use Rattle.programs.specs.Inputs.{framesIn}
+use Rattle.text.specs.Lines.{lines}
 use Rattle.sheetlines.specs.Entries.{asksOf, entryOf}
 use Rattle.sheetlines.specs.Questions.{questionOf}
 use Rattle.sheetlines.specs.declared.questions.Question.{Question}
 use Rattle.sheetlines.specs.declared.entries.Entry.{Entry}
 use Rattle.sheettext.specs.Texts.{answer, ending, entryText, head, valueIn}
 use Rattle.sheettext.specs.Lists.{answered, answers, refusals}
-use Rattle.sheets.specs.Inputs.{behind, emptyLine, frameSize, lents, listIn, older, sent}
-use Rattle.sheets.specs.Sheet.{sheetFor, sheetOf, told}
+use Rattle.sheets.specs.Inputs.{behind, carried, emptyAt, emptyLine, frameSize, listIn}
+use Rattle.sheets.specs.Run.{lents, sent}
+use Rattle.sheets.specs.Sheet.{sheetOf, told}
 use Rattle.sheets.specs.Ideal.{Sent, codedBit, framesAt, idealAnswers, idealSheet}
+use Rattle.sheets.proofs.Sequence.{Ok, bytes-drop, calls-length, lents-bytes, lents-length, meantOf, nth-frame, succeeded-all}
+use Rattle.sheets.proofs.Loop.{on-success}
 use Rattle.sheets.proofs.Older.{older-covered}
 use Rattle.sheets.proofs.Texts.{by-frames, by-list}
 use Rattle.sheets.proofs.Values.{asked-value}
-
--- ---- bytes
-
-pub bytes-drop : (n : ℕ) (l : List ℕ) → Bytes l → Bytes (drop n l)
-bytes-drop n l h j = rw (getD-drop n l j 0) (h (n + j))
-
-pub bytes-take : (n : ℕ) (l : List ℕ) → Bytes l → Bytes (take n l)
-bytes-take zero l h j = omega arith
-bytes-take (suc n) [] h j = omega arith
-bytes-take (suc n) (x ∷ l) h zero = h 0
-bytes-take (suc n) (x ∷ l) h (suc j) = bytes-take n l (λ i. h (suc i)) j
-
-bytes-cut : (from n : ℕ) (l : List ℕ) → Bytes l → Bytes (cut from n l)
-bytes-cut from n l h = bytes-take n (drop from l) (bytes-drop from l h)
-
-pub frames-bytes : (mode n3 n4 : ℕ) (l : List ℕ) → Bytes l → ByteFrames (framesIn mode n3 n4 l)
-unfolding framesIn
-frames-bytes mode n3 n4 l h =
-    let p1 : ℕ = p1Len (mainOf mode) in
-    let p2 : ℕ = p2Len (mainOf mode) in
-    record {
-      p1-bytes = bytes-cut 1 p1 l h;
-      pids-bytes = bytes-cut (1 + p1) pidsLen l h;
-      p2-bytes = bytes-cut (1 + p1 + pidsLen) p2 l h;
-      extended-bytes = λ e. elim e [ P3 ↦ bytes-cut (1 + p1 + pidsLen + p2) n3 l h | P4 ↦ bytes-cut (1 + p1 + pidsLen + p2 + n3) n4 l h ];
-    }
-
-lents-bytes : (mode n3 n4 n : ℕ) (bytes : List ℕ) → Bytes bytes → Every (λ (l : Lent). ByteFrames (l .frames)) (lents mode n3 n4 n bytes)
-unfolding lents
-lents-bytes mode n3 n4 zero bytes h = tt
-lents-bytes mode n3 n4 (suc n) bytes h =
-    (frames-bytes mode n3 n4 (take (frameSize mode n3 n4) bytes) (bytes-take (frameSize mode n3 n4) bytes h), lents-bytes mode n3 n4 n (drop (frameSize mode n3 n4) bytes) (bytes-drop (frameSize mode n3 n4) bytes h))
-
--- ---- a run whose sendings all succeed
-
-abbrev Ok : Call → Type 0
-Ok c = numberOf (c .result .answer) ≡ 0
-
-succeeded-all : (cs : List Call) → Every Ok cs → succeeded cs ≡ cs
-unfolding succeeded
-succeeded-all [] e = refl
-succeeded-all (c ∷ cs) e = rw (eq-eqb _ _ (e .0)) (ap (λ (r : List Call). c ∷ r) (succeeded-all cs (e .1)))
-
-calls-length : (s : State) (m : Memory) (ls : List Lent) → length (calls sendStep s m ls) ≡ length ls
-unfolding calls
-calls-length s m [] = refl
-calls-length s m (l ∷ ls) = ap suc (calls-length _ _ ls)
-
-lents-length : (mode n3 n4 n : ℕ) (bytes : List ℕ) → length (lents mode n3 n4 n bytes) ≡ n
-unfolding lents
-lents-length mode n3 n4 zero bytes = refl
-lents-length mode n3 n4 (suc n) bytes = ap suc (lents-length mode n3 n4 n _)
-
--- the transfer frames of L1 frame t
-abbrev meantOf : ℕ → Call → Frames
-meantOf mode c = filled mode (c .lent .frames)
-
-nth-frame : (mode n3 n4 n t : ℕ) (s : State) (m : Memory) (bytes : List ℕ) → t < n
-    → getD (map (meantOf mode) (calls sendStep s m (lents mode n3 n4 n bytes))) t noFrames ≡ framesAt mode n3 n4 bytes t
-unfolding lents calls framesAt
-nth-frame mode n3 n4 zero t s m bytes h = absurd (not-suc-le-zero h)
-nth-frame mode n3 n4 (suc n) zero s m bytes h =
-    ap (λ (k : ℕ). filled mode (framesIn mode n3 n4 (take (frameSize mode n3 n4) (drop k bytes)))) (sym (zero-mul (frameSize mode n3 n4)))
-nth-frame mode n3 n4 (suc n) (suc t) s m bytes h =
-    let size : ℕ = frameSize mode n3 n4 in
-    let next : size + t * size ≡ suc t * size = omega (arith, suc-mul t size) in
-    let rest : drop (t * size) (drop size bytes) ≡ drop (suc t * size) bytes = drop-drop (t * size) size bytes ∙ ap (λ (k : ℕ). drop k bytes) next in
-    nth-frame mode n3 n4 n t _ _ (drop size bytes) (le-of-suc-le-suc h)
-    ∙ ap (λ (l : List ℕ). filled mode (framesIn mode n3 n4 (take size l))) rest
 
 -- ---- texts with the same values
 
@@ -126,10 +48,6 @@ unfolding answers
 answers-same v w mode count t h [] = refl
 answers-same v w mode count t h (line ∷ ls) =
     ap₂ (λ (a b : List ℕ). a ++ b) (answer-same v w mode count t (questionOf line) (h (questionOf line))) (answers-same v w mode count t h ls)
-
-on-success : {A : Type 0} (a : Answer) (x y : A) → numberOf a ≡ 0 → onSuccess a x y ≡ x
-unfolding onSuccess
-on-success a x y e = rw (success-is a e)
 
 abbrev signalOf : Call → Signal
 signalOf c = c .result .lent .signal
@@ -152,7 +70,13 @@ module _ (mode count : ℕ) (ls : List (List ℕ)) (F : ℕ → Frames) where
 
 -- ---- the theorem
 
-module _ (mode n n3 n4 : ℕ) (input : List ℕ) (small : Bytes input) (w : Sent mode n n3 n4 input) where
+module _ (mode n : ℕ) (without3 without4 : Bool) (input : List ℕ) (small : Bytes input) (w : Sent mode n without3 without4 input) where
+  abbrev n3 : ℕ
+  n3 = carried mode P3 without3
+
+  abbrev n4 : ℕ
+  n4 = carried mode P4 without4
+
   abbrev B : List ℕ
   B = behind input
 
@@ -165,7 +89,7 @@ module _ (mode n n3 n4 : ℕ) (input : List ℕ) (small : Bytes input) (w : Sent
         upon = zeros senderLen mode;
         started = start-clear senderLen mode (older-covered mode (w .mode-older));
         lents = lents mode n3 n4 n B;
-        bytes = lents-bytes mode n3 n4 n B (bytes-drop (emptyLine true input + 1) input small);
+        bytes = lents-bytes mode n3 n4 n B (bytes-drop (emptyLine true input + emptyAt (drop (emptyLine true input) input)) input small);
       }
 
   all-sent : succeeded (sendings mode run) ≡ sent mode n n3 n4 B
@@ -194,15 +118,15 @@ module _ (mode n n3 n4 : ℕ) (input : List ℕ) (small : Bytes input) (w : Sent
       ap (λ (x : Matrices). valueIn x (entryOf mode n q)) (sym (matrices-are t))
       ∙ asked-value mode (w .mode-older) run t (subst (λ (k : ℕ). t < k) (sym run-length) h) (framesAt mode n3 n4 B) (λ u l. frame-is u (omega arith)) n q e
 
-  pub whole-sheet : sheetOf mode n n3 n4 input ≡ idealSheet mode n n3 n4 input
+  pub whole-sheet : sheetOf mode n without3 without4 input ≡ idealSheet mode n without3 without4 input
   unfolding idealSheet
   whole-sheet =
-      sym (by-list mode n n3 n4 input (w .mode-older) (w .list-short) (w .list-ended))
-      ∙ sym (by-frames mode n n3 n4 (listIn input) B true (sym (eq-eqb _ _ (w .whole))) refl)
-      ∙ told-ideal mode n L (framesAt mode n3 n4 B) (sent mode n n3 n4 B) 0 (head mode n ++ refusals mode n 1 L) (w .each)
+      sym (by-list mode n without3 without4 input (w .mode-older) (w .channels-named) (w .count-small) (w .list-short) (w .list-ended))
+      ∙ sym (by-frames mode n without3 without4 n3 n4 (listIn input) B (n * frameSize mode n3 n4) refl (w .whole))
+      ∙ told-ideal mode n L (framesAt mode n3 n4 B) (sent mode n n3 n4 B) 0 (head mode n without3 without4 ++ refusals mode n 1 L) (w .each)
       (λ i u l q.
       let same : i ≡ u = omega arith in
       subst (λ (k : ℕ). answers (valueIn (getD (map signalOf (sent mode n n3 n4 B)) i noSignal .matrices)) mode n k L ≡ answers (codedBit mode (framesAt mode n3 n4 B) k) mode n k L) same
       (answers-same _ _ mode n i (value-is i (omega (arith, sent-length))) L))
-      ∙ ap (λ (k : ℕ). (head mode n ++ refusals mode n 1 L) ++ (idealAnswers mode n L (framesAt mode n3 n4 B) k 0 ++ ending (answered mode n L))) sent-length
-      ∙ append-assoc (head mode n) (refusals mode n 1 L) _
+      ∙ ap (λ (k : ℕ). (head mode n without3 without4 ++ refusals mode n 1 L) ++ (idealAnswers mode n L (framesAt mode n3 n4 B) k 0 ++ ending (answered mode n L))) sent-length
+      ∙ append-assoc (head mode n without3 without4) (refusals mode n 1 L) _

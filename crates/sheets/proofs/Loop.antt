@@ -5,10 +5,8 @@ use mathlib.Core.List.{List, [], _∷_, _++_}
 use Prim.Native.Nat.{ℕ, zero, suc, _+_, _-_, _*_, _<_, _≤_}
 use native.Mathlib.Nat.{suc-mul}
 use native.Mathlib.Omega.{arith}
-use lib.Dec.{eqb}
 use lib.ListN.{length, take, drop, length-drop}
 use lib.Seq.{drop-drop, length-take-le}
-use borrow.Author.Tests.{eqb-true, eqb-false}
 use Rattle.runs.specs.declared.Answer.{Answer}
 use Rattle.runs.specs.declared.State.{State}
 use Rattle.runs.specs.Answers.{numberOf, onSuccess}
@@ -23,14 +21,14 @@ use Rattle.runs.proofs.Readable.{start-clear}
 use Rattle.runs.proofs.States.{start-ok}
 use Rattle.calls.specs.Called.{startGave}
 use Rattle.calls.specs.declared.states.Outcome.{Outcome}
-use Rattle.frames.specs.Read.{handed}
-use Rattle.listing.specs.Lines.{lines}
-use Rattle.programs.specs.Inputs.{framesIn}
+use Rattle.layout.specs.Inputs.{framesIn, handed}
+use Rattle.text.specs.Lines.{lines}
 use Rattle.sheettext.specs.Texts.{ending, valueIn}
 use Rattle.sheettext.specs.Lists.{answered, answers, asking}
-use Rattle.sheettext.proofs.Walk.{lines-length}
+use Rattle.text.proofs.Walk.{lines-length}
 use Rattle.sheets.specs.declared.turns.Turn.{Turn}
-use Rattle.sheets.specs.Inputs.{blank, frameSize, lents, older, sent}
+use Rattle.sheets.specs.Inputs.{frameSize, older}
+use Rattle.sheets.specs.Run.{blank, lents, sent}
 use Rattle.sheets.specs.Sheet.{noFrame, told}
 use Rattle.sheets.specs.Turned.{Turned}
 use Rattle.sheets.proofs.Older.{older-covered}
@@ -41,9 +39,13 @@ pub mode-kept : (s : State) (m : Memory) (l : Lent) → sendStep s m l .state .m
 unfolding sendStep sending.sent next
 mode-kept s m l = on-both (λ (g : Result). g .state .mode ≡ s .mode) (sendAnswer s m l) _ _ refl refl
 
-on-success : {A : Type 0} (a : Answer) (x y : A) → numberOf a ≡ 0 → onSuccess a x y ≡ x
+pub on-success : {A : Type 0} (a : Answer) (x y : A) → numberOf a ≡ 0 → onSuccess a x y ≡ x
 unfolding onSuccess
 on-success a x y e = rw (success-is a e)
+
+size-positive : (mode n3 n4 : ℕ) → 0 < frameSize mode n3 n4
+unfolding frameSize
+size-positive mode n3 n4 = omega arith
 
 -- what is lent for the L1 frame at the start of these bytes, and what its sending gives
 abbrev first : (mode n3 n4 : ℕ) → State → Memory → List ℕ → Result
@@ -58,7 +60,7 @@ module _ (mode count n3 n4 : ℕ) (ls : List (List ℕ)) (k t : ℕ) (text : Lis
   told-on e = on-success (first mode n3 n4 s m bytes .answer) _ _ e
 
   told-stops : (numberOf (first mode n3 n4 s m bytes .answer) ≡ 0 → ⊥)
-      → told mode count ls t text (calls sendStep s m (lents mode n3 n4 (suc k) bytes)) ≡ noFrame t
+      → told mode count ls t text (calls sendStep s m (lents mode n3 n4 (suc k) bytes)) ≡ noFrame t (first mode n3 n4 s m bytes .answer)
   unfolding lents calls told
   told-stops ne = not-success (first mode n3 n4 s m bytes .answer) _ _ (λ z. ne (ap numberOf z))
 
@@ -113,6 +115,9 @@ module _ {mode count n3 n4 : ℕ} {list bytes text : List ℕ} {at : ℕ} {out :
       let k : to - from ≡ frameSize mode n3 n4 = omega arith in
       ap (λ (j : ℕ). length (take j (drop from bytes))) k ∙ length-take-le (frameSize mode n3 n4) (drop from bytes) (omega (arith, product, w .size))
 
+  pub part-positive : (n to : ℕ) → n ≡ frameSize mode n3 n4 → to ≡ from + n → 0 < length (take (to - from) (drop from bytes))
+  part-positive n to e f = omega (arith, part-length n to e f, size-positive mode n3 n4)
+
   room-split : total (count - t) t (lines list) ≡ asking t (lines list) + total (count - (t + 1)) (suc t) (lines list)
   room-split = ap (λ (k : ℕ). total k t (lines list)) more ∙ total-on (count - (t + 1)) t (lines list)
 
@@ -134,15 +139,18 @@ module _ {mode count n3 n4 : ℕ} {list bytes text : List ℕ} {at : ℕ} {out :
         let k : to - from ≡ frameSize mode n3 n4 = omega arith in
         g-is ∙ ap (λ (k : ℕ). sendStep s m (handed (framesIn mode n3 n4 (take k (drop from bytes))) (blank mode))) k
 
-    pub going-stops : r .sent ≡ false → noFrame t ≡ told mode count (lines list) 0 text (sent mode count n3 n4 bytes)
-    going-stops f =
-        sym (opened ∙ told-stops mode count n3 n4 (lines list) (count - (t + 1)) t (take end out) s m (drop from bytes)
-        (λ z. eqb-false _ _ (sym (e .sent) ∙ f) (ap (λ (x : Result). numberOf (x .answer)) same-frame ∙ z)))
+    same-answer : r .answer ≡ G .answer
+    same-answer = e .answer ∙ ap (λ (x : Result). x .answer) same-frame
 
-    pub going-on : r .sent ≡ true → Going mode count n3 n4 list bytes text at new (r .state) after (r .end) to (t + 1)
+    pub going-stops : (numberOf (r .answer) ≡ 0 → ⊥) → noFrame t (r .answer) ≡ told mode count (lines list) 0 text (sent mode count n3 n4 bytes)
+    going-stops ne =
+        ap (noFrame t) same-answer
+        ∙ sym (opened ∙ told-stops mode count n3 n4 (lines list) (count - (t + 1)) t (take end out) s m (drop from bytes) (λ z. ne (ap numberOf same-answer ∙ z)))
+
+    pub going-on : numberOf (r .answer) ≡ 0 → Going mode count n3 n4 list bytes text at new (r .state) after (r .end) to (t + 1)
     going-on f =
         let p = e .text f in
-        let ok : numberOf (G .answer) ≡ 0 = sym (ap (λ (x : Result). numberOf (x .answer)) same-frame) ∙ eqb-true _ _ (sym (e .sent) ∙ f) in
+        let ok : numberOf (G .answer) ≡ 0 = sym (ap numberOf same-answer) ∙ f in
         let one : suc t ≡ t + 1 = omega arith in
         let place : from + frameSize mode n3 n4 ≡ to = omega arith in
         let rest : drop (frameSize mode n3 n4) (drop from bytes) ≡ drop to bytes =

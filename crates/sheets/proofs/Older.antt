@@ -1,6 +1,6 @@
 -- MP1, MP2, MP3 and MP11, and the buffers that the code lends in them. Assumes nothing.
 use mathlib.Core.Path.{_≡_, refl, sym, ap, subst, _∙_}
-use mathlib.Core.Bool.{Bool, true, false, cond, _||_, true≢false}
+use mathlib.Core.Bool.{Bool, true, false, not, _&&_, _||_}
 use mathlib.Core.List.{List, []}
 use Prim.Native.Nat.{ℕ, _+_, _≤_}
 use native.Mathlib.Omega.{arith}
@@ -8,19 +8,22 @@ use lib.Dec.{eqb}
 use lib.ListN.{getD, take, replicate}
 use borrow.Author.Tests.{eqb-true}
 use Rattle.control.specs.Modes.{covered, modes, oneOf}
+use Rattle.runs.specs.declared.Extended.{Extended}
 use Rattle.runs.specs.declared.Extended.the-variants.{P3, P4}
 use Rattle.runs.specs.declared.Kind.{Kind}
 use Rattle.runs.specs.declared.Kind.the-variants.{Unused, Narrow, Wide}
 use Rattle.runs.specs.declared.Main.{Main}
 use Rattle.runs.specs.declared.Main.the-variants.{Plain, Mp5, Mp6}
 use Rattle.runs.specs.MainChannels.{mainOf, p1Len, p2Len, delayLen}
-use Rattle.runs.specs.Lengths.{kindOf, matrixLen, pidsLen, px2Len, pmLen, controlLen, senderLen}
+use Rattle.runs.specs.Lengths.{frameLen, kindOf, matrixLen, pidsLen, px2Len, pmLen, controlLen, senderLen}
 use Rattle.runs.specs.Starting.{zeros}
 use Rattle.calls.specs.Called.{memory, signal}
 use Rattle.modes.specs.Sizes.{wanted}
-use Rattle.layout.proofs.Cut.{entry-is}
-use Rattle.frames.proofs.Blank.{zeros-of}
-use Rattle.sheets.specs.Inputs.{blank, older}
+use Rattle.layout.proofs.Cut.{entry-is, frame-small}
+use Rattle.layout.proofs.Zeros.{zeros-of}
+use Rattle.arguments.specs.Arguments.{carriedOf, misnamed}
+use Rattle.sheets.specs.Inputs.{carried, frameSize, named, older}
+use Rattle.sheets.specs.Run.{blank}
 
 pub older-cases : (P : ℕ → Type 0) → P 1 → P 2 → P 3 → P 11 → (mode : ℕ) → older mode ≡ true → P mode
 unfolding older
@@ -87,6 +90,34 @@ module _ (mode : ℕ) (want : List ℕ) (lengths : want ≡ wanted mode (senderL
       none-delayed : older mode ≡ true → [] ≡ replicate {A = ℕ} (delayLen (mainOf mode)) 0
       none-delayed o = sym (ap (λ k. replicate {A = ℕ} (delayLen k) 0) (older-main mode o))
 
+module _ (mode : ℕ) (without3 without4 : Bool) (want : List ℕ) (lengths : want ≡ wanted mode (senderLen (kindOf mode P3)) (senderLen (kindOf mode P4))) where
+  -- the channels without data
+  pub named-first : (b : Bool) → b ≡ misnamed (getD want 3 0) without3 → b ≡ true → false ≡ named mode without3 without4
+  unfolding named
+  named-first b e f =
+      let m : misnamed (frameLen (kindOf mode P3)) without3 ≡ true = ap (λ (k : ℕ). misnamed k without3) (sym (entry-is mode _ _ want lengths 3)) ∙ sym e ∙ f in
+      sym (rw m)
+
+  pub named-second : (b : Bool) → b ≡ misnamed (getD want 3 0) without3 → b ≡ false → (c : Bool) → c ≡ misnamed (getD want 4 0) without4
+      → not c ≡ named mode without3 without4
+  unfolding named
+  named-second b e f c g =
+      let m : misnamed (frameLen (kindOf mode P3)) without3 ≡ false = ap (λ (k : ℕ). misnamed k without3) (sym (entry-is mode _ _ want lengths 3)) ∙ sym e ∙ f in
+      ap not (g ∙ ap (λ (k : ℕ). misnamed k without4) (entry-is mode _ _ want lengths 4)) ∙ sym (rw m)
+
+-- the bytes of P3 and P4
+module _ (mode : ℕ) (want : List ℕ) (lengths : want ≡ wanted mode (senderLen (kindOf mode P3)) (senderLen (kindOf mode P4))) (without : Bool) (n : ℕ) where
+  pub carried-p3 : n ≡ carriedOf (getD want 3 0) without → n ≡ carried mode P3 without
+  carried-p3 e = e ∙ ap (λ (k : ℕ). carriedOf k without) (entry-is mode _ _ want lengths 3)
+
+  pub carried-p4 : n ≡ carriedOf (getD want 4 0) without → n ≡ carried mode P4 without
+  carried-p4 e = e ∙ ap (λ (k : ℕ). carriedOf k without) (entry-is mode _ _ want lengths 4)
+
+pub carried-small : (mode : ℕ) (e : Extended) (without : Bool) (n : ℕ) → n ≡ carried mode e without → n ≤ 4608
+unfolding carriedOf
+carried-small mode e true n q = omega arith
+carried-small mode e false n q = omega (arith, frame-small (kindOf mode e))
+
 -- the bytes of P1, PIDS and P2
 pub main-sizes : (mode : ℕ) → p1Len (mainOf mode) + pidsLen + p2Len (mainOf mode) ≤ 32768
 unfolding pidsLen
@@ -96,3 +127,23 @@ main-sizes mode = go (mainOf mode)
     go Plain = omega arith
     go Mp5 = omega arith
     go Mp6 = omega arith
+
+module _ (mode n3 n4 : ℕ) (want : List ℕ) (lengths : want ≡ wanted mode (senderLen (kindOf mode P3)) (senderLen (kindOf mode P4))) where
+  is : (k : ℕ) → getD want k 0 ≡ getD (wanted mode (senderLen (kindOf mode P3)) (senderLen (kindOf mode P4))) k 0
+  is = entry-is mode _ _ want lengths
+
+  pub size-is : 1 + getD want 0 0 + getD want 1 0 + getD want 2 0 + n3 + n4 ≡ frameSize mode n3 n4
+  unfolding frameSize
+  size-is =
+      let a : getD want 0 0 ≡ p1Len (mainOf mode) = is 0 in
+      let b : getD want 1 0 ≡ pidsLen = is 1 in
+      let c : getD want 2 0 ≡ p2Len (mainOf mode) = is 2 in
+      omega arith
+
+pub sizes-small : (mode : ℕ) (want : List ℕ) → want ≡ wanted mode (senderLen (kindOf mode P3)) (senderLen (kindOf mode P4))
+    → getD want 0 0 + getD want 1 0 + getD want 2 0 ≤ 32768
+sizes-small mode want lengths =
+    let a : getD want 0 0 ≡ p1Len (mainOf mode) = entry-is mode _ _ want lengths 0 in
+    let b : getD want 1 0 ≡ pidsLen = entry-is mode _ _ want lengths 1 in
+    let c : getD want 2 0 ≡ p2Len (mainOf mode) = entry-is mode _ _ want lengths 2 in
+    omega (arith, main-sizes mode)

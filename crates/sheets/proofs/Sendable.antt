@@ -1,6 +1,6 @@
 -- Which inputs have all their L1 frames sent: each number is at most 7, and the input has all bytes of P3 and P4, or none. Assumes nothing.
 use mathlib.Core.Path.{_≡_, refl, sym, ap, subst, _∙_}
-use mathlib.Core.Bool.{true}
+use mathlib.Core.Bool.{Bool, true, false}
 use mathlib.Core.Logic.{_⊎_, inl, inr}
 use mathlib.Core.Option.{none}
 use mathlib.Core.List.{List, [], _∷_, _++_}
@@ -29,14 +29,15 @@ use Rattle.runs.proofs.Readable.{start-clear}
 use Rattle.runs.proofs.Sender.{MemoryRight, memory-right, zeros-right}
 use Rattle.runs.proofs.States.{fresh-at, next-at, start-ok, valid-at}
 use Rattle.runs.proofs.Succeeds.{send-succeeds}
-use Rattle.frames.specs.Read.{handed}
+use Rattle.layout.specs.Inputs.{framesIn, handed}
 use Rattle.layout.specs.Layout.{cut}
-use Rattle.programs.specs.Inputs.{framesIn}
-use Rattle.sheets.specs.Inputs.{behind, blank, emptyLine, frameSize, lents, older, sent}
+use Rattle.arguments.specs.Arguments.{carriedOf}
+use Rattle.sheets.specs.Inputs.{behind, carried, emptyAt, emptyLine, frameSize, named, older}
+use Rattle.sheets.specs.Run.{blank, lents, sent}
 use Rattle.sheets.specs.Ideal.{Sent}
-use Rattle.sheets.proofs.Ideal.{bytes-drop, bytes-take, frames-bytes}
+use Rattle.sheets.proofs.Sequence.{bytes-drop, bytes-take, frames-bytes}
 use Rattle.sheets.proofs.Older.{older-covered}
-use Rattle.sheets.proofs.Whole.{cut-length}
+use Rattle.sheets.proofs.Turning.{cut-length}
 
 abbrev OkCall : Call → Type 0
 OkCall c = numberOf (c .result .answer) ≡ 0
@@ -142,24 +143,34 @@ module _ (mode n3 n4 : ℕ) (c3 : Carried mode P3 n3) (c4 : Carried mode P4 n4) 
         next-low t h = let e : suc t * Size ≡ Size + t * Size = omega (arith, suc-mul t Size) in subst (λ (k : ℕ). getD bytes k 0 < 8) e h
 
 -- such an input
-pub record Sendable (mode count n3 n4 : ℕ) (input : List ℕ) : Type 0 where
+pub record Sendable (mode count : ℕ) (without3 without4 : Bool) (input : List ℕ) : Type 0 where
   pub mode-older : older mode ≡ true
+  pub channels-named : named mode without3 without4 ≡ true
+  pub count-small : count ≤ 64
   pub list-short : emptyLine true input < 4096
   pub list-ended : emptyLine true input < length input
-  pub whole : length (behind input) ≡ count * frameSize mode n3 n4
-  pub for3 : Carried mode P3 n3
-  pub for4 : Carried mode P4 n4
-  pub numbers : (t : ℕ) → t < count → getD (behind input) (t * frameSize mode n3 n4) 0 < 8
+  pub whole : length (behind input) ≡ count * frameSize mode (carried mode P3 without3) (carried mode P4 without4)
+  pub numbers : (t : ℕ) → t < count → getD (behind input) (t * frameSize mode (carried mode P3 without3) (carried mode P4 without4)) 0 < 8
 
-pub sendable-sent : (mode count n3 n4 : ℕ) (input : List ℕ) → Bytes input → Sendable mode count n3 n4 input → Sent mode count n3 n4 input
+carried-is : (mode : ℕ) (e : Extended) (without : Bool) → Carried mode e (carried mode e without)
+unfolding carriedOf
+carried-is mode e true = inl refl
+carried-is mode e false = inr refl
+
+pub sendable-sent : (mode count : ℕ) (without3 without4 : Bool) (input : List ℕ) → Bytes input → Sendable mode count without3 without4 input
+    → Sent mode count without3 without4 input
 unfolding sent
-sendable-sent mode count n3 n4 input small w =
+sendable-sent mode count without3 without4 input small w =
+    let n3 : ℕ = carried mode P3 without3 in
+    let n4 : ℕ = carried mode P4 without4 in
     let cov = older-covered mode (w .mode-older) in
     let begun = start-ok senderLen mode (zeros senderLen mode) (start-clear senderLen mode cov) .1 in
-    let run = each-sent mode n3 n4 (w .for3) (w .for4) cov count 0 (omega arith) 0 (zeros senderLen mode) (zeros-right senderLen mode) (behind input)
-    (bytes-drop (emptyLine true input + 1) input small) (omega (arith, w .whole)) (w .numbers) in
+    let run = each-sent mode n3 n4 (carried-is mode P3 without3) (carried-is mode P4 without4) cov count 0 (omega arith) 0 (zeros senderLen mode) (zeros-right senderLen mode) (behind input)
+    (bytes-drop (emptyLine true input + emptyAt (drop (emptyLine true input) input)) input small) (omega (arith, w .whole)) (w .numbers) in
     record {
       mode-older = w .mode-older;
+      channels-named = w .channels-named;
+      count-small = w .count-small;
       list-short = w .list-short;
       list-ended = w .list-ended;
       whole = w .whole;

@@ -1,7 +1,7 @@
 -- The sheet that SY_IDD_1011s lays down for the transfer frames of an input: every value is a coded bit of theirs. No matrix and no run is named here.
-use Prim.Native.Nat.{ℕ, zero, suc, _+_, _*_, _<_}
+use Prim.Native.Nat.{ℕ, zero, suc, _+_, _*_, _<_, _≤_}
 use mathlib.Core.Path.{_≡_}
-use mathlib.Core.Bool.{true, cond}
+use mathlib.Core.Bool.{Bool, true, cond}
 use mathlib.Core.List.{List, [], _++_}
 use lib.Dec.{eqb}
 use lib.ListN.{length, take, drop}
@@ -16,13 +16,14 @@ use Rattle.runs.specs.Lengths.{kindOf}
 use Rattle.runs.specs.Lent.{Frames, filled, frameOf}
 use Rattle.runs.specs.Runs.{Call, Every}
 use Rattle.queries.specs.FinderPX.{frameCoded}
-use Rattle.programs.specs.Inputs.{framesIn}
-use Rattle.listing.specs.Lines.{lines}
+use Rattle.layout.specs.Inputs.{framesIn}
+use Rattle.text.specs.Lines.{lines}
 use Rattle.sheetlines.specs.declared.entries.Entry.{Entry}
 use Rattle.sheetlines.specs.declared.entries.Entry.the-variants as entry
 use Rattle.sheettext.specs.Texts.{ending, head}
 use Rattle.sheettext.specs.Lists.{answered, answers, refusals}
-use Rattle.sheets.specs.Inputs.{behind, emptyLine, frameSize, listIn, older, sent}
+use Rattle.sheets.specs.Inputs.{behind, carried, emptyLine, frameSize, listIn, named, older}
+use Rattle.sheets.specs.Run.{sent}
 
 -- the transfer frames of L1 frame t, in the bytes behind the list; no bytes for P3 or P4 mean zeros (S-5)
 unfoldable pub framesAt : (mode n3 n4 : ℕ) (bytes : List ℕ) → ℕ → Frames
@@ -46,16 +47,18 @@ unfoldable pub idealAnswers : (mode count : ℕ) (list : List (List ℕ)) (F : �
 idealAnswers mode count list F zero t = []
 idealAnswers mode count list F (suc n) t = answers (codedBit mode F t) mode count t list ++ idealAnswers mode count list F n (suc t)
 
-unfoldable pub idealSheet : (mode count n3 n4 : ℕ) (input : List ℕ) → List ℕ
-idealSheet mode count n3 n4 input =
-    head mode count
-    ++ (refusals mode count 1 (lines (listIn input))
-    ++ (idealAnswers mode count (lines (listIn input)) (framesAt mode n3 n4 (behind input)) count 0 ++ ending (answered mode count (lines (listIn input)))))
+unfoldable pub idealSheet : (mode count : ℕ) (without3 without4 : Bool) (input : List ℕ) → List ℕ
+idealSheet mode count without3 without4 input =
+    let list = lines (listIn input) in
+    let F = framesAt mode (carried mode P3 without3) (carried mode P4 without4) (behind input) in
+    head mode count without3 without4 ++ (refusals mode count 1 list ++ (idealAnswers mode count list F count 0 ++ ending (answered mode count list)))
 
 -- an input whose L1 frames are all sent
-pub record Sent (mode count n3 n4 : ℕ) (input : List ℕ) : Type 0 where
+pub record Sent (mode count : ℕ) (without3 without4 : Bool) (input : List ℕ) : Type 0 where
   pub mode-older : older mode ≡ true
+  pub channels-named : named mode without3 without4 ≡ true
+  pub count-small : count ≤ 64
   pub list-short : emptyLine true input < 4096
   pub list-ended : emptyLine true input < length input
-  pub whole : length (behind input) ≡ count * frameSize mode n3 n4
-  pub each : Every (λ (c : Call). numberOf (c .result .answer) ≡ 0) (sent mode count n3 n4 (behind input))
+  pub whole : length (behind input) ≡ count * frameSize mode (carried mode P3 without3) (carried mode P4 without4)
+  pub each : Every (λ (c : Call). numberOf (c .result .answer) ≡ 0) (sent mode count (carried mode P3 without3) (carried mode P4 without4) (behind input))

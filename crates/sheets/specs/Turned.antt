@@ -1,16 +1,14 @@
--- For the code alone: what a sending and a turn of the loop leave.
-use Prim.Native.Nat.{ℕ, _+_, _*_}
+-- For the code alone: what a sending and a turn of the loop leave, and a text in a buffer.
+use Prim.Native.Nat.{ℕ, _+_, _*_, _≤_}
 use mathlib.Core.Path.{_≡_}
-use mathlib.Core.Bool.{true}
 use mathlib.Core.List.{List}
-use lib.Dec.{eqb}
-use lib.ListN.{length}
+use lib.ListN.{length, take}
 use Rattle.runs.specs.declared.State.{State}
 use Rattle.runs.specs.Answers.{numberOf}
 use Rattle.runs.specs.Lent.{Matrices, Memory, Result}
 use Rattle.calls.specs.declared.states.Outcome.{Outcome}
-use Rattle.listing.specs.Lines.{lines}
-use Rattle.listing.specs.Running.{Put}
+use Rattle.text.specs.Lines.{lines}
+use Rattle.text.specs.Put.{Put}
 use Rattle.sheettext.specs.Texts.{valueIn}
 use Rattle.sheettext.specs.Lists.{answers, asking}
 use Rattle.sheets.specs.declared.turns.Turn.{Turn}
@@ -24,8 +22,13 @@ pub record Gave (g : Result) (r : Outcome) (m : Memory) (x : Matrices) : Type 0 
 
 -- a turn whose sending gave g, and put the answers of L1 frame t behind `at` if it succeeded
 pub record Turned (g : Result) (mode count t : ℕ) (list : List ℕ) (old new : List ℕ) (at : ℕ) (r : Turn) (m : Memory) : Type 0 where
-  pub sent : r .sent ≡ eqb (numberOf (g .answer)) 0
+  pub answer : r .answer ≡ g .answer
   pub state : r .state ≡ g .state
   pub memory : m ≡ g .memory
   pub size : length new ≡ length old
-  pub text : r .sent ≡ true → Put old new at (r .end) (200 * asking t (lines list)) (answers (valueIn (g .lent .signal .matrices)) mode count t (lines list))
+  pub text : numberOf (r .answer) ≡ 0 → Put old new at (r .end) (200 * asking t (lines list)) (answers (valueIn (g .lent .signal .matrices)) mode count t (lines list))
+
+-- a buffer begins with a text of n bytes
+pub record Begins (out : List ℕ) (n : ℕ) (text : List ℕ) : Type 0 where
+  pub within : n ≤ length out
+  pub holds : take n out ≡ text

@@ -1,5 +1,7 @@
 // An L1 frame sent, and its answers put.
-use layer1::Outcome;
+use calls::Outcome;
+use layout::end_of;
+use runs::Answer;
 use runs::State;
 ghost use mathlib.Core.Path.{_≡_};
 ghost use mathlib.Core.Bool.{true};
@@ -8,16 +10,16 @@ ghost use lib.ListN.{length, replicate};
 ghost use Rattle.runs.specs.Lengths.{controlLen};
 ghost use Rattle.runs.specs.Sending.{sendStep};
 ghost use Rattle.calls.specs.Called.{matrices, memory, signal};
-ghost use Rattle.frames.specs.Read.{handed};
-ghost use Rattle.programs.specs.Inputs.{framesIn};
-ghost use Rattle.listing.specs.Lines.{lines};
+ghost use Rattle.layout.specs.Inputs.{framesIn, handed};
+ghost use Rattle.text.specs.Lines.{lines};
 ghost use Rattle.sheettext.specs.Lists.{asking};
-ghost use Rattle.sheets.specs.Inputs.{blank, frameSize, older};
+ghost use Rattle.sheets.specs.Inputs.{older};
+ghost use Rattle.sheets.specs.Run.{blank};
 ghost use Rattle.sheets.specs.Turned.{Gave, Turned};
 
-// Whether the L1 frame was sent, the state after it, and where the text ends.
+// The answer of a sending, the state after it, and where the text ends.
 pub struct Turn {
-    pub sent: bool,
+    pub answer: Answer,
     pub state: State,
     pub end: usize,
 }
@@ -35,16 +37,27 @@ fn send_frame(
     memory4: &mut [u8],
     delay: &mut [u8],
 ) -> Outcome
-    requires { ⌜ length (now bytes) ≡ frameSize (state .mode) n3 n4 ⌝ }
+    requires { ⌜ 0 < length (now bytes) ⌝ }
     ensures { λ r. ⌜ Gave (sendStep state (memory (now (memory3 .entry)) (now (memory4 .entry)) (now (delay .entry))) (handed (framesIn (state .mode) n3 n4 (now (bytes .entry))) (signal (now (pm .entry)) (now (px1 .entry)) (now (px2 .entry)) (replicate controlLen 0))))
         r (memory (now (memory3 .exit)) (now (memory4 .exit)) (now (delay .exit))) (matrices (now (pm .exit)) (now (px1 .exit)) (now (px2 .exit))) ⌝ }
 {
+    let n = bytes.len();
+    let want = modes::sender_lengths(state.mode);
+    let z = end_of(0, 1, n);
+    let a = end_of(z, want[0], n);
+    let b = end_of(a, want[1], n);
+    let c = end_of(b, want[2], n);
+    let d = end_of(c, n3, n);
+    let e = end_of(d, n4, n);
     let mut control = [0u8; 4096];
-    programs::send_input(
+    sending::send(
         state,
-        n3,
-        n4,
-        bytes,
+        bytes[0],
+        &bytes[z..a],
+        &bytes[a..b],
+        &bytes[b..c],
+        &bytes[c..d],
+        &bytes[d..e],
         pm,
         px1,
         px2,
@@ -74,23 +87,23 @@ fn send_and_put(
     out: &mut [u8],
     at: usize,
 ) -> Turn
-    requires { ⌜ (length (now bytes) ≡ frameSize (state .mode) n3 n4) × (at + 200 * asking t (lines (now list)) + 200 ≤ length (now out)) × (length (now list) < 2 ^ 32) ⌝ }
+    requires { ⌜ (0 < length (now bytes)) × (at + 200 * asking t (lines (now list)) + 200 ≤ length (now out)) × (length (now list) < 2 ^ 32) ⌝ }
     ensures { λ r. ⌜ Turned (sendStep state (memory (now (memory3 .entry)) (now (memory4 .entry)) (now (delay .entry))) (handed (framesIn (state .mode) n3 n4 (now (bytes .entry))) (signal (now (pm .entry)) (now (px1 .entry)) (now (px2 .entry)) (replicate controlLen 0))))
         mode count t (now (list .entry)) (now (out .entry)) (now (out .exit)) at r (memory (now (memory3 .exit)) (now (memory4 .exit)) (now (delay .exit))) ⌝ }
 {
     let sent = send_frame(state, n3, n4, bytes, pm, px1, px2, memory3, memory4, delay);
     let answer = sent.answer;
     let next = sent.state;
-    if layer1::number(answer) != 0 {
+    if causes::number(answer) != 0 {
         return Turn {
-            sent: false,
+            answer,
             state: next,
             end: at,
         };
     }
     let end = sheettext::put_answers(out, at, mode, count, t, list, pm, px1, px2);
     Turn {
-        sent: true,
+        answer,
         state: next,
         end,
     }
@@ -112,11 +125,11 @@ pub fn take_turn(
     out: &mut [u8],
     at: usize,
 ) -> Turn
-    requires { ⌜ (state .mode ≡ mode) × (older mode ≡ true) × (length (now bytes) ≡ frameSize mode n3 n4) × (at + 200 * asking t (lines (now list)) + 200 ≤ length (now out)) × (length (now list) < 2 ^ 32) ⌝ }
+    requires { ⌜ (state .mode ≡ mode) × (older mode ≡ true) × (0 < length (now bytes)) × (at + 200 * asking t (lines (now list)) + 200 ≤ length (now out)) × (length (now list) < 2 ^ 32) ⌝ }
     ensures { λ r. ⌜ Turned (sendStep state (memory (now (memory3 .entry)) (now (memory4 .entry)) (now (delay .entry))) (handed (framesIn mode n3 n4 (now (bytes .entry))) (blank mode)))
         mode count t (now (list .entry)) (now (out .entry)) (now (out .exit)) at r (memory (now (memory3 .exit)) (now (memory4 .exit)) (now (delay .exit))) ⌝ }
 {
-    let want = layer1::sender_lengths(mode);
+    let want = modes::sender_lengths(mode);
     let c = want[6];
     let d = want[7];
     let mut pm = [0u8; 46080];

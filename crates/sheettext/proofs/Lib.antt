@@ -1,3 +1,2 @@
-pub mod Walk
-pub mod Left
+mod Heads
 mod Said

@@ -5,16 +5,16 @@ use mathlib.Core.List.{List, [], _∷_, _++_}
 use Prim.Native.Nat.{ℕ, _+_, _*_, _≤_}
 use native.Mathlib.Omega.{arith}
 use lib.ListN.{length}
-use Rattle.listing.specs.Printed.{refused}
-use Rattle.listing.specs.Running.{Put}
-use Rattle.listing.proofs.Stored.{put-text, put-most}
+use Rattle.text.specs.Refused.{refused}
+use Rattle.text.specs.Put.{Put}
+use Rattle.text.proofs.Stored.{put-text, put-most}
 use Rattle.sheetlines.specs.Entries.{asksOf, entryOf}
 use Rattle.sheetlines.specs.Questions.{questionOf}
 use Rattle.sheetlines.specs.declared.questions.Question.{Question}
 use Rattle.sheetlines.specs.declared.entries.Entry.{Entry}
 use Rattle.sheettext.specs.Texts.{answer, entryText, isRefused}
 use Rattle.sheettext.specs.Lists.{answered, answers, asking, asks, refusal, refusals}
-use Rattle.sheettext.proofs.Left.{put-nothing}
+use Rattle.text.proofs.Left.{put-nothing}
 
 -- ---- a line
 

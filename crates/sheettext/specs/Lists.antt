@@ -2,7 +2,7 @@
 use Prim.Native.Nat.{ℕ, _+_}
 use mathlib.Core.Bool.{cond}
 use mathlib.Core.List.{List, [], _∷_, _++_}
-use Rattle.listing.specs.Printed.{refused}
+use Rattle.text.specs.Refused.{refused}
 use Rattle.sheetlines.specs.Entries.{asksOf, entryOf}
 use Rattle.sheetlines.specs.Questions.{questionOf}
 use Rattle.sheetlines.specs.declared.questions.Question.{Question}

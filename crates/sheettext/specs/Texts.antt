@@ -1,11 +1,12 @@
 -- House matter: the lines of an answer sheet, as ASCII bytes.
 use Prim.Native.Nat.{ℕ}
-use mathlib.Core.Bool.{Bool, true, false, cond}
-use mathlib.Core.List.{List, [], _∷_, _++_}
+use mathlib.Core.Bool.{Bool, true, false, cond, _||_}
+use mathlib.Core.List.{List, [], _++_}
 use lib.Dec.{eqb}
 use Rattle.bits.specs.Bits.{bitAt}
 use Rattle.runs.specs.Lent.{Matrices}
-use Rattle.listing.specs.Numbers.{decimal}
+use Rattle.text.specs.Letters.{ascii}
+use Rattle.text.specs.Numbers.{decimal}
 use Rattle.sheetlines.specs.Entries.{asksOf, entryOf}
 use Rattle.sheetlines.specs.declared.questions.Question.{Question}
 use Rattle.sheetlines.specs.declared.questions.Question.the-variants.{Pm, Px, Wrong}
@@ -14,29 +15,36 @@ use Rattle.sheetlines.specs.declared.entries.Entry.the-variants.{P1, Pids, Exte
 
 -- a number and a space; a number that ends its line
 abbrev pub word : ℕ → List ℕ
-word n = decimal n ++ (32 ∷ [])
+word n = decimal n ++ ascii " "
 
 abbrev pub last : ℕ → List ℕ
-last n = decimal n ++ (10 ∷ [])
+last n = decimal n ++ ascii "\n"
 
--- MP and the mode's number, and how many L1 frames the sheet is of
-unfoldable pub head : (mode count : ℕ) → List ℕ
-head mode count = (77 ∷ 80 ∷ []) ++ (word mode ++ last count)
+-- the channels without data
+unfoldable pub without : (without3 without4 : Bool) → List ℕ
+without without3 without4 = cond without3 (cond without4 (ascii "without P3 P4\n") (ascii "without P3\n")) (ascii "without P4\n")
 
--- END and how many answers the sheet has
+unfoldable pub counted : (count : ℕ) (without3 without4 : Bool) → List ℕ
+counted count without3 without4 = cond (without3 || without4) (word count ++ without without3 without4) (last count)
+
+-- the first line: the mode, how many L1 frames the sheet is of, and the channels without data
+unfoldable pub head : (mode count : ℕ) (without3 without4 : Bool) → List ℕ
+head mode count without3 without4 = ascii "MP" ++ (word mode ++ counted count without3 without4)
+
+-- the last line: how many answers the sheet has
 unfoldable pub ending : ℕ → List ℕ
-ending n = (69 ∷ 78 ∷ 68 ∷ 32 ∷ []) ++ last n
+ending n = ascii "END " ++ last n
 
 -- PX1 and PX2, P3 and P4
 unfoldable pub matrixName : (channel : ℕ) → List ℕ
-matrixName channel = cond (eqb channel 3) (80 ∷ 88 ∷ 49 ∷ 32 ∷ []) (80 ∷ 88 ∷ 50 ∷ 32 ∷ [])
+matrixName channel = cond (eqb channel 3) (ascii "PX1 ") (ascii "PX2 ")
 
 unfoldable pub channelName : (channel : ℕ) → List ℕ
-channelName channel = cond (eqb channel 3) (80 ∷ 51 ∷ 32 ∷ []) (80 ∷ 52 ∷ 32 ∷ [])
+channelName channel = cond (eqb channel 3) (ascii "P3 ") (ascii "P4 ")
 
 -- the cell that a line asks for: FRAME PM ROW COL, or FRAME PX1 PAIR ROW COL
 unfoldable pub cell : Question → List ℕ
-cell (Pm frame row column) = word frame ++ ((80 ∷ 77 ∷ 32 ∷ []) ++ (word row ++ word column))
+cell (Pm frame row column) = word frame ++ (ascii "PM " ++ (word row ++ word column))
 cell (Px frame channel pair row column) = word frame ++ (matrixName channel ++ (word pair ++ (word row ++ word column)))
 cell Wrong = []
 
@@ -46,10 +54,10 @@ coded frame bit value = word frame ++ (word bit ++ last value)
 
 -- what stands in it: P1, PIDS, P3 or P4 with the coded bit and its value; FILL. Of what is refused nothing is said here
 unfoldable pub entryText : Question → Entry → (value : ℕ) → List ℕ
-entryText q (P1 bit at) value = cell q ++ ((80 ∷ 49 ∷ 32 ∷ []) ++ coded 0 bit value)
-entryText q (Pids frame bit at) value = cell q ++ ((80 ∷ 73 ∷ 68 ∷ 83 ∷ 32 ∷ []) ++ coded frame bit value)
+entryText q (P1 bit at) value = cell q ++ (ascii "P1 " ++ coded 0 bit value)
+entryText q (Pids frame bit at) value = cell q ++ (ascii "PIDS " ++ coded frame bit value)
 entryText q (Extended channel from frame bit at) value = cell q ++ (channelName channel ++ (word from ++ coded frame bit value))
-entryText q Fill value = cell q ++ (70 ∷ 73 ∷ 76 ∷ 76 ∷ 10 ∷ [])
+entryText q Fill value = cell q ++ ascii "FILL\n"
 entryText q Refused value = []
 
 -- the bit that stands in the cell, in the matrices of an L1 frame; P3 is in PX1 and P4 in PX2

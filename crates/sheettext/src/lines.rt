@@ -1,33 +1,14 @@
 // The lines of an answer sheet.
-use listing::field;
-use listing::put;
 use sheetlines::Entry;
 use sheetlines::Question;
+use text::field;
+use text::put;
 ghost use mathlib.Core.Path.{_≡_};
 ghost use Prim.Native.Nat.{_+_, _≤_};
 ghost use lib.ListN.{length};
 ghost use Rattle.calls.specs.Called.{matrices};
-ghost use Rattle.listing.specs.Running.{Put};
-ghost use Rattle.sheettext.specs.Texts.{cell, channelName, coded, ending, entryText, head, isRefused, matrixName, valueIn};
-
-// Puts the head line: the mode's name, and the count of L1 frames.
-pub fn put_head(out: &mut [u8], at: usize, mode: u8, count: u64) -> usize
-    requires { ⌜ at + 44 ≤ length (now out) ⌝ }
-    ensures { λ r. ⌜ Put (now (out .entry)) (now (out .exit)) at r 44 (head mode count) ⌝ }
-{
-    let m = put(out, at, b"MP");
-    let n = field(out, m, mode as u64, b' ');
-    field(out, n, count, b'\n')
-}
-
-// Puts the last line: the number of answers.
-pub fn put_end(out: &mut [u8], at: usize, n: u64) -> usize
-    requires { ⌜ at + 25 ≤ length (now out) ⌝ }
-    ensures { λ r. ⌜ Put (now (out .entry)) (now (out .exit)) at r 25 (ending n) ⌝ }
-{
-    let m = put(out, at, b"END ");
-    field(out, m, n, b'\n')
-}
+ghost use Rattle.text.specs.Put.{Put};
+ghost use Rattle.sheettext.specs.Texts.{cell, channelName, coded, entryText, isRefused, matrixName, valueIn};
 
 // Puts the name of PX1 or PX2, and a space.
 fn put_matrix(out: &mut [u8], at: usize, channel: u8) -> usize

@@ -8,8 +8,8 @@ ghost use Prim.Native.Nat.{_+_, _*_, _^_, _≤_, _<_};
 ghost use lib.ListN.{length};
 ghost use Rattle.interleaving.specs.TableI.{ks};
 ghost use Rattle.calls.specs.Called.{matrices};
-ghost use Rattle.listing.specs.Lines.{lines};
-ghost use Rattle.listing.specs.Running.{Put};
+ghost use Rattle.text.specs.Lines.{lines};
+ghost use Rattle.text.specs.Put.{Put};
 ghost use Rattle.sheetlines.specs.Entries.{entryOf};
 ghost use Rattle.sheetlines.specs.Questions.{questionOf};
 ghost use Rattle.sheettext.specs.Texts.{answer, isRefused, valueIn};
@@ -59,7 +59,7 @@ pub fn put_answers(
     let mut end = at;
     let mut i: usize = 0;
     while i < list.len() {
-        let stop = sheetlines::line_end(list, i);
+        let stop = text::line_end(list, i);
         end = put_answer(
             &table,
             out,
@@ -100,7 +100,7 @@ fn put_refusal(
     ensures { λ r. ⌜ Put (now (out .entry)) (now (out .exit)) at r 92 (refusal mode count number (now (line .entry))) ⌝ }
 {
     if line_refused(table, mode, count, line) {
-        return listing::refuse(out, at, number);
+        return text::refuse(out, at, number);
     }
     at
 }
@@ -115,7 +115,7 @@ pub fn put_refusals(out: &mut [u8], at: usize, mode: u8, count: u64, list: &[u8]
     let mut i: usize = 0;
     let mut number: u64 = 1;
     while i < list.len() {
-        let stop = sheetlines::line_end(list, i);
+        let stop = text::line_end(list, i);
         end = put_refusal(&table, out, end, mode, count, number, &list[i..stop]);
         number += 1;
         i = stop + 1;
@@ -132,7 +132,7 @@ pub fn count_answers(mode: u8, count: u64, list: &[u8]) -> u64
     let mut n: u64 = 0;
     let mut i: usize = 0;
     while i < list.len() {
-        let stop = sheetlines::line_end(list, i);
+        let stop = text::line_end(list, i);
         n = one_more(n, line_refused(&table, mode, count, &list[i..stop]));
         i = stop + 1;
     }

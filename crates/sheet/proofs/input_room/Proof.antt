@@ -6,7 +6,7 @@ use Rattle.sheet.proofs.input_room.Statement.{statement}
 use Rattle.sheet.proofs.input_room.Tie as tie
 
 returns : tie.Need-returns
-returns c = sym (length-replicate {A = ℕ} 1773633 0)
+returns c = sym (length-replicate {A = ℕ} 1773634 0)
 
 pub input-room-spec : {M : Type 1} → statement M
 input-room-spec = tie.close (tie.spec returns)

@@ -1,5 +1,5 @@
 -- `empty_line` meets its contract. The loop's invariant: the empty line stands so far from `i` as the bytes from there on say. Assumes nothing.
-use mathlib.Core.Path.{_≡_, refl, sym, _∙_}
+use mathlib.Core.Path.{_≡_, sym, _∙_}
 use mathlib.Core.Bool.{true}
 use Prim.Native.Nat.{_+_, _-_, _≤_}
 use native.Mathlib.Omega.{arith}
@@ -7,7 +7,7 @@ use borrow.Author.Needs.{needs}
 use denote.Ref.{now}
 use lib.ListN.{length, drop}
 use Rattle.sheets.specs.Inputs.{emptyLine}
-use Rattle.sheets.proofs.Texts.{empty-here, empty-later, empty-nowhere}
+use Rattle.sheets.proofs.Empty.{empty-here, empty-later, empty-nowhere}
 use Rattle.sheets.proofs.inputs.empty_line.Statement.{statement}
 use Rattle.sheets.proofs.inputs.empty_line.Tie as tie
 
@@ -20,15 +20,15 @@ abbrev μ-loop : tie.MeasureT-loop
 loop-holds : tie.Need-loop-holds Inv-loop μ-loop
 loop-holds c = (omega arith, omega arith)
 
-shared-slice-read-is-empty-line : tie.Need-shared-slice-read-is-empty-line Inv-loop μ-loop
-shared-slice-read-is-empty-line c = omega arith
+empty-at-requires : tie.Need-empty-at-requires Inv-loop μ-loop
+empty-at-requires c κs = omega arith
 
-is-empty-line-requires : tie.Need-is-empty-line-requires Inv-loop μ-loop
-is-empty-line-requires c κs = search needs
+ends-requires : tie.Need-ends-requires Inv-loop μ-loop
+ends-requires c κs = search needs
 
 returns : tie.Need-returns Inv-loop μ-loop
 returns c =
-    (omega (arith, c .before .before .before .before .loop .inv .1, empty-here (now (c .before .before .before .before .before .before .args .input)) (c .before .before .before .before .loop .i) (c .before .before .before .before .loop .fresh) (c .before .before .before .loop-test .taken) (sym (c .before .is-empty-line .ensures) ∙ c .if1 .taken)), c .before .before .before .before .loop .inv .0)
+    (omega (arith, c .before .before .before .before .loop .inv .1, empty-here (now (c .before .before .before .before .before .before .args .input)) (c .before .before .before .before .loop .i) (c .before .before .before .before .loop .fresh) (c .before .before .before .loop-test .taken) _ (c .before .before .empty-at .ensures .0) (sym (c .before .ends .ensures) ∙ c .if1 .taken)), c .before .before .before .before .loop .inv .0)
 
 shared-slice-read-fresh : tie.Need-shared-slice-read-fresh Inv-loop μ-loop
 shared-slice-read-fresh c = omega arith
@@ -41,7 +41,7 @@ loop-less c = omega arith
 
 loop-again : tie.Need-loop-again Inv-loop μ-loop
 loop-again c =
-    (omega (arith, c .before .before .before .before .loop-test .taken), omega (arith, c .before .before .before .before .before .loop .inv .1, empty-later (now (c .before .before .before .before .before .before .before .args .input)) (c .before .before .before .before .before .loop .i) (c .before .before .before .before .before .loop .fresh) (c .before .before .before .before .loop-test .taken) (sym (c .before .before .is-empty-line .ensures) ∙ c .before .if1 .left)))
+    (omega (arith, c .before .before .before .before .loop-test .taken), omega (arith, c .before .before .before .before .before .loop .inv .1, empty-later (now (c .before .before .before .before .before .before .before .args .input)) (c .before .before .before .before .before .loop .i) (c .before .before .before .before .before .loop .fresh) (c .before .before .before .before .loop-test .taken) _ (c .before .before .before .empty-at .ensures .0) (sym (c .before .before .ends .ensures) ∙ c .before .if1 .left)))
 
 returns-2 : tie.Need-returns-2 Inv-loop μ-loop
 returns-2 c =
@@ -54,8 +54,8 @@ empty-line-spec =
     Inv-loop
     μ-loop
     loop-holds
-    shared-slice-read-is-empty-line
-    is-empty-line-requires
+    empty-at-requires
+    ends-requires
     returns
     shared-slice-read-fresh
     add-i

@@ -1,17 +1,17 @@
 -- `take_turn` meets its contract: the matrices that it lends are blank. Assumes nothing.
-use mathlib.Core.Path.{sym, ap, ap₂, _∙_}
+use mathlib.Core.Path.{sym, ap₂}
 use denote.Ref.{now}
 use Prim.Native.Nat.{ℕ}
 use lib.Seq.{length-take-le}
 use Rattle.runs.specs.Lent.{Signal}
-use Rattle.frames.specs.Read.{handed}
-use Rattle.programs.specs.Inputs.{framesIn}
-use Rattle.sheets.specs.Inputs.{frameSize}
+use Rattle.layout.specs.Inputs.{framesIn, handed}
 use Rattle.sheets.proofs.Older.{blank-is, room-px1, room-px2}
-use Rattle.sheets.proofs.Whole.{turned-as}
+use Rattle.sheets.proofs.Turning.{turned-as}
 use borrow.Author.Needs.{needs}
 use Rattle.sheets.proofs.turns.take_turn.Statement.{statement}
 use Rattle.sheets.proofs.turns.take_turn.Tie as tie
+
+-- `take_turn` meets its contract: the matrices that it lends are blank. Assumes nothing.
 
 sender-lengths-requires : tie.Need-sender-lengths-requires
 sender-lengths-requires c κs = search needs
@@ -40,7 +40,7 @@ slice-aggregate-send-and-put-3 c =
 
 send-and-put-requires : tie.Need-send-and-put-requires
 send-and-put-requires c κs =
-    (c .before .before .before .before .before .before .before .before .before .before .before .before .before .before .pre .2 ∙ ap (λ (k : ℕ). frameSize k (c .before .before .before .before .before .before .before .before .before .before .before .before .before .before .args .n3) (c .before .before .before .before .before .before .before .before .before .before .before .before .before .before .args .n4)) (sym (c .before .before .before .before .before .before .before .before .before .before .before .before .before .before .pre .0)), c .before .before .before .before .before .before .before .before .before .before .before .before .before .before .pre .3, c .before .before .before .before .before .before .before .before .before .before .before .before .before .before .pre .4)
+    (c .before .before .before .before .before .before .before .before .before .before .before .before .before .before .pre .2, c .before .before .before .before .before .before .before .before .before .before .before .before .before .before .pre .3, c .before .before .before .before .before .before .before .before .before .before .before .before .before .before .pre .4)
 
 same-length : tie.Need-same-length
 same-length c = search needs

@@ -1,6 +1,6 @@
 -- `put_coded` meets its contract. Assumes nothing.
 use native.Mathlib.Omega.{arith}
-use Rattle.listing.proofs.Stored.{put-most, put-then}
+use Rattle.text.proofs.Stored.{put-most, put-then}
 use Rattle.sheettext.specs.Texts.{coded}
 use borrow.Author.Needs.{needs}
 use Rattle.sheettext.proofs.lines.put_coded.Statement.{statement}

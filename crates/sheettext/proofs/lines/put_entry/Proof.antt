@@ -1,9 +1,9 @@
 -- `put_entry` meets its contract: the match is the definition's. Assumes nothing.
 use mathlib.Core.Path.{sym}
 use native.Mathlib.Omega.{arith}
-use Rattle.listing.proofs.Stored.{put-most, put-then, put-text}
+use Rattle.text.proofs.Stored.{put-most, put-then, put-text}
 use Rattle.sheettext.specs.Texts.{entryText}
-use Rattle.sheettext.proofs.Left.{put-nothing}
+use Rattle.text.proofs.Left.{put-nothing}
 use borrow.Author.Needs.{needs}
 use Rattle.sheettext.proofs.lines.put_entry.Statement.{statement}
 use Rattle.sheettext.proofs.lines.put_entry.Tie as tie

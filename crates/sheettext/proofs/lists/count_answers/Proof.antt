@@ -5,11 +5,11 @@ use Prim.Native.Nat.{_+_, _-_, _≤_}
 use native.Mathlib.Omega.{arith}
 use denote.Ref.{now}
 use lib.ListN.{length, drop}
-use Rattle.listing.specs.Lines.{lines}
-use Rattle.sheetlines.specs.Cuts.{newline}
-use Rattle.sheetlines.proofs.Ends.{end-within}
+use Rattle.text.specs.Lines.{lines}
+use Rattle.text.specs.Lines.{newline}
+use Rattle.text.proofs.Ends.{end-within}
 use Rattle.sheettext.specs.Lists.{answered}
-use Rattle.sheettext.proofs.Walk.{walk-on, walk-end}
+use Rattle.text.proofs.Walk.{walk-on, walk-end}
 use Rattle.sheettext.proofs.Said.{answered-none, counted-on, one-at-most}
 use Rattle.sheettext.proofs.lists.count_answers.Statement.{statement}
 use Rattle.sheettext.proofs.lists.count_answers.Tie as tie

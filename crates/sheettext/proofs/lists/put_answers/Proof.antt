@@ -6,13 +6,13 @@ use native.Mathlib.Omega.{arith}
 use denote.Ref.{now}
 use lib.ListN.{length, drop}
 use Rattle.calls.specs.Called.{matrices}
-use Rattle.listing.specs.Lines.{lines}
-use Rattle.sheetlines.specs.Cuts.{newline}
-use Rattle.sheetlines.proofs.Ends.{end-within}
+use Rattle.text.specs.Lines.{lines}
+use Rattle.text.specs.Lines.{newline}
+use Rattle.text.proofs.Ends.{end-within}
 use Rattle.sheettext.specs.Texts.{valueIn}
 use Rattle.sheettext.specs.Lists.{answers, asking}
-use Rattle.sheettext.proofs.Walk.{walk-on, walk-end}
-use Rattle.sheettext.proofs.Left.{Left, left-begins, left-on, left-done}
+use Rattle.text.proofs.Walk.{walk-on, walk-end}
+use Rattle.text.proofs.Left.{Left, left-begins, left-on, left-done}
 use Rattle.sheettext.proofs.Said.{answers-on, answers-none, asking-on, asking-none}
 use Rattle.sheettext.proofs.lists.put_answers.Statement.{statement}
 use Rattle.sheettext.proofs.lists.put_answers.Tie as tie

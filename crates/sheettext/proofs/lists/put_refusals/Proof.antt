@@ -5,12 +5,12 @@ use Prim.Native.Nat.{_+_, _-_, _*_, _≤_}
 use native.Mathlib.Omega.{arith}
 use denote.Ref.{now}
 use lib.ListN.{length, drop}
-use Rattle.listing.specs.Lines.{lines}
-use Rattle.sheetlines.specs.Cuts.{newline}
-use Rattle.sheetlines.proofs.Ends.{end-within}
+use Rattle.text.specs.Lines.{lines}
+use Rattle.text.specs.Lines.{newline}
+use Rattle.text.proofs.Ends.{end-within}
 use Rattle.sheettext.specs.Lists.{refusals}
-use Rattle.sheettext.proofs.Walk.{walk-on, walk-end}
-use Rattle.sheettext.proofs.Left.{Left, left-begins, left-on, left-done}
+use Rattle.text.proofs.Walk.{walk-on, walk-end}
+use Rattle.text.proofs.Left.{Left, left-begins, left-on, left-done}
 use Rattle.sheettext.proofs.Said.{refusals-on, refusals-none}
 use Rattle.sheettext.proofs.lists.put_refusals.Statement.{statement}
 use Rattle.sheettext.proofs.lists.put_refusals.Tie as tie
