@@ -6,21 +6,19 @@ use Prim.Native.Nat.{ℕ, _^_, _<_}
 use native.Mathlib.Omega.{arith}
 use lib.Dec.{ltb}
 use lib.ListN.{length}
-use Rattle.runs.specs.declared.Answer.{Answer}
-use Rattle.runs.specs.declared.Answer.the-variants.{Success, WrongLength}
 use Rattle.runs.specs.Answers.{placeOf}
 use Rattle.sheets.specs.Call.{Said, sheetCall}
 use Rattle.exported_sheets.specs.Left.{said, sheetLeft, sheetLeftBy}
 use Rattle.words.specs.Words.{answerWord}
 
+either-small : (b : Bool) (x y : Said) → placeOf (x .answer) < 2 ^ 32 → placeOf (y .answer) < 2 ^ 32 → placeOf (cond {A = Said} b x y .answer) < 2 ^ 32
+either-small true x y h k = h
+either-small false x y h k = k
+
 module _ (mode count : ℕ) (without3 without4 : Bool) (input out : List ℕ) where
   place-small : placeOf (sheetCall mode count without3 without4 input out .answer) < 2 ^ 32
   unfolding sheetCall
-  place-small = go (ltb (length out) 1200000)
-    where
-      go : (b : Bool) {n m : ℕ} {x y : List ℕ} → placeOf (cond b (record { answer = WrongLength 1; count = n; out = x }) (record { answer = Success; count = m; out = y }) .answer) < 2 ^ 32
-      go true = omega arith
-      go false = omega arith
+  place-small = either-small (ltb (length out) 1200000) _ _ (omega arith) (omega arith)
 
   pub answer-small : (s : Said) → s ≡ sheetCall mode count without3 without4 input out → placeOf (s .answer) < 2 ^ 32
   answer-small s e = subst (λ (x : Said). placeOf (x .answer) < 2 ^ 32) (sym e) place-small

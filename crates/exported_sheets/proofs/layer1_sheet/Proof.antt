@@ -22,7 +22,8 @@ same-length c = search needs
 returns : tie.Need-returns
 returns c =
     let s = c .before .before .before in
-    sheet-left _ _ _ _ _ _ _ _ (s .before .before .before .says-yes .ensures) (s .before .before .says-yes2 .ensures) _ (s .sheet .ensures) _ (c .answer-word .ensures)
+    let a = s .before .before .before .before .before .before .args in
+    sheet-left (a .mode) (a .count) (a .without3) (a .without4) _ _ _ _ (s .before .before .before .says-yes .ensures) (s .before .before .says-yes2 .ensures) _ (s .sheet .ensures) _ (c .answer-word .ensures)
 
 pub layer1-sheet-spec : {M : Type 1} → statement M
 layer1-sheet-spec =
