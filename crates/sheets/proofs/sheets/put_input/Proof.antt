@@ -69,12 +69,11 @@ same-length-3 : tie.Need-same-length-3
 same-length-3 c = search needs
 
 returns-3 : tie.Need-returns-3
-returns-3 c =
-    (
-      c .before .before .put-carried .ensures .0,
-      c .before .before .put-carried .ensures .1
-          ∙ by-parts (c .before .before .before .before .before .before .before .before .before .before .before .before .args .mode) (c .before .before .before .before .before .before .before .before .before .before .before .before .args .count) (c .before .before .before .before .before .before .before .before .before .before .before .before .args .without3) (c .before .before .before .before .before .before .before .before .before .before .before .before .args .without4) (now (c .before .before .before .before .before .before .before .before .before .before .before .before .args .input)) (c .before .before .before .before .before .before .before .before .before .before .before .before .pre .0) (c .before .before .before .before .before .before .before .before .before .before .before .before .pre .1) (c .before .before .before .before .before .before .before .before .before .before .before .before .pre .2) (c .before .before .before .before .before .before .before .before .before .empty-line .result) (c .before .before .before .before .before .before .empty-at .result) _ (c .before .before .before .before .before .before .before .before .before .empty-line .ensures .0) (c .before .before .before .before .before .before .empty-at .ensures .0) refl (omega (arith, c .before .before .before .before .before .before .before .before .if1 .left)) (omega (arith, c .before .before .before .before .before .before .before .if2 .left)),
-    )
+returns-3 c = (
+  c .before .before .put-carried .ensures .0,
+  c .before .before .put-carried .ensures .1
+      ∙ by-parts (c .before .before .before .before .before .before .before .before .before .before .before .before .args .mode) (c .before .before .before .before .before .before .before .before .before .before .before .before .args .count) (c .before .before .before .before .before .before .before .before .before .before .before .before .args .without3) (c .before .before .before .before .before .before .before .before .before .before .before .before .args .without4) (now (c .before .before .before .before .before .before .before .before .before .before .before .before .args .input)) (c .before .before .before .before .before .before .before .before .before .before .before .before .pre .0) (c .before .before .before .before .before .before .before .before .before .before .before .before .pre .1) (c .before .before .before .before .before .before .before .before .before .before .before .before .pre .2) (c .before .before .before .before .before .before .before .before .before .empty-line .result) (c .before .before .before .before .before .before .empty-at .result) _ (c .before .before .before .before .before .before .before .before .before .empty-line .ensures .0) (c .before .before .before .before .before .before .empty-at .ensures .0) refl (omega (arith, c .before .before .before .before .before .before .before .before .if1 .left)) (omega (arith, c .before .before .before .before .before .before .before .if2 .left)),
+)
 
 pub put-input-spec : {M : Type 1} → statement M
 put-input-spec =
