@@ -1,7 +1,7 @@
 /* The FM Layer 1 bit chain of SY_IDD_1011s revision G, with the house matters of documents 01 and 02, for C.
  *
- * The functions are those of the proved crates `exported_runs` (starts, sending, reading) and `exported` (all others): their contracts, in
- * src and specs of crates/exported_runs and crates/exported, say exactly what each returns and what it leaves in every buffer. Every call
+ * The functions are those of the proved crates `exported_runs` (starts, sending, reading), `exported_sheets` (the answer sheet) and `exported`
+ * (all others): their contracts, in src and specs of these crates, say exactly what each returns and what it leaves in every buffer. Every call
  * returns, and refuses what the documents refuse; none has a condition on numbers, lengths or the bytes themselves.
  *
  * What the caller must guarantee, since the proofs assume it:
@@ -131,6 +131,14 @@ uint64_t layer1_lookup_frame(const uint8_t *control, size_t control_len);
 /* A row of PM, a row of PX1 (channel 3) or PX2 (channel 4) of MP11. Returns a row word; there is no number, and a refused row is empty. */
 uint64_t layer1_pm_row(size_t row, const uint8_t *pm, size_t pm_len);
 uint64_t layer1_px_row(uint8_t channel, size_t row, const uint8_t *px1, size_t px1_len, const uint8_t *px2, size_t px2_len);
+
+/* The answer sheet for an input: a list of cells, an empty line, and count L1 frames, each its reserved number and its transfer frames, as
+ * README.md says under "A sheet for a sitting". without_p3 and without_p4: a channel has no bytes in the L1 frames (0: it has). Writes the text
+ * to out, or the one line, NO SHEET and why, and zeros behind it, so that it is a C string. out has at least LAYER1_SHEET_ROOM bytes; a shorter
+ * one is refused under 3 at place 1, and nothing is written. Returns an answer word. Text of any kind is a success. */
+#define LAYER1_SHEET_ROOM 1200000
+uint64_t layer1_sheet(uint8_t mode, uint64_t count, uint8_t without_p3, uint8_t without_p4, const uint8_t *input, size_t input_len, uint8_t *out,
+                      size_t out_len);
 
 /* Shares the sixteen PIDS places of an L1 frame among eight sources (document 02, S-4). The shares, and the counts of messages waiting, are
  * words of eight bytes as layer1_eight makes them. Writes to each of the sixteen bytes of places the number of its source, or

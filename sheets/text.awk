@@ -2,7 +2,7 @@
 
 function begin() {
     print "FM Layer 1 answer sheet"
-    print "Service mode MP" mode ", " count " L1 frame" (count == 1 ? "" : "s")
+    print "Service mode MP" mode ", " count " L1 frame" (count == 1 ? "" : "s") (without == "" ? "" : ", " without)
     if (refused != "")
         print "Refused lines of the cell list: " refused
 }

@@ -16,7 +16,7 @@ use crate::run::{
     self, check_lengths, code_frames, Answer, Reading, Refusal, Sending, Side, State,
 };
 use crate::scrambling::scramble;
-use crate::sheet::{take_list, Sheet, GREATEST_COUNT, LIST_BYTES};
+use crate::sheet::{self, take_list, NoSheet, Sheet, GREATEST_COUNT};
 use crate::vector::{self, Mapping};
 
 /// Why a command ends before its work is done.
@@ -26,9 +26,10 @@ pub enum Stop {
         refusal: Refusal,
         frame: u64,
     },
-    NoList,
+    /// House matter: the line that is printed in the place of a sheet.
+    NoSheet(NoSheet),
     /// Document 02, S-9: the finder keeps to the older modes.
-    NoSheet,
+    NotFound,
     TooLong,
     Usage,
     Different(String),
@@ -51,11 +52,6 @@ fn refused(number: u32, place: usize, frame: u64) -> Stop {
 /// Document 01, refusals: what is said of a refused L1 frame.
 pub fn refusal_line(number: u32, place: usize, frame: u64) -> String {
     format!("refused: number {number} place {place} frame {frame}")
-}
-
-/// House matter: what is said of an input that does not begin with a cell list.
-pub fn no_list_line() -> String {
-    format!("refused: the cell list has no empty line in its first {LIST_BYTES} bytes")
 }
 
 /// House matter: what is said of an input that is longer than the program takes.
@@ -82,7 +78,7 @@ fn in_finder(mode: u64) -> Result<&'static Mode, Stop> {
     let mode = covered(mode)?;
     match mode.delayed {
         None => Ok(mode),
-        Some(_) => Err(Stop::NoSheet),
+        Some(_) => Err(Stop::NotFound),
     }
 }
 
@@ -334,25 +330,56 @@ fn send_behind(
     Ok(())
 }
 
-/// House matter: sends a run of L1 frames, and prints the cells of the list before them.
+/// House matter: the sheet of an input, a list of cells and the L1 frames behind it.
+fn sheet_text(mode: u64, count: u64, without: Without, input: &[u8]) -> Result<String, Stop> {
+    if ![1, 2, 3, 11].contains(&mode) {
+        return Err(Stop::NoSheet(NoSheet::Mode));
+    }
+    let mut sender = Run::start(Side::Sender, mode)?;
+    let handed = handed_lengths(sender.mode, without)?;
+    if count > GREATEST_COUNT {
+        return Err(Stop::NoSheet(NoSheet::Count));
+    }
+    let (list, mut frames) = take_list(input).map_err(Stop::NoSheet)?;
+    let want = count as usize * (1 + handed.iter().sum::<usize>());
+    if frames.len() < want {
+        return Err(Stop::NoSheet(NoSheet::Short(want)));
+    }
+    if frames.len() > want {
+        return Err(Stop::NoSheet(NoSheet::Long(want)));
+    }
+    let mut sheet = Sheet::new(sender.mode, count, list);
+    let mut text = sheet::head(sender.mode, count, without) + &sheet.refusals();
+    for frame in 0..count {
+        let matrices = match send_next(&mut sender, handed, frame, &mut frames) {
+            Err(Stop::Refused { refusal, frame }) => {
+                return Err(Stop::NoSheet(NoSheet::Frame(frame, refusal)))
+            }
+            sent => sent?,
+        };
+        text += &sheet.answers(frame, &matrices);
+    }
+    Ok(text + &sheet.end())
+}
+
+/// House matter: prints the sheet of an input, or why there is none.
 pub fn sheet(
     mode: u64,
     count: u64,
     without: Without,
-    input: &mut impl BufRead,
+    input: &mut impl Read,
     output: &mut impl Write,
 ) -> Result<(), Stop> {
-    let mut sender = Run::start(Side::Sender, in_finder(mode)?.number)?;
-    let handed = handed_lengths(sender.mode, without)?;
-    let count = count.min(GREATEST_COUNT);
-    let list = take_list(input)?.ok_or(Stop::NoList)?;
-    let mut sheet = Sheet::new(sender.mode, count, &list);
-    output.write_all(sheet.refusals().as_bytes())?;
-    for frame in 0..count {
-        let matrices = send_next(&mut sender, handed, frame, input)?;
-        output.write_all(sheet.answers(frame, &matrices).as_bytes())?;
+    let mut bytes = Vec::new();
+    input.read_to_end(&mut bytes)?;
+    match sheet_text(mode, count, without, &bytes) {
+        Ok(text) => Ok(output.write_all(text.as_bytes())?),
+        Err(Stop::NoSheet(why)) => {
+            writeln!(output, "{why}")?;
+            Err(Stop::NoSheet(why))
+        }
+        Err(stop) => Err(stop),
     }
-    Ok(())
 }
 
 /// House matter: draws a cell list.

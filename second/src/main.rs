@@ -190,11 +190,11 @@ fn ended(done: Result<(), Stop>) -> ExitCode {
             eprintln!("{}", commands::refusal_line(number, place, frame));
             ExitCode::from(1)
         }
-        Err(Stop::NoList) => {
-            eprintln!("{}", commands::no_list_line());
+        Err(Stop::NoSheet(why)) => {
+            eprintln!("{why}");
             ExitCode::from(1)
         }
-        Err(Stop::NoSheet) => {
+        Err(Stop::NotFound) => {
             eprintln!("refused: there are sheets for MP1, MP2, MP3 and MP11 only");
             ExitCode::from(1)
         }

@@ -1,34 +1,93 @@
 //! The sheet: whose bit stands in each listed cell of a run's L1 frames, and the bit.
 
-use std::io::{self, BufRead, Read};
+use std::fmt;
 
 use crate::cells::{decimal, find, Channel};
 use crate::interleaving::{PxRow, PM_COLUMNS, PM_ROWS};
-use crate::modes::{Extended, Mode};
+use crate::modes::{Extended, Mode, Without};
 use crate::packing::unpack;
+use crate::run::Refusal;
 
-/// House matter: the bytes of a cell list with its empty line, at most.
+/// House matter: a cell list has fewer bytes than these before its empty line.
 pub const LIST_BYTES: usize = 4_096;
 
-/// House matter: a greater count of L1 frames stands as this one.
-pub const GREATEST_COUNT: u64 = 1_000_000_000;
+/// House matter: the L1 frames of a sheet, at most.
+pub const GREATEST_COUNT: u64 = 64;
 
 /// The matrices of an L1 frame as a list names them, in the order in which they are sent.
 const MATRICES: [&str; 3] = ["PM", "PX1", "PX2"];
 
-/// House matter: the cell list with its empty line; none if the input has no such list.
-pub fn take_list(input: &mut impl BufRead) -> io::Result<Option<Vec<u8>>> {
-    let mut list = Vec::new();
-    let mut input = input.take(LIST_BYTES as u64);
-    loop {
-        let line = list.len();
-        input.read_until(b'\n', &mut list)?;
-        match &list[line..] {
-            b"\n" => return Ok(Some(list)),
-            [.., b'\n'] => (),
-            _ => return Ok(None),
+/// House matter: why there is no sheet.
+#[derive(Debug, PartialEq)]
+pub enum NoSheet {
+    /// The finder keeps to the older modes.
+    Mode,
+    Count,
+    /// The list goes on where it should have ended.
+    LongList,
+    /// The input ends in the list.
+    List,
+    /// Fewer bytes behind the list than the L1 frames have: so many.
+    Short(usize),
+    /// More bytes than these.
+    Long(usize),
+    Frame(u64, Refusal),
+}
+
+impl fmt::Display for NoSheet {
+    /// House matter: the one line that is printed in the place of a sheet.
+    fn fmt(&self, f: &mut fmt::Formatter) -> fmt::Result {
+        write!(f, "NO SHEET ")?;
+        match self {
+            NoSheet::Mode => write!(f, "MODE"),
+            NoSheet::Count => write!(f, "COUNT"),
+            NoSheet::LongList => write!(f, "LONG LIST"),
+            NoSheet::List => write!(f, "LIST"),
+            NoSheet::Short(bytes) => write!(f, "SHORT {bytes}"),
+            NoSheet::Long(bytes) => write!(f, "LONG {bytes}"),
+            NoSheet::Frame(frame, refusal) => write!(
+                f,
+                "FRAME {frame} NUMBER {} PLACE {}",
+                refusal.number, refusal.place
+            ),
         }
     }
+}
+
+/// House matter: a line without what ends it, LF or CR LF.
+fn without_end(line: &[u8]) -> &[u8] {
+    let line = line.strip_suffix(b"\n").unwrap_or(line);
+    line.strip_suffix(b"\r").unwrap_or(line)
+}
+
+/// House matter: the cell list before its empty line, and what follows that.
+pub fn take_list(input: &[u8]) -> Result<(&[u8], &[u8]), NoSheet> {
+    let mut at = 0;
+    for line in input.split_inclusive(|&byte| byte == b'\n') {
+        if line == b"\n" || line == b"\r\n" {
+            let behind = &input[at + line.len()..];
+            return match at < LIST_BYTES {
+                true => Ok((&input[..at], behind)),
+                false => Err(NoSheet::LongList),
+            };
+        }
+        at += line.len();
+    }
+    Err(match at < LIST_BYTES {
+        true => NoSheet::List,
+        false => NoSheet::LongList,
+    })
+}
+
+/// House matter: the first line of a sheet.
+pub fn head(mode: &Mode, count: u64, without: Without) -> String {
+    let channels = match (without.p3, without.p4) {
+        (false, false) => "",
+        (true, false) => " without P3",
+        (false, true) => " without P4",
+        (true, true) => " without P3 P4",
+    };
+    format!("MP{} {count}{channels}\n", mode.number)
 }
 
 /// A cell that the list asks for.
@@ -127,16 +186,16 @@ pub struct Sheet {
 }
 
 impl Sheet {
-    /// House matter: the sheet of a list, which ends in an empty line.
+    /// House matter: the sheet of a list, without its empty line.
     pub fn new(mode: &Mode, count: u64, list: &[u8]) -> Sheet {
         let mut sheet = Sheet {
             asked: Vec::new(),
             refused: Vec::new(),
             tagged: [&mode.p3, &mode.p4].map(Tagged::fresh),
         };
-        let lines = list.split(|&byte| byte == b'\n');
-        for (n, line) in lines.take_while(|line| !line.is_empty()).enumerate() {
-            match Asked::of_line(mode, count, line) {
+        let lines = list.split_inclusive(|&byte| byte == b'\n');
+        for (n, line) in lines.enumerate() {
+            match Asked::of_line(mode, count, without_end(line)) {
                 Some(asked) => sheet.asked.push(asked),
                 None => sheet.refused.push(n + 1),
             }
@@ -148,6 +207,11 @@ impl Sheet {
     pub fn refusals(&self) -> String {
         let line = |n| format!("REFUSED {n}\n");
         self.refused.iter().map(line).collect()
+    }
+
+    /// House matter: the last line, with the number of answers.
+    pub fn end(&self) -> String {
+        format!("END {}\n", self.asked.len())
     }
 
     /// House matter: the answers for the next L1 frame, of which the matrices are given.

@@ -4,7 +4,8 @@ use second::coding::Rate;
 use second::commands::{self, Stop};
 use second::modes::Without;
 use second::modes::{Mode, P1_BITS, PIDS_BITS};
-use second::run::code_frames;
+use second::run::{code_frames, Refusal};
+use second::sheet::NoSheet;
 
 /// The sheet: the drawn frames of a run.
 fn drawn(mode: u64, count: u64) -> Vec<u8> {
@@ -35,7 +36,22 @@ fn owners(mode: u64, count: u64, list: &str) -> Vec<String> {
         Some(owner) => owner.to_string(),
         None => line.to_string(),
     };
-    output.lines().map(without_value).collect()
+    let lines: Vec<&str> = output.lines().collect();
+    let (head, rest) = lines.split_first().unwrap();
+    let (end, answers) = rest.split_last().unwrap();
+    assert_eq!(*head, format!("MP{mode} {count}"));
+    assert_eq!(*end, format!("END {}", answers.len()));
+    answers.iter().map(|line| without_value(line)).collect()
+}
+
+/// The sheet: the one line that is printed, and is said, where there is none.
+fn none(mode: u64, count: u64, list: &[u8], frames: &[u8]) -> NoSheet {
+    let (ended, output) = sheet(mode, count, list, frames);
+    let Err(Stop::NoSheet(why)) = ended else {
+        panic!("a sheet: {output}");
+    };
+    assert_eq!(output, format!("{why}\n"));
+    why
 }
 
 /// Probe points: cells of PM, in the order of the L1 frames and then of the list.
@@ -118,7 +134,10 @@ fn answers_of_drawn_lists() {
         let (ended, output) = sheet(number, 5, &list, &frames);
         ended.unwrap();
         let mut channels = [0; 5];
-        for line in output.lines().filter(|line| !line.starts_with('R')) {
+        for line in output
+            .lines()
+            .filter(|line| line.starts_with(|c: char| c.is_ascii_digit()))
+        {
             let words: Vec<&str> = line.split(' ').collect();
             let n = |place: usize| words[place].parse::<usize>().unwrap();
             let (channel, bit) = match (words[1], words[4], words[5]) {
@@ -162,41 +181,52 @@ fn refused_lines() {
         ended.unwrap();
         let lines: Vec<&str> = output.lines().collect();
         let expected: Vec<String> = refused.iter().map(|n| format!("REFUSED {n}")).collect();
-        assert_eq!(lines[..refused.len()], expected);
-        assert_eq!(lines.len(), 7);
-        assert!(lines[6].starts_with("1 PM 0 0 P1 0 "));
+        assert_eq!(lines[1..=refused.len()], expected);
+        assert_eq!(lines.len(), 9);
+        assert!(lines[7].starts_with("1 PM 0 0 P1 0 "));
     }
     let (ended, output) = sheet(1, 0, b"0 PM 0 0\n\n", b"");
     ended.unwrap();
-    assert_eq!(output, "REFUSED 1\n");
+    assert_eq!(output, "MP1 0\nREFUSED 1\nEND 0\n");
 }
 
-/// The sheet: a short input leaves the lines before it, and a mode that is not covered none.
+/// The sheet: no answer of an input that is short or long, of a refused L1 frame, of too many.
 #[test]
-fn short_input() {
-    let frames = drawn(3, 2);
+fn no_sheet() {
+    let mut frames = drawn(3, 2);
     let list = b"1 PM 0 0\nx\n0 PM 192 360\n\n";
-    let (ended, output) = sheet(3, 2, list, &frames[..frames.len() - 1]);
-    let Err(Stop::Refused { refusal, frame }) = ended else {
-        panic!("not refused");
+    let size = frames.len();
+    assert_eq!(none(3, 2, list, &frames[..size - 1]), NoSheet::Short(size));
+    assert_eq!(none(3, 1, list, &frames), NoSheet::Long(size / 2));
+    assert_eq!(none(3, 65, list, &frames), NoSheet::Count);
+    assert_eq!(none(4, 2, b"no list", b""), NoSheet::Mode);
+    frames[size / 2] = 8;
+    let refusal = Refusal {
+        number: 9,
+        place: 0,
     };
-    assert_eq!((refusal.number, refusal.place, frame), (3, 3, 1));
-    assert!(output.starts_with("REFUSED 2\n0 PM 192 360 P1 0 0 "));
-    assert_eq!(output.lines().count(), 2);
-    let (ended, output) = sheet(4, 2, b"no list", b"");
-    assert!(matches!(ended, Err(Stop::Refused { refusal, frame: 0 }) if refusal.number == 1));
-    assert_eq!(output, "");
+    assert_eq!(none(3, 2, list, &frames), NoSheet::Frame(1, refusal));
+}
+
+/// The sheet: lines that end in CR LF are the same lines.
+#[test]
+fn carriage_returns() {
+    let frames = drawn(2, 1);
+    let (ended, plain) = sheet(2, 1, b"0 PM 1 2\n0 PM 1 2\r3\n\n", &frames);
+    ended.unwrap();
+    let (ended, output) = sheet(2, 1, b"0 PM 1 2\r\n0 PM 1 2\r3\r\n\r\n", &frames);
+    ended.unwrap();
+    assert_eq!(output, plain);
+    assert!(output.starts_with("MP2 1\nREFUSED 2\n0 PM 1 2 "));
 }
 
 /// Document 02, S-9: the finder, and so the sheet, keeps to the older modes.
 #[test]
 fn no_sheet_with_a_second_path() {
     for mode in [5, 6] {
-        let (ended, output) = sheet(mode, 2, b"no list", b"");
-        assert!(matches!(ended, Err(Stop::NoSheet)));
-        assert_eq!(output, "");
+        assert_eq!(none(mode, 2, b"no list", b""), NoSheet::Mode);
         let drawn = commands::draw_cells(1, mode, 2, &mut Vec::new());
-        assert!(matches!(drawn, Err(Stop::NoSheet)));
+        assert!(matches!(drawn, Err(Stop::NotFound)));
     }
 }
 
@@ -207,19 +237,18 @@ fn end_of_the_list() {
     for (list, lines) in [("\n", 0), ("0 PM 0 0\n\n", 1)] {
         let (ended, output) = sheet(1, 1, list.as_bytes(), &frames);
         ended.unwrap();
-        assert_eq!(output.lines().count(), lines);
+        assert_eq!(output.lines().count(), lines + 2);
     }
     let longest = format!("0 PM {:0>4087} 1\n\n", 7);
     assert_eq!(longest.len(), 4_096);
     let (ended, output) = sheet(1, 1, longest.as_bytes(), &frames);
     ended.unwrap();
-    assert!(output.starts_with("0 PM 7 1 P1 0 "));
-    for list in ["", "0 PM 0 0", "0 PM 0 0\n", &format!("0{longest}")] {
-        let frames: &[u8] = if list.len() > 4_096 { &frames } else { b"" };
-        let (ended, output) = sheet(1, 1, list.as_bytes(), frames);
-        assert!(matches!(ended, Err(Stop::NoList)));
-        assert_eq!(output, "");
+    assert!(output.starts_with("MP1 1\n0 PM 7 1 P1 0 "));
+    for list in ["", "0 PM 0 0", "0 PM 0 0\n"] {
+        assert_eq!(none(1, 1, list.as_bytes(), b""), NoSheet::List);
     }
+    let longer = format!("0{longest}");
+    assert_eq!(none(1, 1, longer.as_bytes(), &frames), NoSheet::LongList);
 }
 
 /// Drawn lists: as long as a list may be, every line of the edges in them, and new with each seed.

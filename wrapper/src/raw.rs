@@ -7,6 +7,16 @@ extern "C" {
         places: *mut u8,
         places_len: usize,
     ) -> u64;
+    pub fn layer1_sheet(
+        mode: u8,
+        count: u64,
+        without_p3: u8,
+        without_p4: u8,
+        input: *const u8,
+        input_len: usize,
+        out: *mut u8,
+        out_len: usize,
+    ) -> u64;
     pub fn layer1_start_sender(
         mode: u8,
         memory3: *mut u8,

@@ -6,10 +6,10 @@ use native.Mathlib.Numerals.{add-one}
 use native.Mathlib.Omega.{arith}
 use lib.ListN.{length, take, getD, set, length-set}
 use lib.Seq.{take-all, take-suc}
-use Rattle.listing.specs.Numbers.{decimal}
-use Rattle.listing.specs.Printed.{newline, space}
-use Rattle.listing.specs.Running.{Put}
-use Rattle.listing.proofs.Stored.{put-byte, put-most, put-text, put-then}
+use Rattle.text.specs.Numbers.{decimal}
+use Rattle.text.specs.Letters.{ascii}
+use Rattle.text.specs.Put.{Put}
+use Rattle.text.proofs.Stored.{put-byte, put-most, put-text, put-then}
 use Rattle.celltext.specs.Found.{digit, found, hexadecimal}
 
 abbrev two : ℕ → List ℕ
@@ -46,8 +46,8 @@ put-bytes old out bytes at end i h l p = put-most (omega arith) (put-text (ap he
 
 -- the whole line
 pub put-line : {a b c d e : List ℕ} {x y z end : ℕ} (frame : List ℕ) (distance margin : ℕ) → length frame ≡ 10
-    → Put a b 0 x (2 * length frame) (hexadecimal frame) → Put b c x y 1 space → Put c d y z 21 (decimal distance ++ space)
-    → Put d e z end 21 (decimal margin ++ newline) → Put a e 0 end 63 (found frame distance margin)
+    → Put a b 0 x (2 * length frame) (hexadecimal frame) → Put b c x y 1 (ascii " ") → Put c d y z 21 (decimal distance ++ ascii " ")
+    → Put d e z end 21 (decimal margin ++ ascii "\n") → Put a e 0 end 63 (found frame distance margin)
 unfolding found
 put-line frame distance margin n p q r s =
     put-most (omega arith) (put-text (simp mathlib.Core.List.append-assoc) (put-then p (put-then q (put-then r s))))

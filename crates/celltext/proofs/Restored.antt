@@ -5,18 +5,18 @@ use Prim.Native.Nat.{ℕ, _*_}
 use native.Mathlib.Omega.{arith}
 use lib.ListN.{length}
 use borrow.Author.Tests.{eq-eqb, ne-eqb}
-use Rattle.listing.specs.Printed.{newline}
-use Rattle.listing.specs.Running.{Put}
-use Rattle.listing.proofs.Stored.{put-most, put-text, put-then}
+use Rattle.text.specs.Letters.{ascii}
+use Rattle.text.specs.Put.{Put}
+use Rattle.text.proofs.Stored.{put-most, put-text, put-then}
 use Rattle.celltext.specs.Found.{hexadecimal}
 use Rattle.celltext.specs.Restored.{noFrame, several, told}
 
 pub put-frame-line : {a b c : List ℕ} {x end : ℕ} (frame : List ℕ) → length frame ≡ 10 → Put a b 0 x (2 * length frame) (hexadecimal frame)
-    → Put b c x end 1 newline → Put a c 0 end 21 (hexadecimal frame ++ newline)
+    → Put b c x end 1 (ascii "\n") → Put a c 0 end 21 (hexadecimal frame ++ ascii "\n")
 put-frame-line frame n p q = put-most (omega arith) (put-then p q)
 
 module _ (number : ℕ) (frame : List ℕ) where
-  told-frame : number ≡ 0 → hexadecimal frame ++ newline ≡ told number frame
+  told-frame : number ≡ 0 → hexadecimal frame ++ ascii "\n" ≡ told number frame
   unfolding told
   told-frame h = rw (eq-eqb number 0 h)
 
@@ -29,7 +29,7 @@ module _ (number : ℕ) (frame : List ℕ) where
   told-several n m = rw (ne-eqb number 0 n, ne-eqb number 14 m)
 
   module _ {a b : List ℕ} {end : ℕ} where
-    pub put-told-frame : number ≡ 0 → Put a b 0 end 21 (hexadecimal frame ++ newline) → Put a b 0 end 21 (told number frame)
+    pub put-told-frame : number ≡ 0 → Put a b 0 end 21 (hexadecimal frame ++ ascii "\n") → Put a b 0 end 21 (told number frame)
     put-told-frame h p = put-text (told-frame h) p
 
     pub put-told-none : (number ≡ 0 → ⊥) → number ≡ 14 → Put a b 0 end 14 noFrame → Put a b 0 end 21 (told number frame)

@@ -3,8 +3,8 @@ use mathlib.Core.Bool.{cond}
 use mathlib.Core.List.{List, [], _∷_, _++_}
 use Prim.Native.Nat.{ℕ, _+_, _/_, _%_}
 use lib.Dec.{ltb}
-use Rattle.listing.specs.Numbers.{decimal}
-use Rattle.listing.specs.Printed.{newline, space}
+use Rattle.text.specs.Numbers.{decimal}
+use Rattle.text.specs.Letters.{ascii}
 
 -- 0 to 9 and A to F
 unfoldable pub digit : ℕ → ℕ
@@ -15,4 +15,4 @@ hexadecimal [] = []
 hexadecimal (b ∷ rest) = digit (b / 16) ∷ digit (b % 16) ∷ hexadecimal rest
 
 unfoldable pub found : (frame : List ℕ) (distance margin : ℕ) → List ℕ
-found frame distance margin = hexadecimal frame ++ space ++ decimal distance ++ space ++ decimal margin ++ newline
+found frame distance margin = hexadecimal frame ++ ascii " " ++ decimal distance ++ ascii " " ++ decimal margin ++ ascii "\n"

@@ -6,7 +6,7 @@ use Prim.Native.Nat.{ℕ}
 use lib.ListN.{replicate}
 use Rattle.decoding.specs.declared.Decoded.{Decoded}
 use Rattle.decoding.specs.Outcomes.{Answered}
-use Rattle.listing.specs.Printed.{refused}
+use Rattle.text.specs.Refused.{refused}
 use Rattle.celltext.specs.Found.{found}
 use Rattle.celltext.specs.Lines.{isFrame, CellsOf}
 

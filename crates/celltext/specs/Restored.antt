@@ -1,7 +1,7 @@
 -- House matter: what the program `restore` prints for a line, as ASCII bytes. `RestoredLine` holds of one text only: the law `restored-line-once`.
 use mathlib.Core.Path.{_≡_}
 use mathlib.Core.Bool.{true, false, cond}
-use mathlib.Core.List.{List, _∷_, _++_}
+use mathlib.Core.List.{List, _++_}
 use Prim.Native.Nat.{ℕ}
 use lib.Dec.{eqb}
 use lib.ListN.{replicate}
@@ -9,22 +9,21 @@ use Rattle.runs.specs.declared.Answer.{Answer}
 use Rattle.runs.specs.declared.Answer.the-variants.{NoFrameFits, Success}
 use Rattle.runs.specs.Answers.{numberOf}
 use Rattle.restoring.specs.Restored.{Restored}
-use Rattle.listing.specs.Printed.{newline, refused}
+use Rattle.text.specs.Letters.{ascii}
+use Rattle.text.specs.Refused.{refused}
 use Rattle.celltext.specs.Found.{hexadecimal}
 use Rattle.celltext.specs.Lines.{isFrame, CellsOf}
 
--- NO FRAME FITS
 abbrev pub noFrame : List ℕ
-noFrame = 78 ∷ 79 ∷ 32 ∷ 70 ∷ 82 ∷ 65 ∷ 77 ∷ 69 ∷ 32 ∷ 70 ∷ 73 ∷ 84 ∷ 83 ∷ newline
+noFrame = ascii "NO FRAME FITS\n"
 
--- SEVERAL FRAMES FIT
 abbrev pub several : List ℕ
-several = 83 ∷ 69 ∷ 86 ∷ 69 ∷ 82 ∷ 65 ∷ 76 ∷ 32 ∷ 70 ∷ 82 ∷ 65 ∷ 77 ∷ 69 ∷ 83 ∷ 32 ∷ 70 ∷ 73 ∷ 84 ∷ newline
+several = ascii "SEVERAL FRAMES FIT\n"
 
 -- for the number of an answer: the frame's ten bytes in hexadecimal, or why there is none
 unfoldable pub told : (number : ℕ) (frame : List ℕ) → List ℕ
 told number frame =
-    cond (eqb number (numberOf Success)) (hexadecimal frame ++ newline) (cond (eqb number (numberOf NoFrameFits)) noFrame several)
+    cond (eqb number (numberOf Success)) (hexadecimal frame ++ ascii "\n") (cond (eqb number (numberOf NoFrameFits)) noFrame several)
 
 -- what fits the line's cells, in a buffer that was empty before
 pub record Fitted (line text : List ℕ) : Type 0 where

@@ -5,8 +5,8 @@ ghost use Prim.Native.Nat.{_+_, _*_, _/_, _%_, _<_, _≤_};
 ghost use lib.ListN.{length, getD, take};
 ghost use Rattle.bits.specs.Tests.{all};
 ghost use Rattle.io.specs.Counts.{Counts};
-ghost use Rattle.listing.specs.Printed.{newline};
-ghost use Rattle.listing.specs.Running.{Put};
+ghost use Rattle.text.specs.Letters.{ascii};
+ghost use Rattle.text.specs.Put.{Put};
 ghost use Rattle.celltext.specs.Found.{digit as «digit-of», found, hexadecimal};
 ghost use Rattle.celltext.specs.Lines.{cellOf, CellsOf, isCell, Read};
 ghost use Rattle.celltext.specs.Nearest.{NearestLine};
@@ -121,9 +121,9 @@ pub fn put_found(out: &mut [u8], frame: &[u8], distance: u16, margin: u16) -> us
     ensures { λ r. ⌜ Put (now (out .entry)) (now (out .exit)) 0 r 63 (found (now (frame .entry)) distance margin) ⌝ }
 {
     let a = put_hexadecimal(out, 0, frame);
-    let b = listing::put(out, a, b" ");
-    let c = listing::field(out, b, distance as u64, b' ');
-    listing::field(out, c, margin as u64, b'\n')
+    let b = text::put(out, a, b" ");
+    let c = text::field(out, b, distance as u64, b' ');
+    text::field(out, c, margin as u64, b'\n')
 }
 
 // S-12: puts what is printed for line `number`: its nearest frame, or that it is refused.
@@ -133,7 +133,7 @@ pub fn print_nearest(budget: usize, number: u64, line: &[u8], out: &mut [u8]) ->
 {
     let mut cells = [0u8; 200];
     if !read_cells(line, &mut cells) {
-        return listing::refuse(out, 0, number);
+        return text::refuse(out, 0, number);
     }
     let mut frame = [0u8; 10];
     let nearest = decoding::nearest(&cells, &mut frame, budget);
@@ -143,10 +143,10 @@ pub fn print_nearest(budget: usize, number: u64, line: &[u8], out: &mut [u8]) ->
 // Puts a frame's line.
 fn put_frame(out: &mut [u8], frame: &[u8]) -> usize
     requires { ⌜ (length (now frame) ≡ 10) × (21 ≤ length (now out)) ⌝ }
-    ensures { λ r. ⌜ Put (now (out .entry)) (now (out .exit)) 0 r 21 (hexadecimal (now (frame .entry)) ++ newline) ⌝ }
+    ensures { λ r. ⌜ Put (now (out .entry)) (now (out .exit)) 0 r 21 (hexadecimal (now (frame .entry)) ++ ascii "\n") ⌝ }
 {
     let end = put_hexadecimal(out, 0, frame);
-    listing::put(out, end, b"\n")
+    text::put(out, end, b"\n")
 }
 
 // Puts the line of a frame that was restored, or why there is none.
@@ -158,9 +158,9 @@ fn put_restored(out: &mut [u8], frame: &[u8], number: u8) -> usize
         return put_frame(out, frame);
     }
     if number == 14 {
-        return listing::put(out, 0, b"NO FRAME FITS\n");
+        return text::put(out, 0, b"NO FRAME FITS\n");
     }
-    listing::put(out, 0, b"SEVERAL FRAMES FIT\n")
+    text::put(out, 0, b"SEVERAL FRAMES FIT\n")
 }
 
 // S-11: puts what is printed for line `number`: the frame that fits, why there is none, or that the line is refused.
@@ -170,7 +170,7 @@ pub fn print_restored(number: u64, line: &[u8], out: &mut [u8]) -> usize
 {
     let mut cells = [0u8; 200];
     if !read_cells(line, &mut cells) {
-        return listing::refuse(out, 0, number);
+        return text::refuse(out, 0, number);
     }
     let mut frame = [0u8; 10];
     let answer = restoring::restore(&cells, &mut frame);

@@ -14,7 +14,7 @@ use Rattle.calls.specs.Called.{memory}
 use Rattle.modes.specs.Sizes.{wanted}
 use Rattle.runs.proofs.Bounds.{matrix-le}
 use Rattle.layout.proofs.Cut.{entry-is}
-use Rattle.frames.proofs.Blank.{zeros-of}
+use Rattle.layout.proofs.Zeros.{zeros-of}
 
 delay-small : (k : Main) → delayLen k ≤ 27648
 delay-small Plain = omega arith

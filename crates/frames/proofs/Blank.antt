@@ -1,8 +1,7 @@
 -- The frame buffers of the code's own, which hold zeros, are of the lengths in the definition. Assumes nothing.
-use Prim.Native.Nat.{ℕ, zero, suc, _≤_}
-use mathlib.Core.Path.{_≡_, refl, ap, _∙_}
-use mathlib.Core.List.{List, _∷_}
-use native.Mathlib.Nat.{not-suc-le-zero, le-of-suc-le-suc}
+use Prim.Native.Nat.{ℕ, _≤_}
+use mathlib.Core.Path.{_≡_, ap, _∙_}
+use mathlib.Core.List.{List}
 use native.Mathlib.Omega.{arith}
 use lib.ListN.{getD, take, replicate}
 use Rattle.runs.specs.declared.Extended.the-variants.{P3, P4}
@@ -17,16 +16,8 @@ use Rattle.modes.specs.Sizes.{wanted}
 use Rattle.calls.specs.declared.states.ReadOutcome.{ReadOutcome}
 use Rattle.layout.specs.Layout.{signalIn}
 use Rattle.layout.proofs.Cut.{entry-is, main-small}
+use Rattle.layout.proofs.Zeros.{zeros-of}
 use Rattle.frames.specs.Read.{blank, handed, readFrame}
-
-take-replicate : (n m : ℕ) → n ≤ m → take n (replicate m 0) ≡ replicate {A = ℕ} n 0
-take-replicate zero m h = refl
-take-replicate (suc n) zero h = absurd (not-suc-le-zero h)
-take-replicate (suc n) (suc m) h = ap (λ (l : List ℕ). 0 ∷ l) (take-replicate n m (le-of-suc-le-suc h))
-
--- the first k of m zeros
-pub zeros-of : (n m k : ℕ) → n ≡ k → n ≤ m → take n (replicate m 0) ≡ replicate {A = ℕ} k 0
-zeros-of n m k e h = take-replicate n m h ∙ ap (λ (j : ℕ). replicate j 0) e
 
 module _ (mode : ℕ) (want : List ℕ) (lengths : want ≡ wanted mode (readerLen (kindOf mode P3)) (readerLen (kindOf mode P4))) where
   is : (k : ℕ) → getD want k 0 ≡ getD (wanted mode (readerLen (kindOf mode P3)) (readerLen (kindOf mode P4))) k 0

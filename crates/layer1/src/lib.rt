@@ -31,3 +31,5 @@ pub use rows::px_row;
 pub use runs::Answer;
 pub use runs::State;
 pub use sending::send;
+pub use sheets::Written;
+pub use sheets::sheet;

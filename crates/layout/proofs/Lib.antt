@@ -1,3 +1,5 @@
 pub mod Cut
 pub mod Laid
 pub mod Heads
+pub mod Framed
+pub mod Zeros

@@ -1,2 +1,3 @@
 pub mod Layout
 pub mod Heads
+pub mod Inputs

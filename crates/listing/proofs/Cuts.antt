@@ -5,7 +5,7 @@ use mathlib.Core.Bool.{Bool, true, false, cond, _||_, or-false, or-true, or-asso
 use mathlib.Core.List.{List, [], _∷_, _++_, append-nil}
 use borrow.Author.Tests.{eq-eqb, ne-eqb}
 use lib.Dec.{eqb}
-use Rattle.listing.specs.Lines.{before, after}
+use Rattle.text.specs.Lines.{after, before, space}
 use Rattle.listing.specs.Running.{begun, contains, partOf, lineOf}
 use Rattle.listing.specs.declared.parsing.Part.{Part}
 use Rattle.listing.specs.declared.parsing.Line.{Line}
@@ -29,37 +29,37 @@ same-line : {c d : Bool} {p q r s : Part} → c ≡ d → p ≡ q → r ≡ s
 same-line e f g = λ i. record { cut = e i; row = f i; column = g i }
 
 -- behind a space nothing changes before it, and all else is after it
-pub before-cut : (bytes rest : List ℕ) → contains 32 bytes ≡ true → before (bytes ++ rest) ≡ before bytes
+pub before-cut : (bytes rest : List ℕ) → contains space bytes ≡ true → before space (bytes ++ rest) ≡ before space bytes
 unfolding contains before
 before-cut [] rest h = absurd (true≢false (sym h))
-before-cut (c ∷ bytes) rest h = by-either (eqb c 32) (contains 32 bytes) [] _ _ h (λ g. ap (λ (l : List ℕ). c ∷ l) (before-cut bytes rest g))
+before-cut (c ∷ bytes) rest h = by-either (eqb c 32) (contains space bytes) [] _ _ h (λ g. ap (λ (l : List ℕ). c ∷ l) (before-cut bytes rest g))
 
-pub after-cut : (bytes rest : List ℕ) → contains 32 bytes ≡ true → after (bytes ++ rest) ≡ after bytes ++ rest
+pub after-cut : (bytes rest : List ℕ) → contains space bytes ≡ true → after space (bytes ++ rest) ≡ after space bytes ++ rest
 unfolding contains after
 after-cut [] rest h = absurd (true≢false (sym h))
 after-cut (c ∷ bytes) rest h = go (eqb c 32) h (λ g. after-cut bytes rest g)
   where
-    go : (t : Bool) → (t || contains 32 bytes) ≡ true → (contains 32 bytes ≡ true → after (bytes ++ rest) ≡ after bytes ++ rest)
-        → cond t (bytes ++ rest) (after (bytes ++ rest)) ≡ cond t bytes (after bytes) ++ rest
+    go : (t : Bool) → (t || contains space bytes) ≡ true → (contains space bytes ≡ true → after space (bytes ++ rest) ≡ after space bytes ++ rest)
+        → cond t (bytes ++ rest) (after space (bytes ++ rest)) ≡ cond t bytes (after space bytes) ++ rest
     go true g f = refl
     go false g f = f g
 
 -- with no space all is before it
-pub before-whole : (bytes rest : List ℕ) → contains 32 bytes ≡ false → before (bytes ++ rest) ≡ bytes ++ before rest
+pub before-whole : (bytes rest : List ℕ) → contains space bytes ≡ false → before space (bytes ++ rest) ≡ bytes ++ before space rest
 unfolding contains before
 before-whole [] rest h = refl
-before-whole (c ∷ bytes) rest h = by-neither (eqb c 32) (contains 32 bytes) [] _ _ h (λ g. ap (λ (l : List ℕ). c ∷ l) (before-whole bytes rest g))
+before-whole (c ∷ bytes) rest h = by-neither (eqb c 32) (contains space bytes) [] _ _ h (λ g. ap (λ (l : List ℕ). c ∷ l) (before-whole bytes rest g))
 
-pub after-whole : (bytes rest : List ℕ) → contains 32 bytes ≡ false → after (bytes ++ rest) ≡ after rest
+pub after-whole : (bytes rest : List ℕ) → contains space bytes ≡ false → after space (bytes ++ rest) ≡ after space rest
 unfolding contains after
 after-whole [] rest h = refl
-after-whole (c ∷ bytes) rest h = by-neither (eqb c 32) (contains 32 bytes) _ _ _ h (λ g. after-whole bytes rest g)
+after-whole (c ∷ bytes) rest h = by-neither (eqb c 32) (contains space bytes) _ _ _ h (λ g. after-whole bytes rest g)
 
-before-own : (bytes : List ℕ) → contains 32 bytes ≡ false → before bytes ≡ bytes
+before-own : (bytes : List ℕ) → contains space bytes ≡ false → before space bytes ≡ bytes
 unfolding before
 before-own bytes h = rw append-nil at (before-whole bytes [] h)
 
-after-own : (bytes : List ℕ) → contains 32 bytes ≡ false → after bytes ≡ []
+after-own : (bytes : List ℕ) → contains space bytes ≡ false → after space bytes ≡ []
 unfolding after
 after-own bytes h = rw append-nil at (after-whole bytes [] h)
 
@@ -69,15 +69,15 @@ module _ (line : Line) (bytes : List ℕ) (b : ℕ) (e : line ≡ lineOf bytes) 
       → record { cut = true; row = line .row; column = part } ≡ lineOf (bytes ++ (b ∷ []))
   unfolding lineOf
   line-behind h part grown =
-      let c : contains 32 bytes ≡ true = sym (ap (λ (l : Line). l .cut) e) ∙ h in
+      let c : contains space bytes ≡ true = sym (ap (λ (l : Line). l .cut) e) ∙ h in
       same-line (sym (contains-snoc 32 bytes b ∙ ap (λ (t : Bool). t || eqb b 32) c))
       (ap (λ (l : Line). l .row) e ∙ ap partOf (sym (before-cut bytes (b ∷ []) c)))
-      (grown (after bytes) (ap (λ (l : Line). l .column) e) ∙ ap partOf (sym (after-cut bytes (b ∷ []) c)))
+      (grown (after space bytes) (ap (λ (l : Line). l .column) e) ∙ ap partOf (sym (after-cut bytes (b ∷ []) c)))
 
   pub line-at : line .cut ≡ false → b ≡ 32 → record { cut = true; row = line .row; column = line .column } ≡ lineOf (bytes ++ (b ∷ []))
   unfolding lineOf before after
   line-at h s =
-      let c : contains 32 bytes ≡ false = sym (ap (λ (l : Line). l .cut) e) ∙ h in
+      let c : contains space bytes ≡ false = sym (ap (λ (l : Line). l .cut) e) ∙ h in
       same-line (sym (contains-snoc 32 bytes b ∙ ap₂ (λ (t u : Bool). t || u) c (eq-eqb b 32 s)))
       (ap (λ (l : Line). l .row) e ∙ ap partOf (before-own bytes c ∙ sym (before-whole bytes (b ∷ []) c ∙ rw (eq-eqb b 32 s, append-nil))))
       (ap (λ (l : Line). l .column) e ∙ ap partOf (after-own bytes c ∙ sym (after-whole bytes (b ∷ []) c ∙ rw (eq-eqb b 32 s))))
@@ -86,20 +86,20 @@ module _ (line : Line) (bytes : List ℕ) (b : ℕ) (e : line ≡ lineOf bytes) 
       → record { cut = false; row = part; column = line .column } ≡ lineOf (bytes ++ (b ∷ []))
   unfolding lineOf before after
   line-before h n part grown =
-      let c : contains 32 bytes ≡ false = sym (ap (λ (l : Line). l .cut) e) ∙ h in
+      let c : contains space bytes ≡ false = sym (ap (λ (l : Line). l .cut) e) ∙ h in
       same-line (sym (contains-snoc 32 bytes b ∙ ap₂ (λ (t u : Bool). t || u) c (ne-eqb b 32 n)))
       (grown bytes (ap (λ (l : Line). l .row) e ∙ ap partOf (before-own bytes c)) ∙ ap partOf (sym (before-whole bytes (b ∷ []) c ∙ rw (ne-eqb b 32 n))))
       (ap (λ (l : Line). l .column) e ∙ ap partOf (after-own bytes c ∙ sym (after-whole bytes (b ∷ []) c ∙ rw (ne-eqb b 32 n))))
 
 -- whether a line has bytes, by its state
-begun-either : (bytes : List ℕ) → begun bytes ≡ (contains 32 bytes || begun (before bytes))
+begun-either : (bytes : List ℕ) → begun bytes ≡ (contains space bytes || begun (before space bytes))
 unfolding begun contains before
 begun-either [] = refl
 begun-either (b ∷ bytes) = go (eqb b 32)
   where
-    go : (t : Bool) → true ≡ ((t || contains 32 bytes) || begun (cond t [] (b ∷ before bytes)))
+    go : (t : Bool) → true ≡ ((t || contains space bytes) || begun (cond t [] (b ∷ before space bytes)))
     go true = refl
-    go false = sym (or-true (contains 32 bytes))
+    go false = sym (or-true (contains space bytes))
 
 pub begun-line : (line : Line) (bytes : List ℕ) → line ≡ lineOf bytes → begun bytes ≡ (line .cut || line .row .begun)
 unfolding lineOf partOf

@@ -8,7 +8,7 @@ use borrow.Author.Tests.{ne-eqb}
 use lib.Dec.{eqb}
 use lib.ListN.{length, take, getD}
 use lib.Seq.{take-all, take-suc}
-use Rattle.listing.specs.Lines.{lines, joined}
+use Rattle.text.specs.Lines.{lines, joined}
 use Rattle.listing.specs.Printed.{listed, output, printed, header}
 use Rattle.listing.specs.Running.{contains, begun, lineOf, Going}
 use Rattle.listing.specs.declared.parsing.Line.{Line}

@@ -1,7 +1,6 @@
-mod Spelling
 mod Pushed
 mod Cuts
 mod Meaning
-pub mod Stored
+mod Celled
 mod Going
 mod Examples

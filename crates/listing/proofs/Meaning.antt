@@ -11,9 +11,10 @@ use lib.Dec.{ltb}
 use Rattle.queries.specs.Finder.{found}
 use Rattle.queries.specs.declared.finder.Found.{Found}
 use Rattle.queries.proofs.Placing.{found-row-out, found-column-out}
-use Rattle.listing.specs.Numbers.{isNumber, value}
-use Rattle.listing.specs.Lines.{before, after}
-use Rattle.listing.specs.Printed.{told, refused, printed}
+use Rattle.text.specs.Numbers.{isNumber, value}
+use Rattle.text.specs.Lines.{after, before, space}
+use Rattle.text.specs.Refused.{refused}
+use Rattle.listing.specs.Printed.{told, printed}
 use Rattle.listing.specs.Running.{begun, partOf, lineOf, known, shown}
 use Rattle.listing.specs.declared.parsing.Line.{Line}
 
@@ -68,8 +69,8 @@ pub shown-printed : (number : ℕ) (line : Line) (bytes : List ℕ) → line ≡
 unfolding shown printed lineOf
 shown-printed number line bytes e =
     ap (shown number) e
-    ∙ ap₂ (asked number) (numbered (before bytes)) (numbered (after bytes))
-    ∙ both number (isNumber (before bytes)) (isNumber (after bytes)) (value (before bytes)) (value (after bytes))
+    ∙ ap₂ (asked number) (numbered (before space bytes)) (numbered (after space bytes))
+    ∙ both number (isNumber (before space bytes)) (isNumber (after space bytes)) (value (before space bytes)) (value (after space bytes))
 
 -- what is printed for what was found is what the line's state tells
 pub told-shown : (number : ℕ) (line : Line) (row column : ℕ) (f : Found) → row ≡ known (line .row) → column ≡ known (line .column)

@@ -8,7 +8,7 @@ use mathlib.Core.List.{List, [], _∷_, _++_}
 use borrow.Author.Tests.{le-leb, lt-leb}
 use lib.Dec.{leb}
 use lib.ListN.{length}
-use Rattle.listing.specs.Numbers.{isDigit, digitsAlone, value}
+use Rattle.text.specs.Numbers.{isDigit, digitsAlone, value}
 use Rattle.listing.specs.Running.{begun, partOf}
 use Rattle.listing.specs.declared.parsing.Part.{Part}
 

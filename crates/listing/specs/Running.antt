@@ -1,13 +1,12 @@
 -- What the code knows of the bytes of a line so far. Only the code's contracts need it: what a line means is said in Numbers, Lines and Printed.
-use Prim.Native.Nat.{ℕ, _+_, _≤_, min}
+use Prim.Native.Nat.{ℕ, min}
 use mathlib.Core.Path.{_≡_}
 use mathlib.Core.Bool.{Bool, true, false, cond, _||_}
 use mathlib.Core.List.{List, [], _∷_, _++_}
-use lib.ListN.{length, take}
 use lib.Dec.{eqb}
 use Rattle.queries.specs.Finder.{found}
-use Rattle.listing.specs.Numbers.{digitsAlone, value}
-use Rattle.listing.specs.Lines.{before, after, lines}
+use Rattle.text.specs.Numbers.{digitsAlone, value}
+use Rattle.text.specs.Lines.{after, before, lines, space}
 use Rattle.listing.specs.Printed.{told, listed, output}
 use Rattle.listing.specs.declared.parsing.Part.{Part}
 use Rattle.listing.specs.declared.parsing.Line.{Line}
@@ -29,7 +28,7 @@ partOf bytes = record { begun = begun bytes; number = cond (digitsAlone bytes) (
 
 -- whether there was a space, and the parts before and after it
 unfoldable pub lineOf : List ℕ → Line
-lineOf bytes = record { cut = contains 32 bytes; row = partOf (before bytes); column = partOf (after bytes) }
+lineOf bytes = record { cut = contains space bytes; row = partOf (before space bytes); column = partOf (after space bytes) }
 
 -- a part's number: 1000, which no row and no column reaches, where it has no bytes
 abbrev pub known : Part → ℕ
@@ -38,12 +37,6 @@ known part = cond (part .begun) (part .number) 1000
 -- what is printed for a line with this number
 unfoldable pub shown : ℕ → Line → List ℕ
 shown number line = told number (known (line .row)) (known (line .column)) (found (known (line .row)) (known (line .column)))
-
--- `text` stands at `at` behind what stood before, and ends at `end`, at most `most` bytes on; the buffer's size is the same.
-pub record Put (old new : List ℕ) (at end most : ℕ) (text : List ℕ) : Type 0 where
-  pub within : end ≤ at + most
-  pub size : length new ≡ length old
-  pub holds : take end new ≡ take at old ++ text
 
 -- After the bytes seen, with `text` printed: what is left to print are the lines of the rest, of which the first has this number and begins with the bytes that `line` is the state of.
 pub record Going (seen text : List ℕ) (line : Line) (number : ℕ) : Type 0 where

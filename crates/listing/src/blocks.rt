@@ -4,7 +4,7 @@ use crate::parsing::empty;
 use crate::parsing::is_begun;
 use crate::parsing::step;
 use crate::printing::print;
-use crate::printing::put;
+use text::put;
 ghost use mathlib.Core.Path.{_≡_};
 ghost use Prim.Native.Nat.{ℕ, _+_, _*_, _^_, _≤_, _<_};
 ghost use mathlib.Core.List.{List, [], _∷_, _++_};

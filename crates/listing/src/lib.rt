@@ -7,6 +7,3 @@ pub use blocks::Progress;
 pub use blocks::finish;
 pub use blocks::list;
 pub use blocks::start;
-pub use printing::field;
-pub use printing::put;
-pub use printing::refuse;

@@ -2,44 +2,24 @@
 use crate::parsing::Line;
 use crate::parsing::Part;
 use queries::Found;
+use text::field;
+use text::put;
+use text::refuse;
 ghost use mathlib.Core.Path.{_≡_};
 ghost use Prim.Native.Nat.{ℕ, _+_, _≤_};
 ghost use mathlib.Core.List.{List, [], _∷_, _++_};
 ghost use lib.ListN.{length};
 ghost use Rattle.interleaving.specs.TableI.{ks};
-ghost use Rattle.listing.specs.Numbers.{decimal};
-ghost use Rattle.listing.specs.Printed.{cell as «cell-of», refused, space, printed};
-ghost use Rattle.listing.specs.Running.{lineOf, known, shown, Put};
-
-// Puts a text at `at`.
-pub fn put(out: &mut [u8], at: usize, text: &[u8]) -> usize
-    requires { ⌜ at + length (now text) ≤ length (now out) ⌝ }
-    ensures { λ r. ⌜ Put (now (out .entry)) (now (out .exit)) at r (length (now (text .entry))) (now (text .entry)) ⌝ }
-{
-    let mut i: usize = 0;
-    while i < text.len() {
-        out[at + i] = text[i];
-        i += 1;
-    }
-    at + i
-}
-
-// Puts a number in decimal, and the byte that ends it.
-pub fn field(out: &mut [u8], at: usize, n: u64, end: u8) -> usize
-    requires { ⌜ at + 21 ≤ length (now out) ⌝ }
-    ensures { λ r. ⌜ Put (now (out .entry)) (now (out .exit)) at r 21 (decimal n ++ (end ∷ [])) ⌝ }
-{
-    let mut text = [0u8; 20];
-    let k = io::decimal(n, &mut text);
-    let m = put(out, at, &text[..k]);
-    out[m] = end;
-    m + 1
-}
+ghost use Rattle.text.specs.Letters.{ascii};
+ghost use Rattle.text.specs.Numbers.{decimal};
+ghost use Rattle.text.specs.Put.{Put};
+ghost use Rattle.listing.specs.Printed.{cell as «cell-of», printed};
+ghost use Rattle.listing.specs.Running.{lineOf, known, shown};
 
 // Puts two numbers with a space between, and the byte that ends them.
 fn pair(out: &mut [u8], at: usize, a: usize, b: usize, end: u8) -> usize
     requires { ⌜ at + 42 ≤ length (now out) ⌝ }
-    ensures { λ r. ⌜ Put (now (out .entry)) (now (out .exit)) at r 42 (decimal a ++ space ++ (decimal b ++ (end ∷ []))) ⌝ }
+    ensures { λ r. ⌜ Put (now (out .entry)) (now (out .exit)) at r 42 (decimal a ++ ascii " " ++ (decimal b ++ (end ∷ []))) ⌝ }
 {
     let m = field(out, at, a as u64, 32);
     field(out, m, b as u64, end)
@@ -56,20 +36,11 @@ fn cell(
     bit: usize,
 ) -> usize
     requires { ⌜ (at + 92 ≤ length (now out)) × (length (now channel) ≤ 8) ⌝ }
-    ensures { λ r. ⌜ ((name : List ℕ) → now (channel .entry) ≡ name ++ space → Put (now (out .entry)) (now (out .exit)) at r 92 («cell-of» row column name frame bit)) ⌝ }
+    ensures { λ r. ⌜ ((name : List ℕ) → now (channel .entry) ≡ name ++ ascii " " → Put (now (out .entry)) (now (out .exit)) at r 92 («cell-of» row column name frame bit)) ⌝ }
 {
     let m = pair(out, at, row, column, 32);
     let n = put(out, m, channel);
     pair(out, n, frame, bit, 10)
-}
-
-// Puts a refused line.
-pub fn refuse(out: &mut [u8], at: usize, number: u64) -> usize
-    requires { ⌜ at + 92 ≤ length (now out) ⌝ }
-    ensures { λ r. ⌜ Put (now (out .entry)) (now (out .exit)) at r 92 (refused number) ⌝ }
-{
-    let m = put(out, at, b"REFUSED ");
-    field(out, m, number, 10)
 }
 
 // A part's number, or 1000 where there is none.

@@ -10,8 +10,8 @@ use borrow.Author.Tests.{lt-ltb, le-ltb, ltb-true}
 use lib.Dec.{ltb}
 use lib.ListN.{length, take, drop, drop-of-length-le, length-drop}
 use lib.Seq.{drop-drop, take-all}
-use Rattle.sheetlines.specs.Cuts.{after, before, space}
-use Rattle.sheetlines.proofs.Ends.{after-dropped}
+use Rattle.text.specs.Lines.{after, before, space}
+use Rattle.text.proofs.Ends.{after-dropped}
 use Rattle.operands.specs.declared.Operand.{Operand}
 use Rattle.operands.specs.declared.Operand.the-variants.{Number, NotDecimal}
 use Rattle.operands.specs.Operands.{operandOf}

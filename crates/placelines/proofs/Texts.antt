@@ -14,9 +14,10 @@ use Rattle.runs.specs.declared.Answer.{Answer}
 use Rattle.runs.specs.Answers.{numberOf, onSuccess, placeOf}
 use Rattle.runs.proofs.Answered.{not-success, success-is}
 use Rattle.allocation.specs.Allocation.{Outcome, outcome, shared}
-use Rattle.listing.specs.Numbers.{decimal, spelled}
-use Rattle.listing.specs.Running.{Put}
-use Rattle.listing.proofs.Stored.{put-most, put-text, put-then}
+use Rattle.text.specs.Letters.{ascii}
+use Rattle.text.specs.Numbers.{decimal, spelled}
+use Rattle.text.specs.Put.{Put}
+use Rattle.text.proofs.Stored.{put-most, put-text, put-then}
 use Rattle.placelines.specs.Read.{eightAt, isRead}
 use Rattle.placelines.specs.Printed.{badLine, behind, printed, refused, spelledPlaces, told}
 
@@ -66,12 +67,12 @@ all-places places k l m p =
     put-most (omega arith) (put-text (ap (λ (n : ℕ). spelledPlaces n places) e) p)
 
 pub refusal : {a b c d : List ℕ} {at m n end : ℕ} (answer : Answer) (x y : ℕ) → x ≡ numberOf answer → y ≡ placeOf answer
-    → Put a b at m 8 (82 ∷ 69 ∷ 70 ∷ 85 ∷ 83 ∷ 69 ∷ 68 ∷ 32 ∷ []) → Put b c m n 21 (decimal x ++ (32 ∷ [])) → Put c d n end 21 (decimal y ++ (10 ∷ []))
+    → Put a b at m 8 (ascii "REFUSED ") → Put b c m n 21 (decimal x ++ (32 ∷ [])) → Put c d n end 21 (decimal y ++ (10 ∷ []))
     → Put a d at end 64 (refused (numberOf answer) (placeOf answer))
 unfolding refused
 refusal answer x y e f p q r = put-most (omega arith) (put-then p (put-then (put-text (ap (λ (z : ℕ). decimal z ++ (32 ∷ [])) e) q) (put-text (ap (λ (z : ℕ). decimal z ++ (10 ∷ [])) f) r)))
 
-pub bad : {a b c : List ℕ} {at m end : ℕ} (number : ℕ) → Put a b at m 9 (66 ∷ 65 ∷ 68 ∷ 32 ∷ 76 ∷ 73 ∷ 78 ∷ 69 ∷ 32 ∷ []) → Put b c m end 21 (decimal number ++ (10 ∷ []))
+pub bad : {a b c : List ℕ} {at m end : ℕ} (number : ℕ) → Put a b at m 9 (ascii "BAD LINE ") → Put b c m end 21 (decimal number ++ (10 ∷ []))
     → Put a c at end 64 (badLine number)
 unfolding badLine
 bad number p q = put-most (omega arith) (put-then p q)

@@ -6,27 +6,27 @@ use lib.Dec.{ltb}
 use lib.ListN.{getD, replicate}
 use Rattle.runs.specs.Answers.{numberOf, onSuccess, placeOf}
 use Rattle.allocation.specs.Allocation.{Outcome, shared}
-use Rattle.listing.specs.Lines.{lines}
-use Rattle.listing.specs.Numbers.{decimal}
-use Rattle.listing.specs.Printed.{newline, space}
+use Rattle.text.specs.Lines.{lines, newline, space}
+use Rattle.text.specs.Numbers.{decimal}
+use Rattle.text.specs.Letters.{ascii}
 use Rattle.placelines.specs.Read.{eightAt, isRead}
 
 -- the byte behind place k of sixteen: a space, and behind the last a newline
 abbrev pub behind : ℕ → ℕ
-behind k = cond (ltb k 15) 32 10
+behind k = cond (ltb k 15) space newline
 
 -- the first k places of a list
 unfoldable pub spelledPlaces : ℕ → List ℕ → List ℕ
 spelledPlaces zero places = []
 spelledPlaces (suc k) places = spelledPlaces k places ++ (decimal (getD places k 0) ++ (behind k ∷ []))
 
--- REFUSED, the number and the place
+-- the number and the place
 unfoldable pub refused : (number place : ℕ) → List ℕ
-refused number place = 82 ∷ 69 ∷ 70 ∷ 85 ∷ 83 ∷ 69 ∷ 68 ∷ space ++ ((decimal number ++ space) ++ (decimal place ++ newline))
+refused number place = ascii "REFUSED " ++ ((decimal number ++ ascii " ") ++ (decimal place ++ ascii "\n"))
 
--- BAD LINE and the line's number
+-- the line's number
 unfoldable pub badLine : (number : ℕ) → List ℕ
-badLine number = 66 ∷ 65 ∷ 68 ∷ 32 ∷ 76 ∷ 73 ∷ 78 ∷ 69 ∷ space ++ (decimal number ++ newline)
+badLine number = ascii "BAD LINE " ++ (decimal number ++ ascii "\n")
 
 -- the sixteen places, or the refusal
 unfoldable pub told : Outcome → List ℕ

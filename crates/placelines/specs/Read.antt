@@ -7,7 +7,7 @@ use Rattle.bits.specs.Listed.{listed}
 use Rattle.operands.specs.declared.Operand.{Operand}
 use Rattle.operands.specs.declared.Operand.the-variants.{Number, NotDecimal}
 use Rattle.operands.specs.Operands.{operandOf}
-use Rattle.sheetlines.specs.Cuts.{after, before, space}
+use Rattle.text.specs.Lines.{after, before, space}
 
 -- the text after the first k spaces
 unfoldable pub afterSpaces : ℕ → List ℕ → List ℕ

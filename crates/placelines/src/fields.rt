@@ -5,7 +5,7 @@ ghost use Prim.Native.Nat.{_+_, _≤_, _<_};
 ghost use mathlib.Core.Bool.{true};
 ghost use lib.ListN.{length, drop};
 ghost use Rattle.operands.specs.Operands.{operandOf};
-ghost use Rattle.sheetlines.specs.Cuts.{after, space};
+ghost use Rattle.text.specs.Lines.{after, space};
 ghost use Rattle.placelines.specs.Read.{afterSpaces, eightAt, isRead, numberAt, valueOf};
 
 // Where the text after the next space begins: at the line's end, where there is none.
@@ -13,7 +13,7 @@ fn past_space(line: &[u8], at: usize) -> usize
     requires { ⌜ at ≤ length (now line) ⌝ }
     ensures { λ r. ⌜ (r ≤ length (now (line .entry))) × (drop r (now (line .entry)) ≡ after space (drop at (now (line .entry)))) ⌝ }
 {
-    let end = sheetlines::end_of(line, at, b' ');
+    let end = text::end_of(line, at, b' ');
     if end < line.len() {
         return end + 1;
     }
@@ -54,7 +54,7 @@ fn number_at(line: &[u8], k: usize) -> usize
 {
     let at = past_spaces(line, k);
     if k < 15 {
-        return value(sheetlines::word(&line[at..]));
+        return value(text::word(&line[at..]));
     }
     value(&line[at..])
 }

@@ -10,8 +10,8 @@ ghost use lib.ListN.{length, replicate, take};
 ghost use Rattle.io.specs.Counts.{Counts};
 ghost use Rattle.runs.specs.Answers.{numberOf, placeOf};
 ghost use Rattle.allocation.specs.Allocation.{shared};
-ghost use Rattle.listing.specs.Numbers.{decimal};
-ghost use Rattle.listing.specs.Running.{Put};
+ghost use Rattle.text.specs.Numbers.{decimal};
+ghost use Rattle.text.specs.Put.{Put};
 ghost use Rattle.placelines.specs.Read.{eightAt, isRead};
 ghost use Rattle.placelines.specs.Printed.{badLine, behind, output, printed, refused, spelledPlaces, told};
 
@@ -27,7 +27,7 @@ fn put_byte(out: &mut [u8], at: usize, n: u8, end: u8) -> usize
     requires { ⌜ at + 21 ≤ length (now out) ⌝ }
     ensures { λ r. ⌜ Put (now (out .entry)) (now (out .exit)) at r 4 (decimal n ++ (end ∷ [])) ⌝ }
 {
-    listing::field(out, at, n as u64, end)
+    text::field(out, at, n as u64, end)
 }
 
 // Puts the sixteen places.
@@ -49,9 +49,9 @@ fn put_refused(out: &mut [u8], at: usize, answer: Answer) -> usize
     requires { ⌜ at + 81 ≤ length (now out) ⌝ }
     ensures { λ r. ⌜ Put (now (out .entry)) (now (out .exit)) at r 64 (refused (numberOf answer) (placeOf answer)) ⌝ }
 {
-    let m = listing::put(out, at, b"REFUSED ");
-    let n = listing::field(out, m, causes::number(answer) as u64, 32);
-    listing::field(out, n, causes::place(answer) as u64, 10)
+    let m = text::put(out, at, b"REFUSED ");
+    let n = text::field(out, m, causes::number(answer) as u64, 32);
+    text::field(out, n, causes::place(answer) as u64, 10)
 }
 
 // Puts that a line is no line of sixteen numbers.
@@ -59,8 +59,8 @@ fn put_bad(out: &mut [u8], at: usize, number: u64) -> usize
     requires { ⌜ at + 81 ≤ length (now out) ⌝ }
     ensures { λ r. ⌜ Put (now (out .entry)) (now (out .exit)) at r 64 (badLine number) ⌝ }
 {
-    let m = listing::put(out, at, b"BAD LINE ");
-    listing::field(out, m, number, 10)
+    let m = text::put(out, at, b"BAD LINE ");
+    text::field(out, m, number, 10)
 }
 
 // Shares the places by the numbers of a line, and puts them.
@@ -98,7 +98,7 @@ pub fn answer(input: &[u8], out: &mut [u8]) -> usize
     let mut at: usize = 0;
     let mut number: u64 = 1;
     while at < input.len() {
-        let stop = sheetlines::line_end(input, at);
+        let stop = text::line_end(input, at);
         end = put_line(out, end, number, &input[at..stop]);
         number += 1;
         at = stop + 1;

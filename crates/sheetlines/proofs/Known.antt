@@ -6,7 +6,7 @@ use mathlib.Core.List.{List}
 use Rattle.bits.specs.Tests.{same}
 use Rattle.operands.specs.Operands.{operandOf}
 use Rattle.operands.specs.declared.Operand.{Operand}
-use Rattle.sheetlines.specs.Questions.{asking, namedPM, namedPX1, namedPX2, pmQuestion, pxQuestion, questionOf, rest, word}
+use Rattle.sheetlines.specs.Questions.{asking, namedPM, namedPX1, namedPX2, pmQuestion, pxQuestion, plainQuestion, rest, word}
 use Rattle.sheetlines.specs.declared.questions.Question.the-variants.{Wrong}
 
 pub read-as : {text cut : List ℕ} {read answer : Operand} → cut ≡ text → read ≡ operandOf cut → read ≡ answer → operandOf text ≡ answer
@@ -14,8 +14,8 @@ read-as e f g = sym (ap operandOf e) ∙ sym f ∙ g
 
 -- the line's words, cut out one after the other
 pub words-cut : (line : List ℕ) {frame tail matrix place : List ℕ} → frame ≡ word line → tail ≡ rest line → matrix ≡ word tail → place ≡ rest tail
-    → asking frame matrix place ≡ questionOf line
-unfolding questionOf
+    → asking frame matrix place ≡ plainQuestion line
+unfolding plainQuestion
 words-cut line f t m p = rw (f, m, p, t)
 
 -- by the matrix's name

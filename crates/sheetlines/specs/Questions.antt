@@ -5,12 +5,13 @@
 -- One space parts two words. The last word is all that is left, so a space too many stands in it, and it is no number.
 use Prim.Native.Nat.{ℕ}
 use mathlib.Core.Bool.{cond}
-use mathlib.Core.List.{List, [], _∷_}
+use mathlib.Core.List.{List}
 use Rattle.bits.specs.Tests.{same}
 use Rattle.operands.specs.Operands.{operandOf}
 use Rattle.operands.specs.declared.Operand.{Operand}
 use Rattle.operands.specs.declared.Operand.the-variants.{Number, NotDecimal}
-use Rattle.sheetlines.specs.Cuts.{after, before, space}
+use Rattle.text.specs.Letters.{ascii}
+use Rattle.text.specs.Lines.{after, before, plain, space}
 use Rattle.sheetlines.specs.declared.questions.Question.{Question}
 use Rattle.sheetlines.specs.declared.questions.Question.the-variants.{Pm, Px, Wrong}
 
@@ -43,15 +44,14 @@ pxQuestion channel frame place =
     with (operandOf (rest (rest place))) (λ column.
     Px f channel pair row column))))
 
--- PM, PX1 and PX2
 abbrev pub namedPM : List ℕ
-namedPM = 80 ∷ 77 ∷ []
+namedPM = ascii "PM"
 
 abbrev pub namedPX1 : List ℕ
-namedPX1 = 80 ∷ 88 ∷ 49 ∷ []
+namedPX1 = ascii "PX1"
 
 abbrev pub namedPX2 : List ℕ
-namedPX2 = 80 ∷ 88 ∷ 50 ∷ []
+namedPX2 = ascii "PX2"
 
 -- PX1 brings channel P3, PX2 channel P4
 unfoldable pub asking : (frame matrix place : List ℕ) → Question
@@ -61,5 +61,9 @@ asking frame matrix place =
     (cond (same matrix namedPX2) (pxQuestion 4 frame place)
     Wrong))
 
+unfoldable pub plainQuestion : (line : List ℕ) → Question
+plainQuestion line = asking (word line) (word (rest line)) (rest (rest line))
+
+-- a CR before the newline is not part of the line
 unfoldable pub questionOf : (line : List ℕ) → Question
-questionOf line = asking (word line) (word (rest line)) (rest (rest line))
+questionOf line = plainQuestion (plain line)

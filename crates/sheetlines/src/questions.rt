@@ -1,9 +1,10 @@
 // What a line of the cell list asks for.
-use crate::cuts::rest;
-use crate::cuts::word;
 use operands::Operand;
+use text::plain_line;
+use text::rest;
+use text::word;
 ghost use mathlib.Core.Path.{_≡_};
-ghost use Rattle.sheetlines.specs.Questions.{pmQuestion, pxQuestion, questionOf};
+ghost use Rattle.sheetlines.specs.Questions.{plainQuestion, pmQuestion, pxQuestion, questionOf};
 
 // A cell of an L1 frame: of PM, or of PX1 (channel 3) or PX2 (channel 4) with the block pair.
 pub enum Question {
@@ -68,9 +69,9 @@ fn px_question(channel: u8, frame: &[u8], place: &[u8]) -> Question
     }
 }
 
-// What a line asks for.
-pub fn asked(line: &[u8]) -> Question
-    ensures { λ r. ⌜ r ≡ questionOf (now (line .entry)) ⌝ }
+// What a line asks for that no CR ends.
+fn asked_plain(line: &[u8]) -> Question
+    ensures { λ r. ⌜ r ≡ plainQuestion (now (line .entry)) ⌝ }
 {
     let frame = word(line);
     let tail = rest(line);
@@ -86,4 +87,11 @@ pub fn asked(line: &[u8]) -> Question
         return px_question(4, frame, place);
     }
     Question::Wrong
+}
+
+// What a line asks for.
+pub fn asked(line: &[u8]) -> Question
+    ensures { λ r. ⌜ r ≡ questionOf (now (line .entry)) ⌝ }
+{
+    asked_plain(plain_line(line))
 }

@@ -3,7 +3,7 @@ use Prim.Native.Nat.{_*_, _≤_, _-_}
 use native.Mathlib.Omega.{arith}
 use lib.ListN.{length, take}
 use borrow.Author.Needs.{needs}
-use Rattle.listing.specs.Running.{Put}
+use Rattle.text.specs.Put.{Put}
 use Rattle.celltext.specs.Found.{hexadecimal}
 use Rattle.celltext.proofs.Hexadecimal.{put-start, put-next, put-bytes}
 use Rattle.celltext.proofs.put_hexadecimal.Statement.{statement}

@@ -2,7 +2,7 @@
 use mathlib.Core.Path.{refl}
 use native.Mathlib.Omega.{arith}
 use Rattle.listing.proofs.Going.{longer, ended-line}
-use Rattle.listing.proofs.Stored.{put-behind}
+use Rattle.text.proofs.Stored.{put-behind}
 use borrow.Author.Needs.{needs}
 use Rattle.listing.proofs.blocks.take_byte.Statement.{statement}
 use Rattle.listing.proofs.blocks.take_byte.Tie as tie

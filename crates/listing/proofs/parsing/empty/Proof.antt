@@ -1,7 +1,7 @@
 -- `listing::empty` meets its contract, by computing. Assumes nothing.
 use mathlib.Core.Path.{refl}
-use Rattle.listing.specs.Numbers.{digitsAlone, value}
-use Rattle.listing.specs.Lines.{before, after}
+use Rattle.text.specs.Numbers.{digitsAlone, value}
+use Rattle.text.specs.Lines.{before, after}
 use Rattle.listing.specs.Running.{begun, contains, partOf, lineOf}
 use Rattle.listing.proofs.parsing.empty.Statement.{statement}
 use Rattle.listing.proofs.parsing.empty.Tie as tie

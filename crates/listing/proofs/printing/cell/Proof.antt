@@ -1,5 +1,5 @@
 -- `listing::cell` meets its contract. Assumes nothing.
-use Rattle.listing.proofs.Stored.{put-cell}
+use Rattle.listing.proofs.Celled.{put-cell}
 use borrow.Author.Needs.{needs}
 use Rattle.listing.proofs.printing.cell.Statement.{statement}
 use Rattle.listing.proofs.printing.cell.Tie as tie

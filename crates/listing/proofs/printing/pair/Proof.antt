@@ -1,5 +1,5 @@
 -- `listing::pair` meets its contract. Assumes nothing.
-use Rattle.listing.proofs.Stored.{put-then}
+use Rattle.text.proofs.Stored.{put-then}
 use borrow.Author.Needs.{needs}
 use Rattle.listing.proofs.printing.pair.Statement.{statement}
 use Rattle.listing.proofs.printing.pair.Tie as tie

@@ -2,7 +2,7 @@
 use mathlib.Core.Path.{refl, sym, ap, _∙_}
 use Rattle.listing.specs.Printed.{namedP1, namedPIDS, told}
 use Rattle.listing.proofs.Meaning.{told-shown, shown-printed}
-use Rattle.listing.proofs.Stored.{put-text}
+use Rattle.text.proofs.Stored.{put-text}
 use borrow.Author.Needs.{needs}
 use Rattle.listing.proofs.printing.print.Statement.{statement}
 use Rattle.listing.proofs.printing.print.Tie as tie

@@ -5,8 +5,8 @@ use native.Mathlib.Omega.{arith}
 use denote.Ref.{now}
 use lib.ListN.{length}
 use Rattle.io.proofs.Counting.{counts}
-use Rattle.sheetlines.specs.Cuts.{newline}
-use Rattle.sheetlines.proofs.Ends.{end-within}
+use Rattle.text.specs.Lines.{newline}
+use Rattle.text.proofs.Ends.{end-within}
 use Rattle.placelines.proofs.Goes.{Left, begins, goes-on, ends}
 use borrow.Author.Needs.{needs}
 use Rattle.placelines.proofs.printing.answer.Statement.{statement}

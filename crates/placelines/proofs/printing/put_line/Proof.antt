@@ -1,7 +1,7 @@
 -- `put_line` meets its contract: the case that the line's numbers chose. Assumes nothing.
 use mathlib.Core.Path.{sym, _∙_}
 use denote.Ref.{now}
-use Rattle.listing.proofs.Stored.{put-text}
+use Rattle.text.proofs.Stored.{put-text}
 use Rattle.placelines.proofs.Texts.{printed-read, printed-bad}
 use borrow.Author.Needs.{needs}
 use Rattle.placelines.proofs.printing.put_line.Statement.{statement}

@@ -2,7 +2,7 @@
 use mathlib.Core.Path.{refl}
 use Prim.Native.Nat.{_*_, _-_, _≤_}
 use native.Mathlib.Omega.{arith}
-use Rattle.listing.specs.Running.{Put}
+use Rattle.text.specs.Put.{Put}
 use Rattle.placelines.specs.Printed.{spelledPlaces}
 use Rattle.placelines.proofs.Texts.{no-places, more-places, all-places}
 use borrow.Author.Needs.{needs}

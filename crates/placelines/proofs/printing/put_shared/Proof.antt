@@ -1,7 +1,7 @@
 -- `put_shared` meets its contract: what the call answered is put. Assumes nothing.
 use mathlib.Core.Path.{refl, sym, _∙_}
 use denote.Ref.{now}
-use Rattle.listing.proofs.Stored.{put-text}
+use Rattle.text.proofs.Stored.{put-text}
 use Rattle.placelines.proofs.Texts.{shared-line, told-places, told-refusal}
 use borrow.Author.Needs.{needs}
 use Rattle.placelines.proofs.printing.put_shared.Statement.{statement}

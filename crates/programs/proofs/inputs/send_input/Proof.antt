@@ -1,6 +1,7 @@
 -- `send_input` meets its contract: the number and the buffers that it hands over are those that the definition takes from the input. Assumes nothing.
 use denote.Ref.{now}
-use Rattle.programs.proofs.Cut.{frames-are, sent-in}
+use Rattle.layout.proofs.Framed.{frames-are}
+use Rattle.programs.proofs.Cut.{sent-in}
 use borrow.Author.Needs.{needs}
 use Rattle.programs.proofs.inputs.send_input.Statement.{statement}
 use Rattle.programs.proofs.inputs.send_input.Tie as tie

@@ -1,0 +1,6 @@
+pub mod Inputs
+pub mod Run
+pub mod Sheet
+pub mod Call
+pub mod Ideal
+pub mod Turned

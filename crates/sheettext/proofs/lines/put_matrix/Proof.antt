@@ -1,0 +1,47 @@
+-- `put_matrix` meets its contract. Assumes nothing.
+use mathlib.Core.Path.{sym}
+use borrow.Author.Tests.{eq-eqb, ne-eqb}
+use Rattle.text.proofs.Stored.{put-text}
+use Rattle.sheettext.specs.Texts.{matrixName}
+use borrow.Author.Needs.{needs}
+use Rattle.sheettext.proofs.lines.put_matrix.Statement.{statement}
+use Rattle.sheettext.proofs.lines.put_matrix.Tie as tie
+
+slice-aggregate-put : tie.Need-slice-aggregate-put
+slice-aggregate-put c = search needs
+
+put-requires : tie.Need-put-requires
+put-requires c κs = search needs
+
+same-length : tie.Need-same-length
+same-length c = search needs
+
+returns : tie.Need-returns
+unfolding matrixName
+returns c = put-text (sym (rw (eq-eqb _ _ (c .before .before .before .before .before .if1 .taken)))) (c .before .before .put .ensures)
+
+slice-aggregate-put-2 : tie.Need-slice-aggregate-put-2
+slice-aggregate-put-2 c = search needs
+
+put-requires-2 : tie.Need-put-requires-2
+put-requires-2 c κs = search needs
+
+same-length-2 : tie.Need-same-length-2
+same-length-2 c = search needs
+
+returns-2 : tie.Need-returns-2
+unfolding matrixName
+returns-2 c = put-text (sym (rw (ne-eqb _ _ (c .before .before .before .before .before .if1 .left)))) (c .before .before .put2 .ensures)
+
+pub put-matrix-spec : {M : Type 1} → statement M
+put-matrix-spec =
+    tie.close
+    (tie.spec
+    slice-aggregate-put
+    put-requires
+    same-length
+    returns
+    slice-aggregate-put-2
+    put-requires-2
+    same-length-2
+    returns-2)

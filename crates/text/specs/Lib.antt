@@ -1,0 +1,5 @@
+pub mod Letters
+pub mod Lines
+pub mod Numbers
+pub mod Put
+pub mod Refused
