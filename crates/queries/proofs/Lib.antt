@@ -1,7 +1,7 @@
-mod CasesPX
+pub mod CasesPX
 pub mod Framed
-mod Origins
+pub mod Origins
 pub mod Placing
 pub mod Sheets
-mod Stands
-mod Valued
+pub mod Stands
+pub mod Valued
