@@ -7,6 +7,7 @@ use crate::coding::Rate;
 use crate::control::{control, NUMBERS};
 use crate::draw::{cell_list, Damage, Draw};
 use crate::dumps::{self, Verdict};
+use crate::locating;
 use crate::modes::{Mode, Without, EXTENDED_WAIT, P1_BITS, PIDS_BITS};
 use crate::nearest;
 use crate::packing::{pack, unpack};
@@ -80,6 +81,33 @@ fn in_finder(mode: u64) -> Result<&'static Mode, Stop> {
         None => Ok(mode),
         Some(_) => Err(Stop::NotFound),
     }
+}
+
+/// House matter: lines that ask for a cell's bit or a bit's cell, and their answers.
+pub fn owners(mode: u64, input: &mut impl BufRead, output: &mut impl Write) -> Result<(), Stop> {
+    Ok(locating::owners(in_finder(mode)?, input, output)?)
+}
+
+/// House matter: a line for each coded bit of an L1 frame.
+pub fn all_bits(mode: u64, frame: u64, output: &mut impl Write) -> Result<(), Stop> {
+    Ok(locating::all_bits(in_finder(mode)?, frame, output)?)
+}
+
+/// House matter: the working of a coded bit, from the channel's transfer frames of the L1 frame.
+pub fn working(
+    mode: u64,
+    frame: u64,
+    channel: u64,
+    [tframe, bit]: [u64; 2],
+    input: &mut impl Read,
+    output: &mut impl Write,
+) -> Result<(), Stop> {
+    let mode = in_finder(mode)?;
+    let frames = take(input, P1_BITS)?;
+    let half = (frame % 2) as usize;
+    let worked = locating::working(mode, half, channel, &frames, tframe as usize, bit as usize)
+        .map_err(|refusal| Stop::Refused { refusal, frame })?;
+    Ok(writeln!(output, "{worked:?}")?)
 }
 
 /// Document 01, lent lengths: the next bytes of the input, fewer if it ends before.

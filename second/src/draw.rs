@@ -35,7 +35,7 @@ impl Draw {
     }
 
     /// Drawn frames: an index below a length that is not 0.
-    fn index(&mut self, length: usize) -> usize {
+    pub fn index(&mut self, length: usize) -> usize {
         self.below(length as u64) as usize
     }
 

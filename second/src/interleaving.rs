@@ -231,13 +231,18 @@ impl PxRow {
         (block, row, column)
     }
 
+    /// Section 10.2.6.1: the partition that step i goes to.
+    pub fn partition(&self, i: usize) -> usize {
+        let index = (i + 2 * (self.factor / 4)) / self.factor;
+        self.order[index % self.partitions]
+    }
+
     /// Section 10.2.6.1: the internal cells written by the N steps, counting in each partition.
     fn written(&self) -> &[usize] {
         self.written.get_or_init(|| {
             let mut pt = vec![0; self.partitions];
             let step = |i| {
-                let index = (i + 2 * (self.factor / 4)) / self.factor;
-                let partition = self.order[index % self.partitions];
+                let partition = self.partition(i);
                 let (block, row, column) = self.place(partition, pt[partition]);
                 pt[partition] += 1;
                 (block * BLOCK_ROWS + row) * self.width() + partition * self.columns + column

@@ -8,6 +8,7 @@ pub mod control;
 pub mod draw;
 pub mod dumps;
 pub mod interleaving;
+pub mod locating;
 pub mod modes;
 pub mod nearest;
 pub mod packing;

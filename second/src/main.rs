@@ -9,7 +9,7 @@ use second::modes::Without;
 use second::{cells, nearest, places, restoring, run::Refusal, vector};
 
 /// The commands with their operands.
-const COMMANDS: [(&str, &str); 28] = [
+const COMMANDS: [(&str, &str); 31] = [
     ("draw", "SEED MODE COUNT [without P3|P4|P3 P4]"),
     ("fill", "MODE COUNT [without P3|P4|P3 P4]"),
     ("send", "MODE COUNT [without P3|P4|P3 P4]"),
@@ -22,6 +22,9 @@ const COMMANDS: [(&str, &str); 28] = [
     ("read-on", "MODE COUNT"),
     ("cells", ""),
     ("all-cells", ""),
+    ("owners", "MODE"),
+    ("all-bits", "MODE FRAME"),
+    ("working", "MODE FRAME CHANNEL TFRAME BIT"),
     ("control", "MODE NUMBER"),
     ("damage", "SEED MODE COUNT"),
     ("damage-before", "SEED MODE COUNT"),
@@ -146,6 +149,11 @@ fn dispatch(
         }
         ("cells", _) => Ok(cells::list(&mut input, output)?),
         ("all-cells", _) => Ok(cells::all(output)?),
+        ("owners", &[mode]) => commands::owners(mode, &mut input, output),
+        ("all-bits", &[mode, frame]) => commands::all_bits(mode, frame, output),
+        ("working", &[mode, frame, channel, tframe, bit]) => {
+            commands::working(mode, frame, channel, [tframe, bit], &mut input, output)
+        }
         ("control", &[mode, number]) => commands::control_blocks(mode, number, output),
         ("damage", &[seed, mode, count]) => commands::damage(seed, mode, count, &mut input, output),
         ("damage-before", &[seed, mode, count]) => {

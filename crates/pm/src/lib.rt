@@ -123,7 +123,7 @@ pub fn position_of(row: usize, column: usize) -> Position
 }
 
 // The cell of a position.
-fn cell_of(p: Position) -> usize
+pub fn cell_of(p: Position) -> usize
     requires { ⌜ Inside 20 16 36 p ⌝ }
     ensures { λ r. ⌜ r ≡ cellOf 20 36 p ⌝ }
 {

@@ -49,6 +49,10 @@ module _ (kind : ℕ) (hk : kind < 2) where
       pub part-lt : p < J
       part-lt = rw (p-is, slot) (unfold IV.partIndex in mod-lt _ (K .J-pos))
 
+      pub part-is : p ≡ IV.partition J 32 36 M (order kind) i
+      unfolding IV.partition
+      part-is = rw (← slot, ← p-is) (sym (K .plain p part-lt))
+
       -- what the counter and the missed steps come to
       sum-is : IV.pt J 32 36 M (order kind) i + Inv.missed M p ≡ x / 8 * M + x % M
       sum-is = rw (p-is, slot) (rw (K .eight) at (pt-is J 32 36 M (order kind) (order kind) (K .J-pos) (K .M-pos) (K .perm) i))
@@ -57,7 +61,7 @@ module _ (kind : ℕ) (hk : kind < 2) where
       missed-le = omega (arith, sum-is)
 
       module _ (n : ℕ) (n-is : n + Inv.missed M p ≡ x / 8 * M + x % M) where
-        n-pt : n ≡ IV.pt J 32 36 M (order kind) i
+        pub n-pt : n ≡ IV.pt J 32 36 M (order kind) i
         n-pt = omega (arith, sum-is)
 
         pub place-is : entry kind p n ≡ place kind i

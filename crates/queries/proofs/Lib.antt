@@ -1,9 +1,9 @@
-mod CasesPX
+pub mod CasesPX
 mod CasesSet
 pub mod Framed
-mod Origins
+pub mod Origins
 pub mod Placing
 pub mod Sheets
-mod Stands
-mod Valued
+pub mod Stands
+pub mod Valued
 pub mod Singly

@@ -29,7 +29,7 @@ frame-holds Unused = refl
 frame-holds Narrow = refl
 frame-holds Wide = refl
 
-columns-le : (k : Kind) → columnsOf k ≤ 144
+pub columns-le : (k : Kind) → columnsOf k ≤ 144
 columns-le Unused = omega arith
 columns-le Narrow = omega arith
 columns-le Wide = omega arith

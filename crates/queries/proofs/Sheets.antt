@@ -93,7 +93,7 @@ not-five mode = go (eqb mode 5) (eqb mode 6)
     go true c e = cc
     go false c e = refl
 
-number-is : (mode : ℕ) → mainOf mode ≡ Plain → (e : Extended) → kindOf mode e ≡ kindOfNumber mode (channelNumber e)
+pub number-is : (mode : ℕ) → mainOf mode ≡ Plain → (e : Extended) → kindOf mode e ≡ kindOfNumber mode (channelNumber e)
 unfolding kindOfNumber
 number-is mode is P3 = rw (not-five mode is)
 number-is mode is P4 = rw (not-five mode is)

@@ -1,0 +1,11 @@
+pub mod CasesPM
+pub mod CasesPX
+pub mod Counted
+pub mod WritingsOf
+pub mod AgainPM
+pub mod Later
+pub mod CellsPX
+pub mod AgainPX
+pub mod Sheets
+pub mod Refusals
+pub mod Points

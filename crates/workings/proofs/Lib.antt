@@ -1,0 +1,9 @@
+pub mod Outputs
+pub mod Sums
+pub mod Sizes
+pub mod Cases
+pub mod Written
+pub mod Meant
+pub mod Explained
+pub mod Sheets
+pub mod Points

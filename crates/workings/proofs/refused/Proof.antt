@@ -1,0 +1,12 @@
+-- `refused` meets its contract. Assumes nothing.
+use mathlib.Core.Path.{refl}
+use Rattle.workings.specs.Shown.{refused}
+use Rattle.workings.proofs.refused.Statement.{statement}
+use Rattle.workings.proofs.refused.Tie as tie
+
+returns : tie.Need-returns
+unfolding refused
+returns c = refl
+
+pub refused-spec : {M : Type 1} → statement M
+refused-spec = tie.close (tie.spec returns)

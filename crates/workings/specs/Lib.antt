@@ -1,0 +1,4 @@
+pub mod Shown
+pub mod Explained
+pub mod Sheets
+pub mod Points
