@@ -1,16 +1,17 @@
 /* The FM Layer 1 bit chain of SY_IDD_1011s revision G, with the house matters of documents 01 and 02, for C.
  *
- * The functions are those of the proved crates `exported_runs` (starts, sending, reading) and `exported` (all others): their contracts, in
- * src and specs of crates/exported_runs and crates/exported, say exactly what each returns and what it leaves in every buffer. Every call
- * returns, and refuses what the documents refuse; none has a condition on numbers, lengths or the bytes themselves.
+ * The functions are those of the proved crates `exported_runs` (starts, sending, reading), `version` and `exported` (all others): their
+ * contracts, in src and specs of these crates, say exactly what each returns and what it leaves in every buffer. Every call returns, and
+ * refuses what the documents refuse; none has a condition on numbers, lengths or the bytes themselves.
  *
  * What the caller must guarantee, since the proofs assume it:
  * - a pointer points to as many readable bytes, or numbers where it is one to float, as the length beside it says, and writable ones
  *   where it is not const;
- * - it is not NULL, also where the length is 0: any address will do there;
+ * - where the length is 0 any pointer will do, NULL too: nothing is read or written through it;
  * - a buffer that is written overlaps no other buffer of the call;
  * - nothing else reads a buffer that is written, or writes any buffer of the call, while the call runs: on another thread, in a signal
- *   handler or through a mapping. Calls with other buffers may run at the same time: the library has no state of its own;
+ *   handler or through a mapping. Calls with other buffers may run at the same time, on as many threads as you like: the library has no
+ *   state of its own (wrapper/tests/threads.c). Buffers that are only read may be lent to several calls at once;
  * - the stack has room for LAYER1_SEND_STACK, LAYER1_READ_STACK or, for a dump, LAYER1_JUDGE_STACK bytes, below what the caller itself uses.
  * Nothing is allocated, and nothing of C but memcpy and memset is called.
  *
@@ -54,8 +55,16 @@
 #include <stdint.h>
 
 #ifdef __cplusplus
+static_assert(sizeof(size_t) == 8, "lengths and places cross as words of 64 bits");
 extern "C" {
+#else
+_Static_assert(sizeof(size_t) == 8, "lengths and places cross as words of 64 bits");
 #endif
+
+/* The number of this interface: one more with every change of a call, a place, a length or a field of a word. Where layer1_version(), the
+ * archive's, is another, header and archive do not belong together. */
+#define LAYER1_VERSION 1
+uint32_t layer1_version(void);
 
 /* The most stack that a sending, a reading and the judging of a dump take, in bytes, as compiled (measured by wrapper/tests/stack.c); any
  * other call takes less than a sending. */
@@ -212,6 +221,35 @@ static inline uint32_t layer1_judged_place(uint64_t word) { return (uint32_t)(wo
 static inline unsigned layer1_nearest_distance(uint64_t word) { return word >> 8 & 0xff; }
 static inline unsigned layer1_nearest_margin(uint64_t word) { return word >> 16 & 0xff; }
 static inline uint32_t layer1_nearest_place(uint64_t word) { return (uint32_t)(word >> 32); }
+
+/* begin: written by .ci/header from causes.tsv */
+/* A cause in words; of a number that stands for none, words that say so. */
+static inline const char *layer1_cause_text(unsigned number) {
+    switch (number) {
+    case 0: return "success";
+    case 1: return "the service mode is not covered by this call";
+    case 2: return "the state of the run is not valid";
+    case 3: return "a length is wrong, or a row, column, block pair or channel is out of range";
+    case 4: return "a control block is not the one of this mode, its count and the number of block 0";
+    case 5: return "a P1 frame or P2 in PM is no coded frame, or a P1 frame's second path is none or differs from the first";
+    case 6: return "the PIDS cells are no coded frame";
+    case 7: return "a cell that can show only the zero fill, or only the delay's zeros, is 1";
+    case 8: return "a P3 or P4 frame of the L1 frame two earlier is no coded frame";
+    case 9: return "the reserved number is above 7";
+    case 10: return "the shares add up to more than 16";
+    case 11: return "the symbol is above 511";
+    case 12: return "a scale is not finite or not above zero";
+    case 13: return "a control block does not fit block 0's mode and number and its own position";
+    case 14: return "no frame fits the cells that were read";
+    case 15: return "more than one frame fits the cells that were read";
+    case 16: return "the budget is 0 or above 64";
+    case 17: return "it is no dump: it does not begin with HDM, or has fewer than eight bytes";
+    case 18: return "the dump's version is not 1";
+    case 19: return "the dump ends in an L1 frame, or goes on behind the last";
+    default: return "no such cause";
+    }
+}
+/* end */
 
 /* A row word: where the row starts in its matrix, and how many bytes it has. */
 static inline size_t layer1_row_start(uint64_t word) { return word & 0xffffffff; }
