@@ -1,5 +1,5 @@
 # `make` lists what can be made. Times are of a machine with two processors.
-.PHONY: help sheet sheet-html spectrum programs library quick test bench clean
+.PHONY: help sheet sheet-html spectrum programs library install quick test bench clean
 
 help:
 	@echo "make sheet       the main job on a sample; the first time it proves what the program needs, about seven minutes"
@@ -7,6 +7,7 @@ help:
 	@echo "make spectrum    one symbol of the sample as a picture: target/sheets/spectrum.svg"
 	@echo "make programs    proves and builds every program under target/bin; from nothing about ten minutes, then what has changed"
 	@echo "make library     the C library, target/staticlib/liblayer1.a, for include/layer1.h; about two minutes on built programs"
+	@echo "make install PREFIX=/usr/local  puts header, archive and a pkg-config file there; for C: pkg-config --cflags --libs layer1"
 	@echo "make quick       the loop of an edit: layout, names, contracts, proofs of what has changed, stored runs; at most two minutes on a proved tree"
 	@echo "make test        the gate, from nothing: proofs, must-fail edits, programs, the second program, the C library; about 45 minutes"
 	@echo "make bench       sender, reader, cells, nearest and restore beside the second program; five minutes"
@@ -26,6 +27,9 @@ programs:
 
 library:
 	@include/library
+
+install: library
+	@PREFIX="$(PREFIX)" DESTDIR="$(DESTDIR)" include/install
 
 quick:
 	@.ci/quick

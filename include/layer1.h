@@ -1,16 +1,17 @@
 /* The FM Layer 1 bit chain of SY_IDD_1011s revision G, with the house matters of documents 01 and 02, for C.
  *
- * The functions are those of the proved crates `exported_runs` (starts, sending, reading), `exported_sheets` (the answer sheet) and `exported`
- * (all others): their contracts, in src and specs of these crates, say exactly what each returns and what it leaves in every buffer. Every call
- * returns, and refuses what the documents refuse; none has a condition on numbers, lengths or the bytes themselves.
+ * The functions are those of the proved crates `exported_runs` (starts, sending, reading), `exported_sheets` (the answer sheet), `version`
+ * and `exported` (all others): their contracts, in src and specs of these crates, say exactly what each returns and what it leaves in every
+ * buffer. Every call returns, and refuses what the documents refuse; none has a condition on numbers, lengths or the bytes themselves.
  *
  * What the caller must guarantee, since the proofs assume it:
  * - a pointer points to as many readable bytes, or numbers where it is one to float, as the length beside it says, and writable ones
  *   where it is not const;
- * - it is not NULL, also where the length is 0: any address will do there;
+ * - where the length is 0 any pointer will do, NULL too: nothing is read or written through it;
  * - a buffer that is written overlaps no other buffer of the call;
  * - nothing else reads a buffer that is written, or writes any buffer of the call, while the call runs: on another thread, in a signal
- *   handler or through a mapping. Calls with other buffers may run at the same time: the library has no state of its own;
+ *   handler or through a mapping. Calls with other buffers may run at the same time, on as many threads as you like: the library has no
+ *   state of its own (wrapper/tests/threads.c). Buffers that are only read may be lent to several calls at once;
  * - the stack has room for LAYER1_SEND_STACK, LAYER1_READ_STACK or, for a dump, LAYER1_JUDGE_STACK bytes, below what the caller itself uses.
  * Nothing is allocated, and nothing of C but memcpy and memset is called.
  *
@@ -20,32 +21,8 @@
  * sending, and no reading, may also be lent length 0: no data, which means eight frames of zeros (document 02, S-5). A refused call leaves
  * the state and all buffers as they were.
  *
- * The numbers of the table of causes, and the place that comes with each:
- *   0  success                                                                  0
- *   1  start, dump: the mode is not 1, 2, 3, 5, 6 or 11; vector: not 1, 2, 3, 11  0
- *   2  the state is not valid                                                   0
- *   3  a length is wrong, or a row, column, block pair or channel out of range  the first such buffer or argument, from 0
- *   4  a control block is not the one of this mode, its count and the number    the lowest such block
- *      of block 0
- *   5  a P1 frame or P2 in PM is no coded frame; at age 3 a P1' frame in PX2    the lowest such P1 frame, from 0; 8 for P2
- *      is none, or not the P1 frame of the L1 frame three earlier
- *   6  the PIDS cells are no coded frame                                        the lowest such frame
- *   7  a cell that can show only the zero fill, or at ages 0 to 2 only the      the lowest such cell, through PX1, then PX2; in MP5
- *      delay's zeros, is 1                                                      and MP6 behind the 368,640 cells of PM
- *   8  a P3 or P4 frame of the L1 frame two earlier is no coded frame           0 to 7 for P3, 8 to 15 for P4, the lowest
- * and of document 02's, of which 9 comes after 2 and before 3, and 17 and 18 before 1:
- *   9  the reserved number of a sending is above 7                              0
- *  10  the shares add up to more than 16                                        0
- *  11  the symbol of a vector is above 511                                      0
- *  12  a scale is not finite or not above zero                                  0 for the lower sideband, 1 for the upper
- *  13  no control block of a set is faulty by itself, and one does not fit     the lowest such block
- *      block 0's mode and number and its own position
- *  14  no frame fits the cells that were read                                   0
- *  15  more than one frame fits them                                            0
- *  16  the budget of a search is 0 or above 64                                  0
- *  17  a dump has fewer than eight bytes or another mark                        0
- *  18  its version is not 1                                                     0
- *  19  it ends in an L1 frame, or goes on behind the last                       0
+ * A refused call says the number of its cause and a place: layer1_cause_text below has the table of causes. The lowest number that is met is
+ * returned, then the lowest place; of document 02's causes 9 comes after 2 and before 3, and 17 and 18 before 1.
  */
 #ifndef LAYER1_H
 #define LAYER1_H
@@ -54,8 +31,16 @@
 #include <stdint.h>
 
 #ifdef __cplusplus
+static_assert(sizeof(size_t) == 8, "lengths and places cross as words of 64 bits");
 extern "C" {
+#else
+_Static_assert(sizeof(size_t) == 8, "lengths and places cross as words of 64 bits");
 #endif
+
+/* The number of this interface: one more with every change of a call, a place, a length or a field of a word. Where layer1_version(), the
+ * archive's, is another, header and archive do not belong together. */
+#define LAYER1_VERSION 1
+uint32_t layer1_version(void);
 
 /* The most stack that a sending, a reading and the judging of a dump take, in bytes, as compiled (measured by wrapper/tests/stack.c); any
  * other call takes less than a sending. */
@@ -220,6 +205,56 @@ static inline uint32_t layer1_judged_place(uint64_t word) { return (uint32_t)(wo
 static inline unsigned layer1_nearest_distance(uint64_t word) { return word >> 8 & 0xff; }
 static inline unsigned layer1_nearest_margin(uint64_t word) { return word >> 16 & 0xff; }
 static inline uint32_t layer1_nearest_place(uint64_t word) { return (uint32_t)(word >> 32); }
+
+/* begin: written by .ci/header from causes.tsv */
+/* The table of causes in words, with the place that comes with each; of a number that stands for none, words that say so. */
+static inline const char *layer1_cause_text(unsigned number) {
+    switch (number) {
+    case 0: /* the place: 0 */
+        return "success";
+    case 1: /* the place: 0 */
+        return "the service mode is not covered: it is not 1, 2, 3, 5, 6 or 11 or, of a vector, not 1, 2, 3 or 11";
+    case 2: /* the place: 0 */
+        return "the state of the run is not valid";
+    case 3: /* the place: the first such buffer or argument, from 0 */
+        return "a length is wrong, or a row, column, block pair or channel is out of range";
+    case 4: /* the place: the lowest such block */
+        return "a control block is not the one of this mode, its count and the number of block 0";
+    case 5: /* the place: the lowest such P1 frame, from 0; 8 for P2 */
+        return "a P1 frame or P2 in PM is no coded frame; or at age 3 a P1' frame in PX2 is none, or not the P1 frame of the L1 frame three earlier";
+    case 6: /* the place: the lowest such frame */
+        return "the PIDS cells are no coded frame";
+    case 7: /* the place: the lowest such cell, through PX1, then PX2; in MP5 and MP6 behind the 368,640 cells of PM */
+        return "a cell that can show only the zero fill, or at ages 0 to 2 only the delay's zeros, is 1";
+    case 8: /* the place: 0 to 7 for P3, 8 to 15 for P4, the lowest */
+        return "a P3 or P4 frame of the L1 frame two earlier is no coded frame";
+    case 9: /* the place: 0 */
+        return "the reserved number is above 7";
+    case 10: /* the place: 0 */
+        return "the shares add up to more than 16";
+    case 11: /* the place: 0 */
+        return "the symbol is above 511";
+    case 12: /* the place: 0 for the lower sideband, 1 for the upper */
+        return "a scale is not finite or not above zero";
+    case 13: /* the place: the lowest such block */
+        return "no control block of a set is faulty by itself, and one does not fit block 0's mode and number and its own position";
+    case 14: /* the place: 0 */
+        return "no frame fits the cells that were read";
+    case 15: /* the place: 0 */
+        return "more than one frame fits the cells that were read";
+    case 16: /* the place: 0 */
+        return "the budget is 0 or above 64";
+    case 17: /* the place: 0 */
+        return "it is no dump: it does not begin with HDM, or has fewer than eight bytes";
+    case 18: /* the place: 0 */
+        return "the dump's version is not 1";
+    case 19: /* the place: 0 */
+        return "the dump ends in an L1 frame, or goes on behind the last";
+    default:
+        return "no such cause";
+    }
+}
+/* end */
 
 /* A row word: where the row starts in its matrix, and how many bytes it has. */
 static inline size_t layer1_row_start(uint64_t word) { return word & 0xffffffff; }

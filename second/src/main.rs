@@ -6,10 +6,10 @@ use std::process::ExitCode;
 
 use second::commands::{self, Stop};
 use second::modes::Without;
-use second::{cells, nearest, places, restoring, run::Refusal, vector};
+use second::{calls, cells, nearest, places, restoring, run::Refusal, vector};
 
 /// The commands with their operands.
-const COMMANDS: [(&str, &str); 31] = [
+const COMMANDS: [(&str, &str); 32] = [
     ("draw", "SEED MODE COUNT [without P3|P4|P3 P4]"),
     ("fill", "MODE COUNT [without P3|P4|P3 P4]"),
     ("send", "MODE COUNT [without P3|P4|P3 P4]"),
@@ -41,6 +41,7 @@ const COMMANDS: [(&str, &str); 31] = [
     ("vector", "MODE SYMBOL LOWER UPPER"),
     ("draw-scales", "SEED COUNT"),
     ("add", "FILES"),
+    ("draw-calls", "SEED"),
 ];
 
 /// No section: runs one command; 0 if it did its work, 1 if refused or different, 2 otherwise.
@@ -181,6 +182,7 @@ fn dispatch(
             commands::vector(mode, symbol, [lower, upper], &mut input, output)
         }
         ("draw-scales", &[seed, count]) => Ok(vector::drawn_scales(seed, count, output)?),
+        ("draw-calls", &[seed]) => calls::lines(seed, output),
         ("add", _) => {
             let read: io::Result<Vec<Vec<u8>>> = files.iter().map(std::fs::read).collect();
             commands::add(&read?, output)

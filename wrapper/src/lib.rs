@@ -3,13 +3,27 @@
 //! The borrow rules give what the header `include/layer1.h` asks of a caller: slices point to as many bytes as they say, also where they
 //! are empty, and one that is written overlaps no other.
 
+#![deny(missing_docs)]
+
 mod raw;
+
+/// The number of the interface that this crate is written for: the header's `LAYER1_VERSION`.
+pub const VERSION: u32 = 1;
+
+/// The number of the interface that the archive has. Where it is not `VERSION`, the two do not belong together.
+pub fn version() -> u32 {
+    // SAFETY: nothing crosses but a number.
+    unsafe { raw::layer1_version() }
+}
 
 /// Documents 01 and 02: a run's state. One that is not valid is refused (2).
 #[derive(Clone, Copy, Debug, PartialEq, Eq)]
 pub struct State {
+    /// The service mode, by its number: 1, 2, 3, 5, 6 or 11.
     pub mode: u8,
+    /// Which half of the interleaver's internal matrix comes next, 0 or 1.
     pub half: u8,
+    /// How many L1 frames the run has, as far as it matters: at most 2, in MP5 and MP6 at most 3.
     pub age: u8,
     /// Document 02, S-2: the last number sent or read.
     pub reserved: u8,
@@ -19,48 +33,78 @@ pub struct State {
 /// number, 0 when refused.
 #[derive(Clone, Copy, Debug, PartialEq, Eq)]
 pub struct Outcome {
+    /// The number of the table of causes, 0 for success.
     pub number: u8,
+    /// The place that comes with it.
     pub place: u32,
+    /// The state after the call: after a refused one the state that it was handed, after a refused start that of a start in MP1.
     pub state: State,
+    /// The reserved number of the L1 frame that was read, 0 after any other call.
     pub reserved: u8,
 }
 
 /// The two sides of a run.
 #[derive(Clone, Copy, Debug, PartialEq, Eq)]
 pub enum Side {
+    /// Starts, then sends.
     Sender,
+    /// Starts, then reads.
     Reader,
 }
 
 /// The buffers lent to a sending, in the order of their places. An empty `p3` or `p4` means eight frames of zeros (document 02, S-5).
 pub struct Sending<'a> {
+    /// The P1 frames, read.
     pub p1: &'a [u8],
+    /// The PIDS frames, read.
     pub pids: &'a [u8],
+    /// The P2 frame, read.
     pub p2: &'a [u8],
+    /// The P3 frames, read.
     pub p3: &'a [u8],
+    /// The P4 frames, read.
     pub p4: &'a [u8],
+    /// PM, written.
     pub pm: &'a mut [u8],
+    /// PX1, written.
     pub px1: &'a mut [u8],
+    /// PX2, written.
     pub px2: &'a mut [u8],
+    /// The sixteen control blocks, written.
     pub control: &'a mut [u8],
+    /// The memory for P3, kept from call to call.
     pub memory3: &'a mut [u8],
+    /// The memory for P4, kept from call to call.
     pub memory4: &'a mut [u8],
+    /// The delay memory, kept from call to call.
     pub delay: &'a mut [u8],
 }
 
 /// The buffers lent to a reading, in the order of their places.
 pub struct Reading<'a> {
+    /// The P1 frames, written.
     pub p1: &'a mut [u8],
+    /// The PIDS frames, written.
     pub pids: &'a mut [u8],
+    /// The P2 frame, written.
     pub p2: &'a mut [u8],
+    /// The P3 frames, written.
     pub p3: &'a mut [u8],
+    /// The P4 frames, written.
     pub p4: &'a mut [u8],
+    /// PM, read.
     pub pm: &'a [u8],
+    /// PX1, read.
     pub px1: &'a [u8],
+    /// PX2, read.
     pub px2: &'a [u8],
+    /// The sixteen control blocks, read.
     pub control: &'a [u8],
+    /// The memory for P3, kept from call to call.
     pub memory3: &'a mut [u8],
+    /// The memory for P4, kept from call to call.
     pub memory4: &'a mut [u8],
+    /// The delay memory, kept from call to call.
     pub delay: &'a mut [u8],
 }
 
@@ -70,111 +114,157 @@ pub const POINTS: usize = 1_093;
 /// The matrices and the control of an L1 frame, lent to be read.
 #[derive(Clone, Copy)]
 pub struct L1Frame<'a> {
+    /// PM.
     pub pm: &'a [u8],
+    /// PX1.
     pub px1: &'a [u8],
+    /// PX2.
     pub px2: &'a [u8],
+    /// The sixteen control blocks.
     pub control: &'a [u8],
 }
 
 /// Document 02, S-7: a scale for each sideband.
 #[derive(Clone, Copy)]
 pub struct Scales {
+    /// Of the lower sideband.
     pub lower: f32,
+    /// Of the upper sideband.
     pub upper: f32,
 }
 
 /// The channels that meet in PM.
 #[derive(Clone, Copy, Debug, PartialEq, Eq)]
 pub enum Channel {
+    /// P1.
     P1,
+    /// PIDS.
     Pids,
 }
 
 /// Whose coded bit stands in a cell of PM; no channel and zeros when refused.
 #[derive(Clone, Copy, Debug, PartialEq, Eq)]
 pub struct Found {
+    /// The number of the table of causes, 0 for success.
     pub number: u8,
+    /// The place that comes with it.
     pub place: u8,
+    /// The channel of the coded bit.
     pub channel: Option<Channel>,
+    /// Its transfer frame.
     pub frame: u8,
+    /// The coded bit in that frame.
     pub bit: u32,
 }
 
 /// Document 02, S-3: where a row and a column of PM stand.
 #[derive(Clone, Copy, Debug, PartialEq, Eq)]
 pub struct Position {
+    /// The L1 block.
     pub block: u8,
+    /// The row in the block.
     pub row: u8,
+    /// The partition.
     pub partition: u8,
+    /// The column in the partition.
     pub column: u8,
 }
 
 /// The position of a row and a column of PM; zeros when refused.
 #[derive(Clone, Copy, Debug, PartialEq, Eq)]
 pub struct Placed {
+    /// The number of the table of causes, 0 for success.
     pub number: u8,
+    /// The place that comes with it.
     pub place: u8,
+    /// The position.
     pub position: Position,
 }
 
 /// What stands in a cell of PX1 or PX2.
 #[derive(Clone, Copy, Debug, PartialEq, Eq)]
 pub enum Content {
+    /// A coded bit.
     Coded,
+    /// The zero fill.
     Fill,
 }
 
 /// Whose coded bit stands in a cell of PX1 or PX2, and how many L1 frames earlier it was sent; no content and zeros when refused.
 #[derive(Clone, Copy, Debug, PartialEq, Eq)]
 pub struct FoundPx {
+    /// The number of the table of causes, 0 for success.
     pub number: u8,
+    /// The place that comes with it.
     pub place: u8,
+    /// What the cell shows.
     pub content: Option<Content>,
+    /// How many L1 frames earlier the bit was sent.
     pub before: u8,
+    /// Its transfer frame.
     pub frame: u8,
+    /// The coded bit in that frame.
     pub bit: u32,
 }
 
 /// What a control block says; mode, count and reserved number 0 when refused.
 #[derive(Clone, Copy, Debug, PartialEq, Eq)]
 pub struct LookedUp {
+    /// The number of the table of causes, 0 for success.
     pub number: u8,
+    /// The place that comes with it.
     pub place: u32,
+    /// The service mode.
     pub mode: u8,
+    /// The block count.
     pub count: u8,
+    /// The reserved number.
     pub reserved: u8,
 }
 
 /// Document 02, S-8: what the sixteen control blocks of an L1 frame say as a set; mode and reserved number 0 when refused.
 #[derive(Clone, Copy, Debug, PartialEq, Eq)]
 pub struct LookedUpFrame {
+    /// The number of the table of causes, 0 for success.
     pub number: u8,
+    /// The place that comes with it.
     pub place: u32,
+    /// The service mode.
     pub mode: u8,
+    /// The reserved number.
     pub reserved: u8,
 }
 
 /// What a call returns that has no state: number and place of the table of causes.
 #[derive(Clone, Copy, Debug, PartialEq, Eq)]
 pub struct Answer {
+    /// The number of the table of causes, 0 for success.
     pub number: u8,
+    /// The place that comes with it.
     pub place: u32,
 }
 
 /// Document 02, S-12: what a search for the nearest frame tells; distance and margin 0 when refused.
 #[derive(Clone, Copy, Debug, PartialEq, Eq)]
 pub struct Nearest {
+    /// The number of the table of causes, 0 for success.
     pub number: u8,
+    /// The place that comes with it.
     pub place: u32,
+    /// The number of read cells that differ from the frame's.
     pub distance: u8,
+    /// By how much at most a frame of another start is nearer.
     pub margin: u8,
 }
 
 /// Document 02, S-13: what the judge says of a dump: number and place of the table of causes, and the number of the L1 frame; zeros when it accepts.
 #[derive(Clone, Copy, Debug, Default, PartialEq, Eq)]
 pub struct Verdict {
+    /// The number of the table of causes, 0 for success.
     pub number: u8,
+    /// The place that comes with it.
     pub place: u32,
+    /// The number of the L1 frame that a dump is refused at.
     pub frame: u16,
 }
 

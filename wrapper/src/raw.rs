@@ -1,6 +1,7 @@
-//! The functions of `include/layer1.h`.
+//! The functions of `include/layer1.h`; `.ci/header` holds the two against each other.
 
 extern "C" {
+    pub fn layer1_version() -> u32;
     pub fn layer1_share_places(
         shares: u64,
         waiting: u64,
