@@ -1,6 +1,16 @@
-# `make sheet` is the main job on a sample, `make sheet-html` the same for paper, `make spectrum` a picture of one symbol, `make library` the C library, `make test` the gate,
-# `make bench` measures sender and reader beside the second program.
-.PHONY: sheet sheet-html spectrum library test bench
+# `make` lists what can be made. Times are of a machine with two processors.
+.PHONY: help sheet sheet-html spectrum programs library quick test bench clean
+
+help:
+	@echo "make sheet       the main job on a sample; the first time it proves what the program needs, about seven minutes"
+	@echo "make sheet-html  the same for paper: target/sheets/candidate.html and examiner.html"
+	@echo "make spectrum    one symbol of the sample as a picture: target/sheets/spectrum.svg"
+	@echo "make programs    proves and builds every program under target/bin; from nothing about ten minutes, then what has changed"
+	@echo "make library     the C library, target/staticlib/liblayer1.a, for include/layer1.h; about two minutes on built programs"
+	@echo "make quick       the loop of an edit: layout, names, contracts, proofs of what has changed, stored runs; at most two minutes on a proved tree"
+	@echo "make test        the gate, from nothing: proofs, must-fail edits, programs, the second program, the C library; about 45 minutes"
+	@echo "make bench       sender, reader, cells, nearest and restore beside the second program; five minutes"
+	@echo "make clean       removes target/, with all that was proved"
 
 sheet:
 	@sheets/print
@@ -11,11 +21,20 @@ sheet-html:
 spectrum:
 	@sheets/spectrum
 
+programs:
+	@.ci/programs
+
 library:
 	@include/library
+
+quick:
+	@.ci/quick
 
 test:
 	.ci/run
 
 bench:
 	bench/run
+
+clean:
+	rm -rf target
