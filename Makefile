@@ -1,11 +1,12 @@
 # `make` lists what can be made. Times are of a machine with two processors.
-.PHONY: help sheet sheet-html spectrum programs library quick test bench clean
+.PHONY: help sheet sheet-html spectrum programs install library quick test bench clean
 
 help:
 	@echo "make sheet       the main job on a sample; the first time it proves what the program needs, about seven minutes"
 	@echo "make sheet-html  the same for paper: target/sheets/candidate.html and examiner.html"
 	@echo "make spectrum    one symbol of the sample as a picture: target/sheets/spectrum.svg"
 	@echo "make programs    proves and builds every program under target/bin; from nothing about ten minutes, then what has changed"
+	@echo "make install     the front command layer1 and the programs under PREFIX, as make install PREFIX=/usr/local; from the clone it is ./layer1"
 	@echo "make library     the C library, target/staticlib/liblayer1.a, for include/layer1.h; about two minutes on built programs"
 	@echo "make quick       the loop of an edit: layout, names, contracts, proofs of what has changed, stored runs; at most two minutes on a proved tree"
 	@echo "make test        the gate, from nothing: proofs, must-fail edits, programs, the second program, the C library; about 45 minutes"
@@ -23,6 +24,9 @@ spectrum:
 
 programs:
 	@.ci/programs
+
+install: programs
+	@front/install "$(PREFIX)"
 
 library:
 	@include/library
