@@ -19,8 +19,11 @@ sheet:
 sheet-html:
 	@sheets/html
 
+# Symbol 100 of the sample's last L1 frame, its upper sideband at half the scale of the lower.
 spectrum:
-	@sheets/spectrum
+	@mkdir -p target/sheets
+	@./layer1 send 11 3 sheets/sample/frames -o target/sheets/sample.dump --force
+	@./layer1 vector target/sheets/sample.dump 100 1 0.5 --frame 2 --picture target/sheets/spectrum.svg --force
 
 programs:
 	@.ci/programs
