@@ -1,13 +1,14 @@
 """The verbs whose and where: whose bit stands in a cell, and where a bit goes."""
 
 import argparse
-from typing import List
+from typing import List, Optional
 
 from . import owners
 from .files import say
 from .modes import Mode, mode_of, number_of
 from .outcomes import DONE, Misused
 from .owners import Bit, Cell
+from .words import Verbs
 
 GREATEST = 10**9
 """No number of a question is greater; what a mode has decides the program."""
@@ -16,7 +17,7 @@ PIDS_BITS = 200
 """Coded bits of a PIDS frame."""
 
 
-def arrange(verbs: "argparse._SubParsersAction[argparse.ArgumentParser]") -> None:
+def arrange(verbs: Verbs) -> None:
     """The words of both verbs."""
     whose = verbs.add_parser("whose", help="whose coded bit stands in a cell", description="Says whose coded bit stands in a cell of a matrix.")
     whose.add_argument("cell", nargs="+", metavar="WORD", help="ROW COL or PM ROW COL; PX1 PAIR ROW COL or PX2 PAIR ROW COL")
@@ -49,7 +50,7 @@ def cell_of_words(words: List[str], frame: int) -> Cell:
     raise Misused("a cell is ROW COL, PM ROW COL, PX1 PAIR ROW COL or PX2 PAIR ROW COL")
 
 
-def mode_for(word: str, needed: bool) -> Mode:
+def mode_for(word: Optional[str], needed: bool) -> Mode:
     """The mode of a question."""
     if word is None and needed:
         raise Misused("in PX1 and PX2, and of P3 and P4, the answer depends on the service mode: say --mode")

@@ -1,23 +1,13 @@
 """The command line: its verbs, and what each ending is said as."""
 
-import argparse
-import re
 import sys
-from typing import List, NoReturn, Optional
+from typing import List, Optional
 
 from . import asking, comparing, files, lines, looking, sending, sheets, subcarriers
-from .outcomes import DONE, FAILED, MISUSED, Ended, Failed
+from .outcomes import DONE, FAILED, Ended, Failed
+from .words import Parser
 
 DESCRIPTION = "FM Layer 1 answers from the proved programs. Exit status: 0 done, 1 refused or different, 2 wrong use, 3 the system failed."
-
-
-class Parser(argparse.ArgumentParser):
-    """Says in one line what is wrong, with status 2, as every other wrong use."""
-
-    def error(self, message: str) -> NoReturn:
-        plain = re.sub(r" \(choose from .*", "", message)
-        sys.stderr.write(f"{self.prog}: {plain}; --help says what it takes\n")
-        sys.exit(MISUSED)
 
 
 def parser() -> Parser:

@@ -11,12 +11,13 @@ from .modes import PAIR_ROWS, Mode, mode_of, number_of
 from .outcomes import DONE, REFUSED, Misused
 from .owners import FILL, Bit, Cell
 from .progress import Progress
+from .words import Verbs
 
 SHOWN = 20
 """Differences that are shown without --all."""
 
 
-def arrange(verbs: "argparse._SubParsersAction[argparse.ArgumentParser]") -> None:
+def arrange(verbs: Verbs) -> None:
     """The words of the verb."""
     verb = verbs.add_parser(
         "compare",

@@ -7,7 +7,7 @@ from typing import BinaryIO, Dict, Iterator, Optional, Tuple
 from . import causes
 from .files import opened, shown, size_of
 from .modes import MATRICES, MODES, PAIR_ROWS, Mode
-from .outcomes import Misused, Refused
+from .outcomes import Failed, Misused, Refused
 from .owners import Cell
 
 MARK = b"HDM"
@@ -58,6 +58,19 @@ def bit_of(mode: Mode, frame: bytes, cell: Cell) -> int:
     row = cell.row if cell.pair is None else PAIR_ROWS * cell.pair + cell.row
     at = row * columns + cell.column
     return matrices_of(mode, frame)[cell.matrix][at // 8] >> (7 - at % 8) & 1
+
+
+def cell_at(mode: Mode, frame: int, place: int) -> Cell:
+    """The cell that a place under 7 counts: through PX1, then PX2, in MP5 and MP6 through PM first."""
+    names = ("PM", "PX1", "PX2") if mode.delay else ("PX1", "PX2")
+    left = place
+    for name in names:
+        cells = 8 * mode.matrices[MATRICES.index(name)]
+        if left < cells:
+            row, column = divmod(left, mode.columns(name))
+            return Cell(frame, name, None, row, column) if name == "PM" else Cell(frame, name, row // PAIR_ROWS, row % PAIR_ROWS, column)
+        left -= cells
+    raise Failed(f"{mode.name} has no cell {place}")
 
 
 def headed(file: BinaryIO) -> Tuple[Mode, int]:

@@ -30,7 +30,7 @@ def opened(name: str) -> Iterator[BinaryIO]:
     except IsADirectoryError:
         raise Misused(f"{name} is a folder") from None
     except OSError as error:
-        raise Misused(f"{name}: {reason(error)}") from None
+        raise Misused(f"{shown(name)}: {reason(error)}") from None
     with source:
         if stat.S_ISREG(os.fstat(source.fileno()).st_mode) and source.tell() == 0:
             yield source
@@ -189,7 +189,7 @@ def replacing(path: Path, force: bool) -> Iterator[BinaryIO]:
 def in_place(path: Path) -> Iterator[BinaryIO]:
     """A device or a pipe cannot be replaced: it is written as it is."""
     try:
-        with open(path, "wb", buffering=0) as file:
+        with open(path, "wb") as file:
             yield file
     except OSError as error:
         raise Failed(f"{path} is not written: {reason(error)}") from None

@@ -8,6 +8,7 @@ from . import causes, programs
 from .files import STANDARD, say, text_of
 from .modes import number_of
 from .outcomes import DONE, REFUSED, Failed
+from .words import Verbs
 
 FRAME = r"[0-9A-F]{20}"
 NEAREST = re.compile(rf"{FRAME} \d+ \d+|REFUSED \d+", re.ASCII)
@@ -19,7 +20,7 @@ GREATEST_PLACES = 16384
 CELLS = "lines of 200 cells in coded order, each 0, 1, or ? where it was not read"
 
 
-def arrange(verbs: "argparse._SubParsersAction[argparse.ArgumentParser]") -> None:
+def arrange(verbs: Verbs) -> None:
     """The words of the verbs."""
     nearest = verbs.add_parser(
         "nearest",

@@ -8,11 +8,13 @@ from .files import say
 from .modes import number_of
 from .outcomes import DONE
 from .owners import Bit
+from .words import Verbs
 
 
-def arrange(verbs: "argparse._SubParsersAction[argparse.ArgumentParser]") -> None:
+def arrange(verbs: Verbs) -> None:
     """The words of both verbs."""
-    bit = verbs.add_parser("bit", help="the bit in a cell of a dump, and whose it is", description="Says which bit stands in a cell of a dump, and whose it is.")
+    described = "Says which bit stands in a cell of a dump, and whose it is."
+    bit = verbs.add_parser("bit", help="the bit in a cell of a dump, and whose it is", description=described)
     bit.add_argument("dump", metavar="DUMP", help="a dump; - is standard input")
     bit.add_argument("frame", metavar="FRAME", help="L1 frame, from 0")
     bit.add_argument("cell", nargs="+", metavar="WORD", help="ROW COL or PM ROW COL; PX1 PAIR ROW COL or PX2 PAIR ROW COL")

@@ -35,21 +35,14 @@ def program(name: str) -> Path:
     return BUILT / name
 
 
-def is_there(name: str) -> bool:
-    """Whether this revision has a program, built or not."""
-    folder = os.environ.get(FOLDER_VARIABLE)
-    built = [place / name for place in ([Path(folder)] if folder else []) + [BUILT]]
-    return any(os.access(path, os.X_OK) for path in built) or source(name).exists()
-
-
-def source(name: str) -> Path:
+def source_of(name: str) -> Path:
     """The source file that a program has in a clone."""
     return ROOT / "crates" / name / "src" / "main.rt"
 
 
 def build(name: str) -> None:
     """Proves and builds a program by the project's own progress, which goes to standard error."""
-    if not source(name).exists():
+    if not source_of(name).exists():
         raise Failed(f"this revision has no program {name}")
     sys.stderr.write(f"layer1: the program {name} is not built yet; proving and building it, which is done once\n")
     sys.stderr.flush()

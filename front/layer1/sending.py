@@ -10,12 +10,13 @@ from . import causes, dumps, programs
 from .files import STANDARD, opened, refuse_existing, say, shown, size_of, write
 from .modes import Mode, mode_of, number_of
 from .outcomes import DONE, Failed, Misused, Refused
+from .words import Verbs
 
 GREATEST_COUNT = 10**9
 VERDICT = re.compile(r"refused: number (\d+) place (\d+) frame (\d+)\n")
 
 
-def arrange(verbs: "argparse._SubParsersAction[argparse.ArgumentParser]") -> None:
+def arrange(verbs: Verbs) -> None:
     """The words of the verbs."""
     send = verbs.add_parser(
         "send",
@@ -104,14 +105,15 @@ def run_read(given: argparse.Namespace) -> int:
 def run_judge(given: argparse.Namespace) -> int:
     """The verb judge."""
     with opened(given.file) as source:
-        verdict = judged(source)
-        if verdict == (0, 0, 0):
-            source.seek(0)
-            mode, count = dumps.headed(source)
-            say(f"accepted: {count} L1 frame{'s' * (count != 1)} of {mode.name}\n")
-            return DONE
-    number, place, frame = verdict
-    raise causes.refusal(number, place, None if number in (1, 17, 18) else frame, "judge")
+        number, place, frame = judged(source)
+        if number in (1, 17, 18):
+            raise causes.refusal(number, place, None, "judge")
+        mode, count = dumps.headed(source)
+    if number == 0:
+        say(f"accepted: {count} L1 frame{'s' * (count != 1)} of {mode.name}\n")
+        return DONE
+    cell = f"; it is {dumps.cell_at(mode, frame, place).words(False)}" if number == 7 else ""
+    raise Refused(f"{causes.refusal(number, place, frame, 'judge')}{cell}")
 
 
 def judged(source: BinaryIO) -> Tuple[int, int, int]:

@@ -11,11 +11,12 @@ from .asking import GREATEST, bits_of_words
 from .files import behind, opened, refuse_existing, say, shown, size_of, text_of, write_text
 from .modes import Mode, mode_of, number_of
 from .outcomes import DONE, Failed, Refused
+from .words import Verbs
 
 COPIES = ("candidate", "examiner")
 
 
-def arrange(verbs: "argparse._SubParsersAction[argparse.ArgumentParser]") -> None:
+def arrange(verbs: Verbs) -> None:
     """The words of both verbs."""
     sheet = verbs.add_parser(
         "sheet",

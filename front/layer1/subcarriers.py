@@ -9,6 +9,7 @@ from . import causes, dumps, picture, programs, scales, sending
 from .files import STANDARD, behind, refuse_existing, say, write_text
 from .modes import MODES, Mode, mode_of, number_of
 from .outcomes import DONE, Failed, Refused
+from .words import Verbs
 
 SUBCARRIERS = 1093
 LINE = re.compile(r"(-?\d+) (-?\d+(?:\.\d+)?) (-?\d+(?:\.\d+)?) (?:(PM|PX1|PX2|R) (\d+)|-)", re.ASCII)
@@ -32,7 +33,7 @@ class Subcarrier:
         return f"{self.number} {self.re} {self.im} {source}\n"
 
 
-def arrange(verbs: "argparse._SubParsersAction[argparse.ArgumentParser]") -> None:
+def arrange(verbs: Verbs) -> None:
     """The words of the verb."""
     verb = verbs.add_parser(
         "vector",

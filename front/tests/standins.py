@@ -1,5 +1,5 @@
-"""Stand-ins for programs that a revision does not have yet, for the tests alone: owners, by the program cells and by the equations of 10.2.6; sheet with head and
-end around what an older program sheet prints; programs that fail. Where target/bin has the program itself, it is used."""
+"""Stand-ins for programs that a revision does not have yet, for the tests alone: owners, by the program cells and by the equations of 10.2.6; sheet, with head
+and end around what an older program sheet prints; programs that fail. Where target/bin has the program itself, it is used."""
 
 import os
 import subprocess

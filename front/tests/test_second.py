@@ -85,11 +85,11 @@ class Second(unittest.TestCase):
             self.assertEqual(self.front(f"vector out{mode} {symbol} 0.5 0.0625 --frame 1"), wanted)
 
     def test_lines(self) -> None:
-        """nearest, restore and places: what the second program prints, and words behind it."""
+        """nearest, restore and places: what the second program prints, and words behind it; CR LF ends a line here alone."""
         for verb, words, drawn in (("nearest", "5", "draw-copied"), ("restore", "", "draw-unread"), ("allocate", "", "draw-shares")):
             given = self.second(drawn, SEED, *(["20"] if drawn == "draw-copied" else []))
             (self.bench.folder / "lines").write_bytes(given)
-            wanted = self.second(verb, *words.split(), given=given).decode().splitlines()
+            wanted = self.second(verb, *words.split(), given=given.replace(b"\r\n", b"\n")).decode().splitlines()
             command = {"nearest": "nearest lines --budget 5", "allocate": "places lines"}.get(verb, "restore lines")
             printed = self.bench.run(f"layer1 {command}").stdout.decode().splitlines()
             self.assertEqual([line.partition(":")[0] for line in printed], wanted)

@@ -10,7 +10,7 @@ from fractions import Fraction
 from pathlib import Path
 from unittest import mock
 
-from layer1 import answers, causes, files, hints, layout, paper, picture, progress, scales, sequences
+from layer1 import answers, causes, dumps, files, hints, layout, paper, picture, programs, progress, scales, sequences
 from layer1.modes import MODES
 from layer1.outcomes import Failed, Misused, Refused
 from layer1.owners import taken
@@ -169,6 +169,70 @@ class Answers(unittest.TestCase):
             self.assertTrue(line.startswith(found[0].line() + " "))
         for line in ("", "REFUSED 1", "0 PM 1 2", "0 PM 1 2 P3 0 1", "0 PM 1 2 P1 0 134087 1", "0 PX1 5 40 101 FILL 1", "x PM 1 2 P1 0 1"):
             self.assertIsNone(taken(line))
+
+
+class Programs(unittest.TestCase):
+    """Programs that are not built yet, or do not do their work."""
+
+    def setUp(self) -> None:
+        folder = tempfile.TemporaryDirectory()
+        self.addCleanup(folder.cleanup)
+        self.root = Path(folder.name)
+        (self.root / ".ci").mkdir()
+        (self.root / "crates" / "new" / "src").mkdir(parents=True)
+        (self.root / "crates" / "new" / "src" / "main.rt").write_text("fn main() {}\n")
+        for name, value in (("ROOT", self.root), ("BUILT", self.root / "target" / "bin")):
+            patch = mock.patch.object(programs, name, value)
+            patch.start()
+            self.addCleanup(patch.stop)
+
+    def follow(self, *lines: str) -> None:
+        """What the project's own progress does."""
+        path = self.root / ".ci" / "follow"
+        path.write_text("#!/bin/sh\n" + "\n".join(lines) + "\n")
+        path.chmod(0o755)
+
+    def test_built(self) -> None:
+        """A program is built once, and that is said."""
+        made = f"{self.root}/target/bin"
+        self.follow('[ "$*" = "check new" ] || exit 1', f"mkdir {made} && printf '#!/bin/sh\\necho made\\n' >{made}/new && chmod 755 {made}/new", "echo quiet")
+        with mock.patch.object(sys, "stderr", io.StringIO()) as said:
+            self.assertEqual(programs.lines_of("new", [], ""), ["made"])
+            self.assertEqual(programs.lines_of("new", [], ""), ["made"])
+        self.assertEqual(said.getvalue().count("proving and building it"), 1)
+
+    def test_not_built(self) -> None:
+        """A proof that fails, and a program that there is not."""
+        self.follow("exit 1")
+        with mock.patch.object(sys, "stderr", io.StringIO()), self.assertRaisesRegex(Failed, "cannot be built"):
+            programs.program("new")
+        with self.assertRaisesRegex(Failed, "this revision has no program other"):
+            programs.program("other")
+
+    def test_told(self) -> None:
+        """What a program says on standard error."""
+        self.assertIn("the input ends in PX1", str(programs.told("vector", "refused: number 3 place 1 frame 0")))
+        self.assertIn("goes on after L1 frame 2", str(programs.told("sender", "refused: input goes on at frame 3")))
+        self.assertIsInstance(programs.told("sender", "not written: standard output takes no more"), Failed)
+        self.assertIsInstance(programs.told("sender", "usage: sender MODE COUNT"), Failed)
+
+
+class Cells(unittest.TestCase):
+    """Places under 7."""
+
+    def test_cells(self) -> None:
+        """The first and the last of each matrix."""
+        for mode, place, words in (
+            (11, 0, "PX1 block pair 0, row 0, column 0"),
+            (11, 73727, "PX1 block pair 7, row 63, column 143"),
+            (11, 73728, "PX2 block pair 0, row 0, column 0"),
+            (2, 36863, "PX1 block pair 7, row 63, column 71"),
+            (5, 368640, "PX1 block pair 0, row 0, column 0"),
+            (6, 368640, "PX2 block pair 0, row 0, column 0"),
+        ):
+            self.assertEqual(dumps.cell_at(MODES[mode], 0, place).words(False), words)
+        with self.assertRaises(Failed):
+            dumps.cell_at(MODES[1], 0, 0)
 
 
 class Pictures(unittest.TestCase):
