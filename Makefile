@@ -7,7 +7,7 @@ help:
 	@echo "make spectrum    one symbol of the sample as a picture: target/sheets/spectrum.svg"
 	@echo "make programs    proves and builds every program under target/bin; from nothing about ten minutes, then what has changed"
 	@echo "make library     the C library, target/staticlib/liblayer1.a, for include/layer1.h; about two minutes on built programs"
-	@echo "make install PREFIX=/usr/local  puts header, archive and a pkg-config file there; for C: pkg-config --cflags --libs layer1"
+	@echo "make install     the front command layer1, the programs, header, archive and a pkg-config file under PREFIX, as make install PREFIX=/usr/local"
 	@echo "make quick       the loop of an edit: layout, names, contracts, proofs of what has changed, stored runs; at most two minutes on a proved tree"
 	@echo "make test        the gate, from nothing: proofs, must-fail edits, programs, the second program, the C library; about 45 minutes"
 	@echo "make bench       sender, reader, cells, nearest and restore beside the second program; five minutes"
@@ -19,8 +19,11 @@ sheet:
 sheet-html:
 	@sheets/html
 
+# Symbol 100 of the sample's last L1 frame, its upper sideband at half the scale of the lower.
 spectrum:
-	@sheets/spectrum
+	@mkdir -p target/sheets
+	@./layer1 send 11 3 sheets/sample/frames -o target/sheets/sample.dump --force
+	@./layer1 vector target/sheets/sample.dump 100 1 0.5 --frame 2 --picture target/sheets/spectrum.svg --force
 
 programs:
 	@.ci/programs
@@ -28,7 +31,7 @@ programs:
 library:
 	@include/library
 
-install: library
+install: programs library
 	@PREFIX="$(PREFIX)" DESTDIR="$(DESTDIR)" include/install
 
 quick:

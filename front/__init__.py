@@ -1,0 +1,1 @@
+"""The front command and its tests; a package so that `python3 -m unittest` in the clone finds the tests."""
