@@ -9,7 +9,7 @@ import tempfile
 from pathlib import Path
 from typing import BinaryIO, Iterator, Optional, Sequence
 
-from . import causes
+from . import answers, causes
 from .files import behind, reason, size_of
 from .outcomes import Ended, Failed, Refused
 from .paths import BUILT, ROOT
@@ -120,6 +120,8 @@ def told(name: str, text: str) -> Ended:
     goes_on = GOES_ON.fullmatch(first)
     if goes_on:
         return Refused(f"refused: the input goes on after L1 frame {int(goes_on[1]) - 1}, the last")
+    if first.startswith("NO SHEET"):
+        return answers.no_sheet(first)
     if first.startswith("refused:"):
         return Refused(first)
     return Failed(f"the program {name} said: {first}")

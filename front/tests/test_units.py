@@ -24,16 +24,16 @@ class Causes(unittest.TestCase):
     """The table of causes."""
 
     def test_all_numbers(self) -> None:
-        """Documents 01 and 02 have the numbers 1 to 19."""
-        numbers = {int(cause) for cause, _ in causes.table() if cause.isdigit()}
+        """Documents 01 and 02 have the numbers 1 to 19; for C there is also 0."""
+        numbers = {int(cause) for cause, call in causes.table() if cause.isdigit() and call != "c"}
         self.assertEqual(numbers, set(range(1, 20)))
 
     def test_rows(self) -> None:
         """A row with a place says it, one without does not, and none stands twice."""
         lines = causes.TABLE.read_text(encoding="utf-8").splitlines()[1:]
         self.assertEqual(len(lines), len({tuple(line.split("\t")[:2]) for line in lines}))
-        for meaning, words in causes.table().values():
-            self.assertEqual(meaning != "-", "{place}" in words)
+        for (_, call), (meaning, words) in causes.table().items():
+            self.assertEqual(meaning != "-" and call != "c", "{place}" in words)
 
     def test_places(self) -> None:
         """Places by name."""
@@ -110,7 +110,7 @@ class Answers(unittest.TestCase):
 
     def sheet(self) -> answers.Sheet:
         """The sample's sheet, with two bits asked for, a channel left out and a refused line."""
-        lines = (SAMPLE / "expected").read_text().splitlines()
+        lines = (SAMPLE / "expected").read_text().splitlines()[1:-1]
         more = ["0 P1 0 167602 PM 0 345 678 1", "2 P4 6 7543 PX2 3 7 63 143 LATER"]
         return answers.sheet_of(["MP11 3 without P3", "REFUSED 7", *lines, *more, f"END {len(lines) + 2}"])
 
@@ -141,8 +141,7 @@ class Answers(unittest.TestCase):
 
     def test_text(self) -> None:
         """The sample as it is stored; the three kinds are numbered through."""
-        lines = (SAMPLE / "expected").read_text().splitlines()
-        sheet = answers.sheet_of(["MP11 3", *lines, f"END {len(lines)}"])
+        sheet = answers.sheet_of((SAMPLE / "expected").read_text().splitlines())
         self.assertEqual(layout.text(sheet), (SAMPLE / "printed").read_text())
         text = layout.text(self.sheet())
         self.assertIn("without P3", text)
