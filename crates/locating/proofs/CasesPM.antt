@@ -85,11 +85,9 @@ at-cell q p row column e =
     ap₂ (λ (y x : ℕ). y * 720 + x) y x
 
 pub p1-cell : (bit row column : ℕ) (p : Position) → located 1 0 bit ≡ At p row column → p1Place bit ≡ row * 720 + column
-unfolding p1Place
 p1-cell bit row column p e = at-cell _ p row column (p1-in 0 bit (omega arith) (p1-range bit row column p e) ∙ of-p1 0 bit 1 refl ∙ e)
 
 pub pids-cell : (frame bit row column : ℕ) (p : Position) → located 2 frame bit ≡ At p row column → pidsPlace (frame * 200 + bit) ≡ row * 720 + column
-unfolding pidsPlace
 pids-cell frame bit row column p e =
     let (lf, lb) = pids-range frame bit row column p e in
     at-cell _ p row column (pids-in frame bit lf lb ∙ of-pids frame bit 2 (λ q. omega arith) refl ∙ e)

@@ -7,7 +7,7 @@ use Rattle.interleaving.specs.Matrix.{matrixRow, matrixColumn, cellOf, cell}
 use Rattle.interleaving.specs.EquationsI as I
 use Rattle.interleaving.specs.EquationsII as II
 use Rattle.interleaving.specs.EquationsIV as IV
-use Rattle.interleaving.specs.PM.{p1Position, pidsPosition, p1Place, pidsPlace}
+use Rattle.interleaving.specs.PM.{p1Position, pidsPosition}
 use Rattle.interleaving.specs.PX.{partitions, runs, order, cells, place}
 use Rattle.interleaving.proofs.BlockIV as P
 use Rattle.interleaving.proofs.OncePX.{place-lt}
@@ -17,12 +17,12 @@ use Rattle.locating.specs.Writing.{partitionOf, counterOf, p1Writing, pi
 -- ---- P1 and PIDS
 
 pub p1-writing-is : (i c : ℕ) (p : Position) → p ≡ p1Position i → c ≡ cellOf 20 36 p → _≡_ {A = Writing} (record { step = i; k = i / 320; position = p; cell = c }) (p1Writing i)
-unfolding p1Writing p1Place I.kOf
+unfolding p1Writing I.kOf
 p1-writing-is i c p p-is c-is = rw (c-is, p-is)
 
 pub pids-writing-is : (i c : ℕ) (p : Position) → p ≡ pidsPosition i → c ≡ cellOf 20 36 p
     → _≡_ {A = Writing} (record { step = i; k = i / 20 % 10 + 1142; position = p; cell = c }) (pidsWriting i)
-unfolding pidsWriting pidsPlace II.kOf
+unfolding pidsWriting II.kOf
 pids-writing-is i c p p-is c-is = rw (c-is, p-is)
 
 -- ---- P3 and P4: p is the partition of step i, and n its counter

@@ -13,6 +13,7 @@ use Rattle.interleaving.proofs.Matrix.{partitionOf-lt, blockOf-lt}
 use Rattle.interleaving.proofs.BlockIV as P
 use Rattle.interleaving.proofs.Slot.{slot-is}
 use Rattle.interleaving.proofs.Counter.{pt-is}
+use Rattle.interleaving.proofs.SlotsIV as L
 use Rattle.interleaving.proofs.PXKinds.{Kind, kind-is, codedBytes-is}
 use Rattle.px.specs.Entries.{entry}
 
@@ -63,6 +64,12 @@ module _ (kind : ℕ) (hk : kind < 2) where
       module _ (n : ℕ) (n-is : n + Inv.missed M p ≡ x / 8 * M + x % M) where
         pub n-pt : n ≡ IV.pt J 32 36 M (order kind) i
         n-pt = omega (arith, sum-is)
+
+        pub counter-lt : i < cells kind → n < 36864
+        counter-lt h =
+            rw n-pt
+            (rw (K .turns) at
+            (L.pt-lt J 32 36 M (K .T) (order kind) (order kind) (K .J-pos) (K .M-pos) (K .perm) i (rw (K .turns) (omega (arith, codedBytes-is kind hk)))))
 
         pub place-is : entry kind p n ≡ place kind i
         unfolding entry place IV.place IV.partition
