@@ -17,9 +17,10 @@ use Rattle.runs.specs.declared.Main.the-variants.{Plain, Mp5, Mp6}
 use Rattle.runs.specs.MainChannels.{mainOf, p1Len, p2Len, delayLen}
 use Rattle.runs.specs.Lengths.{frameLen, kindOf, matrixLen, pidsLen, px2Len, pmLen, controlLen, senderLen}
 use Rattle.runs.specs.Starting.{zeros}
+use Rattle.runs.proofs.Bounds.{frame-le, matrix-le}
 use Rattle.calls.specs.Called.{memory, signal}
 use Rattle.modes.specs.Sizes.{wanted}
-use Rattle.layout.proofs.Cut.{entry-is, frame-small}
+use Rattle.layout.proofs.Cut.{entry-is}
 use Rattle.layout.proofs.Zeros.{zeros-of}
 use Rattle.arguments.specs.Arguments.{carriedOf, misnamed}
 use Rattle.sheets.specs.Inputs.{carried, frameSize, named, older}
@@ -47,11 +48,6 @@ px2-small : (mode : ℕ) → older mode ≡ true → px2Len mode ≤ 9216
 unfolding mainOf kindOf
 px2-small = older-cases (λ mode. px2Len mode ≤ 9216) (omega arith) (omega arith) (omega arith) (omega arith)
 
-matrix-small : (k : Kind) → matrixLen k ≤ 9216
-matrix-small Unused = omega arith
-matrix-small Narrow = omega arith
-matrix-small Wide = omega arith
-
 memory-small : (k : Kind) → senderLen k ≤ 18432
 memory-small Unused = omega arith
 memory-small Narrow = omega arith
@@ -59,7 +55,7 @@ memory-small Wide = omega arith
 
 module _ (mode : ℕ) (want : List ℕ) (lengths : want ≡ wanted mode (senderLen (kindOf mode P3)) (senderLen (kindOf mode P4))) where
   pub room-px1 : getD want 6 0 ≤ 9216
-  room-px1 = let e : getD want 6 0 ≡ matrixLen (kindOf mode P3) = entry-is mode _ _ want lengths 6 in omega (arith, matrix-small (kindOf mode P3))
+  room-px1 = let e : getD want 6 0 ≡ matrixLen (kindOf mode P3) = entry-is mode _ _ want lengths 6 in omega (arith, matrix-le (kindOf mode P3))
 
   pub room-px2 : older mode ≡ true → getD want 7 0 ≤ 9216
   room-px2 o = let e : getD want 7 0 ≡ px2Len mode = entry-is mode _ _ want lengths 7 in omega (arith, px2-small mode o)
@@ -116,7 +112,7 @@ module _ (mode : ℕ) (want : List ℕ) (lengths : want ≡ wanted mode (senderL
 pub carried-small : (mode : ℕ) (e : Extended) (without : Bool) (n : ℕ) → n ≡ carried mode e without → n ≤ 4608
 unfolding carriedOf
 carried-small mode e true n q = omega arith
-carried-small mode e false n q = omega (arith, frame-small (kindOf mode e))
+carried-small mode e false n q = omega (arith, frame-le (kindOf mode e))
 
 -- the bytes of P1, PIDS and P2
 pub main-sizes : (mode : ℕ) → p1Len (mainOf mode) + pidsLen + p2Len (mainOf mode) ≤ 32768
