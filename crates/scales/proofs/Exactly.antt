@@ -10,7 +10,7 @@ use lib.Dec.{eqb}
 use lib.Ieee.{Float, nan, inf, fin, up, down}
 use lib.Ieee.Exact.{HasValue}
 use Rattle.scales.specs.declared.Typed.the-variants.{Times, NotExact}
-use Rattle.scales.specs.Scales.{exactOf, isScale, isSingle, scaleOf, tenths}
+use Rattle.scales.specs.Scales.{exactOf, isScale, isSingle, scaleOf, decimals}
 
 never : {A : Type 0} (times : ℕ) → NotExact ≡ Times times → A
 never times e = let z : _≡_ {A = ℕ} 0 1 = cc in absurd (omega arith)
@@ -28,11 +28,11 @@ exact-times n times = go (eqb (n % 5 ^ 16) 0) (isSingle (n / 5 ^ 16)) refl refl
     go true false p q e = never times e
     go false b p q e = never times e
 
-taken : (text : List ℕ) (times : ℕ) → scaleOf text ≡ Times times → exactOf (tenths text) ≡ Times times
+taken : (text : List ℕ) (times : ℕ) → scaleOf text ≡ Times times → exactOf (decimals text) ≡ Times times
 unfolding scaleOf
 taken text times = go (isScale text)
   where
-    go : (a : Bool) → cond a (exactOf (tenths text)) NotExact ≡ Times times → exactOf (tenths text) ≡ Times times
+    go : (a : Bool) → cond a (exactOf (decimals text)) NotExact ≡ Times times → exactOf (decimals text) ≡ Times times
     go true e = e
     go false e = never times e
 
@@ -50,7 +50,7 @@ in-decimal (fin s m k) n times e h = (
 
 -- x is what `value_of` gives
 pub scale-exact : (text : List ℕ) (times : ℕ) (x : Float) → scaleOf text ≡ Times times → (isSingle times ≡ true → HasValue x false times 65536)
-    → HasValue x false (tenths text) (10 ^ 16)
+    → HasValue x false (decimals text) (10 ^ 16)
 scale-exact text times x e h =
-    let t = exact-times (tenths text) times (taken text times e) in
-    in-decimal x (tenths text) times (t .1) (h (t .0))
+    let t = exact-times (decimals text) times (taken text times e) in
+    in-decimal x (decimals text) times (t .1) (h (t .0))

@@ -13,7 +13,7 @@ use Rattle.text.specs.Numbers.{isNumber, value}
 use Rattle.text.proofs.Ends.{after-dropped, after-part, before-taken}
 use Rattle.scales.specs.declared.Typed.{Typed}
 use Rattle.scales.specs.declared.Typed.the-variants.{NotExact}
-use Rattle.scales.specs.Scales.{exactOf, isScale, isShort, point, scaleOf, tenths}
+use Rattle.scales.specs.Scales.{exactOf, isScale, isShort, point, scaleOf, decimals}
 use Rattle.scales.proofs.Digits.{both, short-digits, value-below}
 
 -- ---- numbers of few digits
@@ -51,7 +51,7 @@ module _ (text : List ℕ) (end : ℕ) (e : end ≡ length (before point text)) 
   second t h = sym (ap (isShort 16) behind-is) ∙ h
 
   abbrev answer : Bool → Bool → Bool → Typed
-  answer a b d = cond (a && (b || d)) (exactOf (tenths text)) NotExact
+  answer a b d = cond (a && (b || d)) (exactOf (decimals text)) NotExact
 
   answers : (a b d : Bool) → isShort 3 (before point text) ≡ a → eqb (length (before point text)) (length text) ≡ b → isShort 16 (after point text) ≡ d
       → answer a b d ≡ scaleOf text
@@ -63,10 +63,10 @@ module _ (text : List ℕ) (end : ℕ) (e : end ≡ length (before point text)) 
 
   module _ (h : isShort 3 (take end text) ≡ true) where
     pub no-point : end ≡ length text → exactOf (10000000000000000 * value (take end text)) ≡ scaleOf text
-    unfolding tenths value
+    unfolding decimals value
     no-point l =
         let none : after point text ≡ [] = sym (after-dropped point text) ∙ drop-of-length-le text {i = suc (length (before point text))} (omega arith) in
-        let worth : 10000000000000000 * value (take end text) ≡ tenths text
+        let worth : 10000000000000000 * value (take end text) ≡ decimals text
         = ap (λ (t : List ℕ). 10000000000000000 * value t) whole-is
         ∙ mul-comm 10000000000000000 (value (before point text))
         ∙ sym (ap (λ (t : List ℕ). value (before point text) * 10 ^ 16 + value t * 10 ^ (16 - length t)) none ∙ omega arith) in
@@ -80,9 +80,9 @@ module _ (text : List ℕ) (end : ℕ) (e : end ≡ length (before point text)) 
           → n ≡ 10000000000000000 * value (take end text)
           + value (take (length text - (end + 1)) (drop (end + 1) text)) * 10 ^ (16 - length (take (length text - (end + 1)) (drop (end + 1) text)))
           → exactOf n ≡ scaleOf text
-      unfolding tenths
+      unfolding decimals
       both-parts b n w =
-          let worth : n ≡ tenths text
+          let worth : n ≡ decimals text
           = w ∙ ap₂ (λ (s t : List ℕ). 10000000000000000 * value s + value t * 10 ^ (16 - length t)) whole-is behind-is
           ∙ ap (λ (k : ℕ). k + value (after point text) * 10 ^ (16 - length (after point text))) (mul-comm 10000000000000000 (value (before point text))) in
           ap exactOf worth ∙ answers true false true (first true h) (ne-eqb _ _ (λ z. l (e ∙ z))) (second true b)

@@ -22,8 +22,8 @@ unfoldable pub isScale : List ℕ → Bool
 isScale text = isShort 3 (before point text) && (eqb (length (before point text)) (length text) || isShort 16 (after point text))
 
 -- how many times 10^-16 it is
-unfoldable pub tenths : List ℕ → ℕ
-tenths text = value (before point text) * 10 ^ 16 + value (after point text) * 10 ^ (16 - length (after point text))
+unfoldable pub decimals : List ℕ → ℕ
+decimals text = value (before point text) * 10 ^ 16 + value (after point text) * 10 ^ (16 - length (after point text))
 
 -- So many times 2^-16 in single precision: at most 24 bits without the zeros at its end. A scale is below 1,000, and so below 2^26 times 2^-16.
 unfoldable pub isSingle : ℕ → Bool
@@ -35,4 +35,4 @@ unfoldable pub exactOf : (n : ℕ) → Typed
 exactOf n = cond (eqb (n % 5 ^ 16) 0 && isSingle (n / 5 ^ 16)) (Times (n / 5 ^ 16)) NotExact
 
 unfoldable pub scaleOf : List ℕ → Typed
-scaleOf text = cond (isScale text) (exactOf (tenths text)) NotExact
+scaleOf text = cond (isScale text) (exactOf (decimals text)) NotExact
