@@ -1,7 +1,6 @@
 // vector MODE SYMBOL LOWER UPPER: reads PM, PX1, PX2 and control of an L1 frame, and prints for each subcarrier of a symbol its number, its real and its
 // imaginary part and what they come from (document 02, S-7).
 mod numbers;
-mod scales;
 
 use libc::STDIN_FILENO;
 use libc::STDOUT_FILENO;

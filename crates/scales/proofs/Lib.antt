@@ -1,0 +1,4 @@
+mod Digits
+pub mod Exactly
+mod Reading
+mod Singles
