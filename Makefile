@@ -9,7 +9,7 @@ help:
 	@echo "make library     the C library, target/staticlib/liblayer1.a, for include/layer1.h; about two minutes on built programs"
 	@echo "make install     the front command layer1, the programs, header, archive and a pkg-config file under PREFIX, as make install PREFIX=/usr/local"
 	@echo "make quick       the loop of an edit: layout, names, contracts, proofs of what has changed, stored runs; at most two minutes on a proved tree"
-	@echo "make test        the gate, from nothing: proofs, must-fail edits, programs, the second program, the C library; about 55 minutes"
+	@echo "make test        the gate, from nothing: proofs, must-fail edits, programs, the second program, the C library; about an hour"
 	@echo "make bench       sender, reader, cells, nearest and restore beside the second program; five minutes"
 	@echo "make clean       removes target/, with all that was proved"
 
