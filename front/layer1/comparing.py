@@ -55,8 +55,8 @@ class Tally:
         if self.total > SHOWN and not self.show_all:
             say(f"and {self.total - SHOWN} more; --all shows them\n")
         say(f"different: {self.total}\n")
-        for title, counter in (("matrix", self.matrices), ("channel", self.channels), ("L1 frame", self.frames)):
-            say(f"by {title}: " + ", ".join(f"{name} {n}" for name, n in counter.items()) + "\n")
+        for title, counts in (("matrix", self.matrices.items()), ("channel", self.channels.items()), ("L1 frame", self.frames.items())):
+            say(f"by {title}: " + ", ".join(f"{name} {n}" for name, n in counts) + "\n")
 
 
 def run(given: argparse.Namespace) -> int:

@@ -2,7 +2,7 @@
 
 import contextlib
 from dataclasses import dataclass
-from typing import BinaryIO, Dict, Iterator, Optional, Tuple
+from typing import IO, Dict, Iterator, Optional, Tuple
 
 from . import causes
 from .files import opened, shown, size_of
@@ -26,7 +26,7 @@ class Dump:
     """An open dump."""
 
     name: str
-    file: BinaryIO
+    file: IO[bytes]
     mode: Mode
     count: int
     start: int
@@ -73,7 +73,7 @@ def cell_at(mode: Mode, frame: int, place: int) -> Cell:
     raise Failed(f"{mode.name} has no cell {place}")
 
 
-def headed(file: BinaryIO) -> Tuple[Mode, int]:
+def headed(file: IO[bytes]) -> Tuple[Mode, int]:
     """Mode and count of a dump by its header, refused as a judge refuses it."""
     file.seek(0)
     head = file.read(HEADER)

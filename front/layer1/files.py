@@ -7,7 +7,7 @@ import stat
 import sys
 import tempfile
 from pathlib import Path
-from typing import BinaryIO, Iterator, Optional
+from typing import IO, Iterator, Optional
 
 from .outcomes import Failed, Misused, Refused
 
@@ -23,7 +23,7 @@ def reason(error: OSError) -> str:
 
 
 @contextlib.contextmanager
-def opened(name: str) -> Iterator[BinaryIO]:
+def opened(name: str) -> Iterator[IO[bytes]]:
     """A file, or standard input, to be read from its start; a pipe is copied first, so that its length is known."""
     try:
         source = standard_input() if name == STANDARD else open(name, "rb")
@@ -40,12 +40,12 @@ def opened(name: str) -> Iterator[BinaryIO]:
             yield copy
 
 
-def standard_input() -> BinaryIO:
+def standard_input() -> IO[bytes]:
     """Standard input as a file of its own, so that closing it closes nothing else."""
     return open(os.dup(0), "rb")
 
 
-def copied(source: BinaryIO, copy: BinaryIO) -> None:
+def copied(source: IO[bytes], copy: IO[bytes]) -> None:
     """Copies what is left of a source, and goes back to the copy's start."""
     try:
         shutil.copyfileobj(source, copy, BLOCK)
@@ -56,7 +56,7 @@ def copied(source: BinaryIO, copy: BinaryIO) -> None:
 
 
 @contextlib.contextmanager
-def behind(head: bytes, rest: Optional[BinaryIO] = None) -> Iterator[BinaryIO]:
+def behind(head: bytes, rest: Optional[IO[bytes]] = None) -> Iterator[IO[bytes]]:
     """Bytes, and a file behind them, as one file."""
     with tempfile.TemporaryFile() as joined:
         joined.write(head)
@@ -68,7 +68,7 @@ def behind(head: bytes, rest: Optional[BinaryIO] = None) -> Iterator[BinaryIO]:
         yield joined
 
 
-def size_of(file: BinaryIO) -> int:
+def size_of(file: IO[bytes]) -> int:
     """How many bytes a file has."""
     return os.fstat(file.fileno()).st_size
 
@@ -101,7 +101,7 @@ def put(data: bytes) -> None:
         raise Failed(f"standard output: {reason(error)}") from None
 
 
-def output() -> BinaryIO:
+def output() -> IO[bytes]:
     """Standard output as bytes."""
     if sys.stdout is None:
         raise Failed("standard output is closed")
@@ -134,7 +134,7 @@ def refuse_existing(name: Optional[str], force: bool) -> None:
         raise Misused(f"{name} exists; --force writes over it")
 
 
-def write(name: Optional[str], source: BinaryIO, force: bool = False) -> None:
+def write(name: Optional[str], source: IO[bytes], force: bool = False) -> None:
     """Writes a whole file under a name, or on standard output where there is none."""
     source.seek(0)
     if name is None or name == STANDARD:
@@ -159,7 +159,7 @@ def write_text(name: str, text: str, force: bool = False) -> None:
 
 
 @contextlib.contextmanager
-def replacing(path: Path, force: bool) -> Iterator[BinaryIO]:
+def replacing(path: Path, force: bool) -> Iterator[IO[bytes]]:
     """A temporary file beside the target that takes its name at the end, when all of it is on the disk."""
     if path.exists() and not path.is_file():
         with in_place(path) as file:
@@ -186,7 +186,7 @@ def replacing(path: Path, force: bool) -> Iterator[BinaryIO]:
 
 
 @contextlib.contextmanager
-def in_place(path: Path) -> Iterator[BinaryIO]:
+def in_place(path: Path) -> Iterator[IO[bytes]]:
     """A device or a pipe cannot be replaced: it is written as it is."""
     try:
         with open(path, "wb") as file:

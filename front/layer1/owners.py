@@ -77,13 +77,12 @@ def taken(line: str) -> Optional[Tuple[Question, Answer]]:
         return cell, Bit(int(found[7]), found[6], int(found[8]), int(found[9]))
     found = PM_CELL.fullmatch(line)
     if found:
-        frame, channel, tframe, bit, sent, row, column = found.groups()
-        return Bit(int(frame), channel, int(tframe), int(bit)), Cell(int(sent), "PM", None, int(row), int(column))
+        bit = Bit(int(found[1]), found[2], int(found[3]), int(found[4]))
+        return bit, Cell(int(found[5]), "PM", None, int(found[6]), int(found[7]))
     found = PX_CELL.fullmatch(line)
     if found:
-        frame, channel, tframe, bit, matrix_frame = found[1], found[2], found[3], found[4], found[6]
-        cell = Cell(int(matrix_frame), found[5], int(found[7]), int(found[8]), int(found[9]))
-        return Bit(int(frame), channel, int(tframe), int(bit)), cell
+        bit = Bit(int(found[1]), found[2], int(found[3]), int(found[4]))
+        return bit, Cell(int(found[6]), found[5], int(found[7]), int(found[8]), int(found[9]))
     return None
 
 

@@ -7,7 +7,7 @@ import subprocess
 import sys
 import tempfile
 from pathlib import Path
-from typing import BinaryIO, Iterator, Optional, Sequence
+from typing import IO, Dict, Iterator, Optional, Sequence, Union
 
 from . import answers, causes
 from .files import behind, reason, size_of
@@ -21,6 +21,9 @@ FOLDER_VARIABLE = "LAYER1_PROGRAMS"
 REFUSAL = re.compile(r"refused: number (\d+) place (\d+) frame (\d+)")
 FRAMELESS = ("vector", "nearest")
 """Programs whose refusals are of no L1 frame of a run."""
+
+NO_VARIABLES: Dict[str, str] = {}
+"""What a program gets of our environment."""
 
 GOES_ON = re.compile(r"refused: input goes on at frame (\d+)")
 
@@ -56,15 +59,15 @@ def build(name: str) -> None:
 
 @contextlib.contextmanager
 def running(
-    name: str, words: Sequence[str], source: Optional[BinaryIO] = None, expected: Optional[int] = None
-) -> Iterator[BinaryIO]:
+    name: str, words: Sequence[str], source: Optional[IO[bytes]] = None, expected: Optional[int] = None
+) -> Iterator[IO[bytes]]:
     """What a program prints of an input, as a file. Of `expected` bytes exactly, where that is known."""
     path = program(name)
     with tempfile.TemporaryFile() as out, tempfile.TemporaryFile() as said:
         command = [str(path), *words]
-        stdin = subprocess.DEVNULL if source is None else at_hand(source)
+        stdin: Union[int, IO[bytes]] = subprocess.DEVNULL if source is None else at_hand(source)
         try:
-            process = subprocess.Popen(command, stdin=stdin, stdout=out, stderr=said, env={})
+            process = subprocess.Popen(command, stdin=stdin, stdout=out, stderr=said, env=NO_VARIABLES)
         except OSError as error:
             raise Failed(f"{path} cannot be run: {reason(error)}") from None
         try:
@@ -81,13 +84,13 @@ def running(
         yield out
 
 
-def at_hand(source: BinaryIO) -> BinaryIO:
+def at_hand(source: IO[bytes]) -> IO[bytes]:
     """A file whose next byte for a program is the next one for us, whatever was read ahead."""
     os.lseek(source.fileno(), source.tell(), os.SEEK_SET)
     return source
 
 
-def waited(process: "subprocess.Popen[bytes]", name: str, out: BinaryIO, expected: Optional[int]) -> int:
+def waited(process: "subprocess.Popen[bytes]", name: str, out: IO[bytes], expected: Optional[int]) -> int:
     """Waits for a program, and says meanwhile how far it has come."""
     progress = Progress(name)
     try:
@@ -100,7 +103,7 @@ def waited(process: "subprocess.Popen[bytes]", name: str, out: BinaryIO, expecte
         progress.end()
 
 
-def judged(name: str, status: int, said: BinaryIO) -> None:
+def judged(name: str, status: int, said: IO[bytes]) -> None:
     """A program that did not end by itself, or said anything, has not done its work."""
     said.seek(0)
     text = said.read(4096).decode("utf-8", "replace").strip()

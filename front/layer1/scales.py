@@ -37,4 +37,5 @@ def scale_of(word: str) -> Fraction:
 
 def is_taken(value: Fraction) -> bool:
     """Whether the program takes a scale as it is: a multiple of 2^-16."""
-    return (value * 2**PROGRAM_DIGITS).denominator == 1
+    scaled: Fraction = value * 2**PROGRAM_DIGITS
+    return scaled.denominator == 1

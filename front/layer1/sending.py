@@ -4,7 +4,7 @@ import argparse
 import contextlib
 import re
 import tempfile
-from typing import BinaryIO, List, Tuple
+from typing import IO, List, Tuple
 
 from . import causes, dumps, programs
 from .files import STANDARD, opened, refuse_existing, say, shown, size_of, write
@@ -66,7 +66,7 @@ def run_of(given: argparse.Namespace, greatest: int = GREATEST_COUNT) -> Tuple[M
     return mode_of(given.mode), number_of(given.count, "COUNT", greatest)
 
 
-def refuse_length(name: str, file: BinaryIO, mode: Mode, count: int, each: int) -> None:
+def refuse_length(name: str, file: IO[bytes], mode: Mode, count: int, each: int) -> None:
     """Bytes too many are refused here: a program that reads L1 frame by L1 frame may not see them. Too few it refuses with their place."""
     size = size_of(file)
     if size > count * each:
@@ -116,7 +116,7 @@ def run_judge(given: argparse.Namespace) -> int:
     raise Refused(f"{causes.refusal(number, place, frame, 'judge')}{cell}")
 
 
-def judged(source: BinaryIO) -> Tuple[int, int, int]:
+def judged(source: IO[bytes]) -> Tuple[int, int, int]:
     """The verdict of the program judge on a dump: number, place and L1 frame, all 0 where it is accepted."""
     with programs.running("judge", [], source) as out:
         line = out.read(200).decode("latin-1")
@@ -147,7 +147,7 @@ def run_keys(given: argparse.Namespace) -> int:
     return DONE
 
 
-def taken_in_turn(runs: List[BinaryIO], count: int, size: int) -> BinaryIO:
+def taken_in_turn(runs: List[IO[bytes]], count: int, size: int) -> IO[bytes]:
     """The L1 frames of runs as the program keys reads them: the first of each, then the second of each."""
     turns = tempfile.TemporaryFile()
     for _ in range(count):

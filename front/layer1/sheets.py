@@ -3,7 +3,7 @@
 import argparse
 import hashlib
 from pathlib import Path
-from typing import BinaryIO, List, Sequence
+from typing import IO, List, Sequence
 
 from . import layout, paper, programs
 from .answers import sheet_of
@@ -49,7 +49,7 @@ def list_of(name: str) -> str:
     return text + "\n\n" if text else "\n"
 
 
-def printed(words: Sequence[str], questions: str, frames: BinaryIO) -> List[str]:
+def printed(words: Sequence[str], questions: str, frames: IO[bytes]) -> List[str]:
     """The lines that the program sheet prints."""
     with behind(questions.encode("latin-1"), frames) as source, programs.running("sheet", words, source) as out:
         text = out.read().decode("latin-1")
@@ -83,7 +83,7 @@ def run_sheet(given: argparse.Namespace) -> int:
     return DONE
 
 
-def number_of_sheet(words: Sequence[str], questions: str, frames: BinaryIO) -> str:
+def number_of_sheet(words: Sequence[str], questions: str, frames: IO[bytes]) -> str:
     """A sheet's own number, made from mode, questions and frames: nothing of the answers can be computed from it."""
     digest = hashlib.sha256(" ".join(words).encode() + b"\n" + questions.encode("latin-1"))
     frames.seek(0)
@@ -105,7 +105,7 @@ def run_work(given: argparse.Namespace) -> int:
     return DONE
 
 
-def worked(mode: Mode, count: int, questions: str, frames: BinaryIO) -> List[str]:
+def worked(mode: Mode, count: int, questions: str, frames: IO[bytes]) -> List[str]:
     """Answers and workings, without head and end."""
     lines = printed([str(mode.number), str(count), "work"], questions, frames)
     if len(lines) < 2 or not lines[0].startswith("MP") or not lines[-1].startswith("END "):
