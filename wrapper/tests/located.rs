@@ -327,3 +327,42 @@ fn workings_of_what_is_sent() {
         }
     }
 }
+
+/// The same of P3 and P4 in MP11, in the L1 frame that the locator names.
+#[test]
+fn workings_of_what_is_sent_later() {
+    const COUNT: usize = 4;
+    let mut draw = Draw::new(seed());
+    let lengths = [18_272, 160, 4_608, 4_608];
+    let frames: [_; COUNT] = std::array::from_fn(|_| lengths.map(|length| draw.bytes(length)));
+    let input: Vec<u8> = frames
+        .iter()
+        .flat_map(|lent| [&[0][..], &lent.concat()].concat())
+        .collect();
+    let (mut sent, none) = (Vec::new(), Default::default());
+    second::commands::send(11, COUNT as u64, none, &mut &input[..], &mut sent).unwrap();
+    let of_an_l1_frame = sent.len() / COUNT;
+    for n in 0..8_000 {
+        let (at, channel) = (n % 2, 3 + (n / 2 % 2) as u8);
+        let state = State {
+            mode: 11,
+            half: at as u8,
+            age: at as u8,
+            reserved: 0,
+        };
+        let (frame, bit) = (draw.index(8), draw.index(9_216));
+        let lent = &frames[at][usize::from(channel) - 1];
+        let worked = layer1::working(state, channel, lent, frame, bit).unwrap();
+        let there = layer1::locate_px(state, channel, frame, bit);
+        let first = (at + usize::from(there.later)) * of_an_l1_frame + 46_080;
+        let matrix = &sent[first + usize::from(channel - 3) * 9_216..][..9_216];
+        let row = 64 * usize::from(there.pair) + usize::from(there.row);
+        let cell = row * 144 + there.column as usize;
+        let shown = matrix[cell / 8] >> (7 - cell % 8) & 1;
+        assert_eq!(
+            u64::from(shown),
+            worked.coded,
+            "L1 frame {at} P{channel} {frame} {bit}"
+        );
+    }
+}
