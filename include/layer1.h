@@ -1,18 +1,20 @@
 /* The FM Layer 1 bit chain of SY_IDD_1011s revision G, with the house matters of documents 01 and 02, for C.
  *
- * The functions are those of the proved crates `exported_runs` (starts, sending, reading), `exported_sheets` (the answer sheet), `version`
- * and `exported` (all others): their contracts, in src and specs of these crates, say exactly what each returns and what it leaves in every
- * buffer. Every call returns, and refuses what the documents refuse; none has a condition on numbers, lengths or the bytes themselves.
+ * The functions are those of the proved crates `exported_runs` (starts, sending, reading), `exported_places` (into which cell a coded bit
+ * goes, and its working), `exported_sheets` (the answer sheet), `version` and `exported` (all others): their contracts, in src and specs of
+ * these crates, say exactly what each returns and what it leaves in every buffer. Every call returns, and refuses what the documents
+ * refuse; none has a condition on numbers, lengths or the bytes themselves.
  *
  * What the caller must guarantee, since the proofs assume it:
- * - a pointer points to as many readable bytes, or numbers where it is one to float, as the length beside it says, and writable ones
- *   where it is not const;
+ * - a pointer points to as many readable bytes, or numbers where it is one to float or uint64_t, as the length beside it says, and
+ *   writable ones where it is not const;
  * - where the length is 0 any pointer will do, NULL too: nothing is read or written through it;
  * - a buffer that is written overlaps no other buffer of the call;
  * - nothing else reads a buffer that is written, or writes any buffer of the call, while the call runs: on another thread, in a signal
  *   handler or through a mapping. Calls with other buffers may run at the same time, on as many threads as you like: the library has no
  *   state of its own (wrapper/tests/threads.c). Buffers that are only read may be lent to several calls at once;
- * - the stack has room for LAYER1_SEND_STACK, LAYER1_READ_STACK or, for a dump, LAYER1_JUDGE_STACK bytes, below what the caller itself uses.
+ * - the stack has room for LAYER1_SEND_STACK, LAYER1_READ_STACK or, for a dump, LAYER1_JUDGE_STACK, for a sheet LAYER1_SHEET_STACK bytes,
+ *   below what the caller itself uses.
  * Nothing is allocated, and nothing of C but memcpy and memset is called.
  *
  * A run: a start, then sendings, or then readings. Each is handed the state in the word of the last call, which is mode, half, age and the
@@ -39,14 +41,15 @@ _Static_assert(sizeof(size_t) == 8, "lengths and places cross as words of 64 bit
 
 /* The number of this interface: one more with every change of a call, a place, a length or a field of a word. Where layer1_version(), the
  * archive's, is another, header and archive do not belong together. */
-#define LAYER1_VERSION 1
+#define LAYER1_VERSION 2
 uint32_t layer1_version(void);
 
-/* The most stack that a sending, a reading and the judging of a dump take, in bytes, as compiled (measured by wrapper/tests/stack.c); any
- * other call takes less than a sending. */
+/* The most stack that a sending, a reading, the judging of a dump and an answer sheet take, in bytes, as compiled (measured by
+ * wrapper/tests/stack.c); any other call takes less than a sending. */
 #define LAYER1_SEND_STACK 61440
 #define LAYER1_READ_STACK 118784
 #define LAYER1_JUDGE_STACK 212992
+#define LAYER1_SHEET_STACK 159744
 
 /* The places of the buffers of a sending or a reading. PX2 has P4's matrices in MP11, and those of P1' in MP5 and MP6. */
 enum layer1_place {
@@ -105,6 +108,42 @@ uint64_t layer1_place_of(size_t row, size_t column);
  * before. Returns a finding word. Refused under 3: a channel that the mode does not have, or any in MP5 and MP6, at place 0, the block pair
  * at 1, the row at 2, the column at 3. */
 uint64_t layer1_find_px(uint8_t mode, uint8_t half, uint8_t age, uint8_t last, uint8_t channel, size_t pair, size_t row, size_t column);
+
+/* Into which cell of PM a coded bit of P1 (channel 1) or PIDS (channel 2) goes, of this transfer frame of an L1 frame, in the modes without
+ * P2: 365,440 bits of P1's frame 0, 200 of each of the PIDS frames 0 to 15. Returns a position word. Refused under 3: another channel at
+ * place 0, the transfer frame at 1, the bit at 2. layer1_find asks the other way. */
+uint64_t layer1_locate(uint8_t channel, size_t frame, size_t bit);
+
+/* Into which cell of PX1 (channel 3) or PX2 (channel 4) a coded bit of P3 or P4 goes, of this transfer frame, 0 to 7, of the L1 frame that
+ * this state comes before, and how many L1 frames later that cell is sent. Returns a cell word. Refused under 2: the state; under 3: a channel
+ * that the mode does not have, or any in MP5 and MP6, at place 0, the transfer frame at 1, the bit at 2. layer1_find_px asks the other way. */
+uint64_t layer1_locate_px(uint8_t mode, uint8_t half, uint8_t age, uint8_t last, uint8_t channel, size_t frame, size_t bit);
+
+/* The numbers of a working, by their places. */
+enum layer1_worked {
+    LAYER1_WORKED_BIT,            /* the bit j of the transfer frame that the coded bit belongs to */
+    LAYER1_WORKED_GENERATOR,      /* the generator whose output for it the coded bit is: 0133, 0171 or 0165, in octal */
+    LAYER1_WORKED_BITS,           /* seven numbers: the bits j, j - 1, .. j - 6 of the transfer frame, counted around its end */
+    LAYER1_WORKED_SCRAMBLING = 9, /* seven numbers: the bits of the scrambling sequence there */
+    LAYER1_WORKED_SUM = 16,       /* how many of the fourteen are 1 where the generator has a tap */
+    LAYER1_WORKED_CODED,          /* the sum modulo 2: the coded bit */
+    LAYER1_WORKED_STEP,           /* the bit's number i in the equations of 10.2.3, 10.2.4 or 10.2.6 */
+    LAYER1_WORKED_K,              /* k of 10.2.3.3 or 10.2.4.3; in 10.2.6 the counter of the partition */
+    LAYER1_WORKED_BLOCK,          /* block, row, partition and column that it is written to; in 10.2.6 of the internal matrix */
+    LAYER1_WORKED_ROW,
+    LAYER1_WORKED_PARTITION,
+    LAYER1_WORKED_COLUMN,
+    LAYER1_WORKED_CELL,           /* the cell, counted across the rows of that matrix; in 10.2.6 the step that reads it */
+    LAYER1_WORKED                 /* how many numbers there are */
+};
+
+/* The working of a coded bit of P1 (channel 1), PIDS (2), P3 (3) or P4 (4), in MP1, MP2, MP3 and MP11: of this transfer frame of the L1 frame
+ * that this state comes before, from all transfer frames of the channel in that L1 frame, as a sending is lent them; length 0 for P3 or P4
+ * means zeros here too. Writes LAYER1_WORKED numbers to out, whose length counts numbers. Returns an answer word. Refused under 2: the state;
+ * under 3: a channel that the mode does not have, or any in MP5 and MP6, at place 0, the length of frames at 1, the transfer frame at 2, the
+ * bit at 3, the length of out at 4. A refused call leaves out as it was. */
+uint64_t layer1_working(uint8_t mode, uint8_t half, uint8_t age, uint8_t last, uint8_t channel, const uint8_t *frames, size_t frames_len,
+                        size_t frame, size_t bit, uint64_t *out, size_t out_len);
 
 /* The mode, the block count and the reserved number of one control block of 256 bytes. Returns a lookup word. */
 uint64_t layer1_lookup(const uint8_t *block, size_t block_len);
@@ -191,6 +230,17 @@ static inline unsigned layer1_placed_partition(uint64_t word) { return word >> 2
 static inline unsigned layer1_placed_place(uint64_t word) { return word >> 32 & 0xff; }
 static inline unsigned layer1_placed_column(uint64_t word) { return (unsigned)(word >> 40); }
 
+/* A position word of layer1_locate or layer1_place_of: row and column of PM. */
+static inline unsigned layer1_located_row(uint64_t word) { return 32 * layer1_placed_block(word) + layer1_placed_row(word); }
+static inline unsigned layer1_located_column(uint64_t word) { return 36 * layer1_placed_partition(word) + layer1_placed_column(word); }
+
+/* A cell word of layer1_locate_px: block pair, row and column, and how many L1 frames later. */
+static inline unsigned layer1_located_px_pair(uint64_t word) { return word >> 8 & 0xff; }
+static inline unsigned layer1_located_px_row(uint64_t word) { return word >> 16 & 0xff; }
+static inline unsigned layer1_located_px_later(uint64_t word) { return word >> 24 & 0xff; }
+static inline unsigned layer1_located_px_place(uint64_t word) { return word >> 32 & 0xff; }
+static inline unsigned layer1_located_px_column(uint64_t word) { return (unsigned)(word >> 40); }
+
 /* A lookup word. */
 static inline uint8_t layer1_looked_up_mode(uint64_t word) { return (uint8_t)(word >> 8); }
 static inline uint8_t layer1_looked_up_count(uint64_t word) { return (uint8_t)(word >> 16); }
@@ -217,7 +267,7 @@ static inline const char *layer1_cause_text(unsigned number) {
     case 2: /* the place: 0 */
         return "the state of the run is not valid";
     case 3: /* the place: the first such buffer or argument, from 0 */
-        return "a length is wrong, or a row, column, block pair or channel is out of range";
+        return "a length is wrong, or a row, column, block pair, channel, transfer frame or coded bit is out of range";
     case 4: /* the place: the lowest such block */
         return "a control block is not the one of this mode, its count and the number of block 0";
     case 5: /* the place: the lowest such P1 frame, from 0; 8 for P2 */

@@ -10,7 +10,8 @@ use crate::commands::{self, Stop};
 use crate::control;
 use crate::draw::Draw;
 use crate::dumps;
-use crate::interleaving::PxRow;
+use crate::interleaving::{pm_position, PxRow, PM_COLUMNS};
+use crate::locating;
 use crate::modes::{Mode, Without, MODES};
 use crate::nearest;
 use crate::packing::flip;
@@ -393,6 +394,137 @@ fn cells_of_px(output: &mut impl Write, draw: &mut Draw) -> io::Result<()> {
     Ok(())
 }
 
+/// House matter: into which cells drawn bits of P1 and PIDS go, the last of each frame, and some out of range.
+fn bits_of_pm(output: &mut impl Write, draw: &mut Draw) -> io::Result<()> {
+    let borders = [0, 199, 200, 365_439, 365_440, 1 << 32, usize::MAX];
+    let mut bits: Vec<[usize; 3]> = Vec::new();
+    for channel in [0, 1, 2, 3, 255] {
+        for frame in [0, 1, 15, 16, usize::MAX] {
+            bits.extend(borders.map(|bit| [channel, frame, bit]));
+        }
+    }
+    for _ in 0..600 {
+        bits.push([1, 0, draw.index(365_440)]);
+        bits.push([2, draw.index(16), draw.index(200)]);
+    }
+    for [channel, frame, bit] in bits {
+        let returned = match locating::locate(channel as u64, frame, bit) {
+            Ok(cell) => {
+                let (row, column) = (cell / PM_COLUMNS, cell % PM_COLUMNS);
+                let [block, line, partition, place] = pm_position(row, column);
+                [0, 0, block, line, partition, place, row, column]
+            }
+            Err(refusal) => [refusal.number as usize, refusal.place, 0, 0, 0, 0, 0, 0],
+        };
+        let numbers = [channel, frame, bit];
+        line::<&[u8]>(output, "locate", &numbers, &[], &returned, &[])?;
+    }
+    Ok(())
+}
+
+/// No section: a drawn state, seldom one that is not valid, of any covered mode or one that is not.
+fn drawn_state(draw: &mut Draw) -> State {
+    let mode = [2, 3, 11, 11, 5, 6, 1, 4][draw.index(8)];
+    let [half, age] = [[0, 0], [1, 1], [0, 2], [1, 2], [1, 0]][draw.index(5)];
+    State {
+        mode,
+        half,
+        age,
+        reserved: [0, 1, 2, 3, 4, 5, 6, 7, 7, 8][draw.index(10)],
+    }
+}
+
+/// House matter: into which cells drawn bits of P3 and P4 go, some out of range or of a state or a channel that is not
+/// there.
+fn bits_of_px(output: &mut impl Write, draw: &mut Draw) -> io::Result<()> {
+    for _ in 0..800 {
+        let state = drawn_state(draw);
+        let channel = [3, 3, 3, 4, 4, 2][draw.index(6)];
+        let frame = [draw.index(8), draw.index(9)][draw.index(2)];
+        let bit = [draw.index(4_610), draw.index(9_220), usize::MAX][draw.index(10) / 4];
+        let located = state.valid_mode().and_then(|mode| {
+            let half = state.half as usize;
+            let (later, cell) = locating::locate_px(mode, half, channel as u64, frame, bit)?;
+            let row = [mode.p3.row, mode.p4.row][channel - 3].expect("a channel of the mode");
+            let (line, column) = (cell / row.width(), cell % row.width());
+            Ok([0, 0, later, line / 64, line % 64, column])
+        });
+        let refused = |refusal: Refusal| [refusal.number as usize, refusal.place, 0, 0, 0, 0];
+        let numbers = [&state_numbers(state)[..], &[channel, frame, bit]].concat();
+        let returned = located.unwrap_or_else(refused);
+        line::<&[u8]>(output, "locate_px", &numbers, &[], &returned, &[])?;
+    }
+    Ok(())
+}
+
+/// House matter: the numbers of a working, in the order of the header.
+fn numbers_of(worked: &locating::Working) -> Vec<usize> {
+    let bits = worked.bits.into_iter().chain(worked.scrambling);
+    let written = [worked.step, worked.k].into_iter().chain(worked.position);
+    [worked.number, worked.generator.into()]
+        .into_iter()
+        .chain(bits.map(usize::from))
+        .chain([worked.sum as usize, worked.sum as usize % 2])
+        .chain(written)
+        .chain([worked.cell])
+        .collect()
+}
+
+/// House matter: a working in a buffer of so many numbers, as a line; the length is looked at last.
+fn work(
+    output: &mut impl Write,
+    state: State,
+    frames: &[u8],
+    [channel, frame, bit]: [usize; 3],
+    room: usize,
+) -> io::Result<()> {
+    let too_long_or_short = Refusal {
+        number: 3,
+        place: 4,
+    };
+    let worked = state.valid_mode().and_then(|mode| {
+        let half = state.half as usize;
+        let worked = locating::working(mode, half, channel as u64, frames, frame, bit)?;
+        (room == 25).then_some(worked).ok_or(too_long_or_short)
+    });
+    let before = pattern(8 * room);
+    let (returned, after): (_, Vec<u8>) = match worked {
+        Ok(worked) => {
+            let numbers = numbers_of(&worked);
+            let bytes = numbers.iter().flat_map(|&n| (n as u64).to_le_bytes());
+            ([vec![0, 0], numbers.clone()].concat(), bytes.collect())
+        }
+        Err(refusal) => (vec![refusal.number as usize, refusal.place], before.clone()),
+    };
+    let numbers = [&state_numbers(state)[..], &[channel, frame, bit]].concat();
+    let (before, after) = ([frames, &before[..]], [frames, &after[..]]);
+    line(output, "working", &numbers, &before, &returned, &after)
+}
+
+/// House matter: the workings of drawn bits of a mode, and other states, channels, lengths, frames and bits.
+fn workings(output: &mut impl Write, draw: &mut Draw, mode: &Mode) -> io::Result<()> {
+    let lengths = [18_272, 160, mode.p3.frames, mode.p4.frames];
+    for n in 0..80 {
+        let state = State {
+            mode: mode.number,
+            half: draw.below(2),
+            age: mode.oldest_age(),
+            reserved: drawn_state(draw).reserved,
+        };
+        let of = n % 4;
+        let length = lengths[of];
+        let lent = [length, length, length, length, length, 0, length + 1][draw.index(7)];
+        let frames = draw.bytes(lent);
+        let channel = [0, 4, 5, 255].get(n / 2).copied().unwrap_or(1 + of);
+        let frame = [0, draw.index([1, 16, 8, 8][of]), 16][draw.index(11) / 5];
+        let coded = [365_440, 200, 2 * length, 2 * length][of];
+        let bit = [0, draw.index(coded.max(1)), coded][draw.index(11) / 5];
+        let room = [25, 25, 25, 25, 25, 25, 24, 26, 0][draw.index(9)];
+        work(output, state, &frames, [channel, frame, bit], room)?;
+    }
+    Ok(())
+}
+
 /// Documents 01 and 02: lookups of control blocks and of an L1 frame's sixteen, drawn, damaged and of other lengths.
 fn lookups(output: &mut impl Write, draw: &mut Draw) -> io::Result<()> {
     let blocks = Blocks::all();
@@ -634,19 +766,35 @@ fn sheets(output: &mut impl Write, seed: u64) -> Result<(), Stop> {
     Ok(())
 }
 
+/// The house's answer sheets: an input of no bytes has no list.
+fn sheet_of_nothing(output: &mut impl Write) -> io::Result<()> {
+    let input = Vec::new();
+    let before = pattern(1_200_000);
+    let mut after = Vec::new();
+    // A text that says why there is no sheet is a text too.
+    let _ = commands::sheet(1, 1, Without::default(), &mut &input[..], &mut after);
+    after.resize(before.len(), 0);
+    let (before, after) = ([&input, &before], [&input, &after]);
+    line(output, "sheet", &[1, 1, 0, 0], &before, &[0, 0], &after)
+}
+
 /// No section: the lines of every call, drawn from a seed.
 pub fn lines(seed: u64, output: &mut impl Write) -> Result<(), Stop> {
     let mut draw = Draw::new(seed);
     lengths(output)?;
     cells_of_pm(output, &mut draw)?;
     cells_of_px(output, &mut draw)?;
+    bits_of_pm(output, &mut draw)?;
+    bits_of_px(output, &mut draw)?;
     lookups(output, &mut draw)?;
     rows(output)?;
     shares(output, &mut draw)?;
     frames_of_cells(output, &mut draw)?;
     sheets(output, seed)?;
+    sheet_of_nothing(output)?;
     for mode in &MODES {
         vectors(output, &mut draw, mode)?;
+        workings(output, &mut draw, mode)?;
         dumps_judged(output, &mut draw, seed, mode)?;
         refused_calls(output, mode)?;
         runs(output, &mut draw, mode)?;

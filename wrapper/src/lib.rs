@@ -8,7 +8,7 @@
 mod raw;
 
 /// The number of the interface that this crate is written for: the header's `LAYER1_VERSION`.
-pub const VERSION: u32 = 1;
+pub const VERSION: u32 = 2;
 
 /// The number of the interface that the archive has. Where it is not `VERSION`, the two do not belong together.
 pub fn version() -> u32 {
@@ -179,6 +179,63 @@ pub struct Placed {
     pub place: u8,
     /// The position.
     pub position: Position,
+}
+
+/// Where a coded bit of P1 or PIDS goes; zeros when refused.
+#[derive(Clone, Copy, Debug, PartialEq, Eq)]
+pub struct Located {
+    /// The number of the table of causes, 0 for success.
+    pub number: u8,
+    /// The place that comes with it.
+    pub place: u8,
+    /// The position of the cell.
+    pub position: Position,
+    /// Its row of PM.
+    pub row: u16,
+    /// Its column of PM.
+    pub column: u16,
+}
+
+/// Where a coded bit of P3 or P4 goes; zeros when refused.
+#[derive(Clone, Copy, Debug, PartialEq, Eq)]
+pub struct LocatedPx {
+    /// The number of the table of causes, 0 for success.
+    pub number: u8,
+    /// The place that comes with it.
+    pub place: u8,
+    /// How many L1 frames later the cell is sent.
+    pub later: u8,
+    /// The block pair of its matrix.
+    pub pair: u8,
+    /// The row of that matrix.
+    pub row: u8,
+    /// The column.
+    pub column: u32,
+}
+
+/// The working of a coded bit.
+#[derive(Clone, Copy, Debug, PartialEq, Eq)]
+pub struct Working {
+    /// The bit of the transfer frame that the coded bit belongs to, j.
+    pub bit: u64,
+    /// The generator whose output for it the coded bit is: 0o133, 0o171 or 0o165.
+    pub generator: u64,
+    /// The bits j, j - 1, .. j - 6 of the transfer frame, counted around its end.
+    pub bits: [u64; 7],
+    /// The bits of the scrambling sequence there.
+    pub scrambling: [u64; 7],
+    /// How many of the fourteen are 1 where the generator has a tap.
+    pub sum: u64,
+    /// The sum modulo 2: the coded bit.
+    pub coded: u64,
+    /// The bit's number i in the equations of 10.2.3, 10.2.4 or 10.2.6.
+    pub step: u64,
+    /// k of 10.2.3.3 or 10.2.4.3; in 10.2.6 the counter of the partition.
+    pub k: u64,
+    /// Block, row, partition and column that it is written to; in 10.2.6 of the internal matrix.
+    pub position: [u64; 4],
+    /// The cell, counted across the rows of that matrix; in 10.2.6 the step that reads it.
+    pub cell: u64,
 }
 
 /// What stands in a cell of PX1 or PX2.
@@ -514,6 +571,98 @@ pub fn find_px(state: State, channel: u8, pair: usize, row: usize, column: usize
         frame: byte(word, 16),
         bit: (word >> 40) as u32,
     }
+}
+
+/// Tells into which cell of PM a coded bit of P1 (channel 1) or PIDS (channel 2) goes, of a transfer frame of an L1 frame, in the modes without
+/// P2.
+pub fn locate(channel: u8, frame: usize, bit: usize) -> Located {
+    // SAFETY: only numbers cross.
+    let word = unsafe { raw::layer1_locate(channel, frame, bit) };
+    let position = Position {
+        block: byte(word, 8),
+        row: byte(word, 16),
+        partition: byte(word, 24),
+        column: byte(word, 40),
+    };
+    Located {
+        number: byte(word, 0),
+        place: byte(word, 32),
+        position,
+        row: 32 * u16::from(position.block) + u16::from(position.row),
+        column: 36 * u16::from(position.partition) + u16::from(position.column),
+    }
+}
+
+/// Tells into which cell of PX1 (channel 3) or PX2 (channel 4) a coded bit of P3 or P4 goes, of a transfer frame of the L1 frame that a state
+/// comes before. In MP5 and MP6 it knows no channel.
+pub fn locate_px(state: State, channel: u8, frame: usize, bit: usize) -> LocatedPx {
+    // SAFETY: only numbers cross.
+    let word = unsafe {
+        raw::layer1_locate_px(
+            state.mode,
+            state.half,
+            state.age,
+            state.reserved,
+            channel,
+            frame,
+            bit,
+        )
+    };
+    LocatedPx {
+        number: byte(word, 0),
+        place: byte(word, 32),
+        later: byte(word, 24),
+        pair: byte(word, 8),
+        row: byte(word, 16),
+        column: (word >> 40) as u32,
+    }
+}
+
+/// The working of a coded bit of P1 (channel 1), PIDS (2), P3 (3) or P4 (4), of a transfer frame of the L1 frame that a state comes before, from
+/// all transfer frames of the channel in that L1 frame; none for P3 or P4 means zeros. In MP5 and MP6 it knows no channel.
+///
+/// # Errors
+///
+/// Number and place of the table of causes.
+pub fn working(
+    state: State,
+    channel: u8,
+    frames: &[u8],
+    frame: usize,
+    bit: usize,
+) -> Result<Working, Answer> {
+    let mut numbers = [0; 25];
+    // SAFETY: as in `start`.
+    let word = unsafe {
+        raw::layer1_working(
+            state.mode,
+            state.half,
+            state.age,
+            state.reserved,
+            channel,
+            frames.as_ptr(),
+            frames.len(),
+            frame,
+            bit,
+            numbers.as_mut_ptr(),
+            numbers.len(),
+        )
+    };
+    if byte(word, 0) != 0 {
+        return Err(answer(word));
+    }
+    Ok(Working {
+        bit: numbers[0],
+        generator: numbers[1],
+        bits: std::array::from_fn(|d| numbers[2 + d]),
+        scrambling: std::array::from_fn(|d| numbers[9 + d]),
+        sum: numbers[16],
+        coded: numbers[17],
+        step: numbers[18],
+        k: numbers[19],
+        position: std::array::from_fn(|n| numbers[20 + n]),
+        cell: numbers[24],
+    })
 }
 
 /// Looks up the mode, the block count and the reserved number of one control block.

@@ -111,6 +111,29 @@ extern "C" {
         row: usize,
         column: usize,
     ) -> u64;
+    pub fn layer1_locate(channel: u8, frame: usize, bit: usize) -> u64;
+    pub fn layer1_locate_px(
+        mode: u8,
+        half: u8,
+        age: u8,
+        last: u8,
+        channel: u8,
+        frame: usize,
+        bit: usize,
+    ) -> u64;
+    pub fn layer1_working(
+        mode: u8,
+        half: u8,
+        age: u8,
+        last: u8,
+        channel: u8,
+        frames: *const u8,
+        frames_len: usize,
+        frame: usize,
+        bit: usize,
+        out: *mut u64,
+        out_len: usize,
+    ) -> u64;
     pub fn layer1_lookup(block: *const u8, block_len: usize) -> u64;
     pub fn layer1_lookup_frame(control: *const u8, control_len: usize) -> u64;
     pub fn layer1_nearest(

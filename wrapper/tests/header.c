@@ -168,6 +168,58 @@ static size_t call_of_run(const char *name, const uint64_t *n, uint64_t *out)
     return fields;
 }
 
+/* Where a coded bit goes. */
+static size_t located(const char *name, const uint64_t *n, uint64_t *out)
+{
+    size_t fields = 0;
+    if (strcmp(name, "locate") == 0) {
+        uint64_t word = layer1_locate((uint8_t)n[0], (size_t)n[1], (size_t)n[2]);
+        out[fields++] = layer1_number(word);
+        out[fields++] = layer1_placed_place(word);
+        out[fields++] = layer1_placed_block(word);
+        out[fields++] = layer1_placed_row(word);
+        out[fields++] = layer1_placed_partition(word);
+        out[fields++] = layer1_placed_column(word);
+        out[fields++] = layer1_located_row(word);
+        out[fields++] = layer1_located_column(word);
+    } else if (strcmp(name, "locate_px") == 0) {
+        uint64_t word = layer1_locate_px(STATE(n), (uint8_t)n[4], (size_t)n[5], (size_t)n[6]);
+        out[fields++] = layer1_number(word);
+        out[fields++] = layer1_located_px_place(word);
+        out[fields++] = layer1_located_px_later(word);
+        out[fields++] = layer1_located_px_pair(word);
+        out[fields++] = layer1_located_px_row(word);
+        out[fields++] = layer1_located_px_column(word);
+    }
+    return fields;
+}
+
+/* A working, with its numbers by their names. */
+static size_t worked(const uint64_t *n, uint64_t *out)
+{
+    uint64_t *numbers = (uint64_t *)(void *)slots[1].at;
+    size_t fields = answer(layer1_working(STATE(n), (uint8_t)n[4], LENT(0), (size_t)n[5], (size_t)n[6], numbers, slots[1].count), out);
+    if (out[0] != 0)
+        return fields;
+    check(slots[1].count == LAYER1_WORKED, "the numbers of a working");
+    out[fields++] = numbers[LAYER1_WORKED_BIT];
+    out[fields++] = numbers[LAYER1_WORKED_GENERATOR];
+    for (size_t d = 0; d < 7; d++)
+        out[fields++] = numbers[LAYER1_WORKED_BITS + d];
+    for (size_t d = 0; d < 7; d++)
+        out[fields++] = numbers[LAYER1_WORKED_SCRAMBLING + d];
+    out[fields++] = numbers[LAYER1_WORKED_SUM];
+    out[fields++] = numbers[LAYER1_WORKED_CODED];
+    out[fields++] = numbers[LAYER1_WORKED_STEP];
+    out[fields++] = numbers[LAYER1_WORKED_K];
+    out[fields++] = numbers[LAYER1_WORKED_BLOCK];
+    out[fields++] = numbers[LAYER1_WORKED_ROW];
+    out[fields++] = numbers[LAYER1_WORKED_PARTITION];
+    out[fields++] = numbers[LAYER1_WORKED_COLUMN];
+    out[fields++] = numbers[LAYER1_WORKED_CELL];
+    return fields;
+}
+
 /* The questions about cells, control blocks and rows. */
 static size_t question(const char *name, const uint64_t *n, uint64_t *out)
 {
@@ -225,6 +277,8 @@ static size_t other_call(const char *name, const uint64_t *n, uint64_t *out)
     size_t fields = 0;
     if (strcmp(name, "share_places") == 0)
         fields = share_places(n, out);
+    else if (strcmp(name, "working") == 0)
+        fields = worked(n, out);
     else if (strcmp(name, "nearest") == 0) {
         uint64_t word = layer1_nearest(LENT(0), LENT(1), (size_t)n[0]);
         out[fields++] = layer1_number(word);
@@ -260,7 +314,7 @@ static int reads_only(const char *name, size_t s)
         return s >= LAYER1_PM && s <= LAYER1_CONTROL;
     if (strcmp(name, "fill_vector") == 0)
         return s < 4;
-    if (strcmp(name, "nearest") == 0 || strcmp(name, "restore") == 0 || strcmp(name, "sheet") == 0)
+    if (strcmp(name, "nearest") == 0 || strcmp(name, "restore") == 0 || strcmp(name, "sheet") == 0 || strcmp(name, "working") == 0)
         return s == 0;
     return strcmp(name, "start_sender") != 0 && strcmp(name, "start_reader") != 0 && strcmp(name, "share_places") != 0;
 }
@@ -275,6 +329,8 @@ static void made(const char *name, const uint64_t *numbers, const uint64_t *retu
     if (made_fields == 0)
         made_fields = question(name, numbers, out);
     if (made_fields == 0)
+        made_fields = located(name, numbers, out);
+    if (made_fields == 0)
         made_fields = other_call(name, numbers, out);
     check(made_fields == fields, "the test knows no such call, or it returns more or less");
     for (size_t f = 0; f < fields; f++)
@@ -284,6 +340,14 @@ static void made(const char *name, const uint64_t *numbers, const uint64_t *retu
         }
     for (size_t s = 0; s < lent; s++)
         check(slots[s].len == 0 || memcmp(slots[s].at, slots[s].after, slots[s].len) == 0, "the bytes that a call leaves");
+}
+
+/* The bytes of an element of the buffer of a slot. */
+static size_t size_of_element(const char *name, size_t s)
+{
+    if (strcmp(name, "fill_vector") == 0 && s >= 4)
+        return sizeof(float);
+    return strcmp(name, "working") == 0 && s == 1 ? sizeof(uint64_t) : 1;
 }
 
 static size_t numbers_of(uint64_t *numbers)
@@ -309,7 +373,7 @@ static void take(char *line)
         check(lent < SLOTS, "a line has too many buffers");
         struct slot *s = &slots[lent];
         s->len = bytes_of(word, s->before);
-        s->count = strcmp(name, "fill_vector") == 0 && lent >= 4 ? s->len / sizeof(float) : s->len;
+        s->count = s->len / size_of_element(name, lent);
         memcpy(s->after, s->before, s->len);
         lent++;
     }

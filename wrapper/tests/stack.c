@@ -1,5 +1,6 @@
 /* How much stack each call takes, on a stack of its own that was painted before: the greatest over the L1 frames of a run, in every mode.
- * Prints mode, sending, reading and the judging of the run's dump on a line each, and fails where one is above what layer1.h says. */
+ * Prints mode, sending, reading, the judging of the run's dump and an answer sheet, 0 in MP5 and MP6, on a line each, and fails where one is
+ * above what layer1.h says. */
 #define _GNU_SOURCE
 #include "layer1.h"
 
@@ -17,6 +18,7 @@ static uint64_t word;
 static uint8_t stack[STACK] __attribute__((aligned(16)));
 static ucontext_t here, there;
 static const uint8_t zeros[200];
+static uint64_t worked[LAYER1_WORKED];
 
 #define LENT(place) buffer[place], len[place]
 #define STATE layer1_mode(word), layer1_half(word), layer1_age(word), layer1_last(word)
@@ -32,8 +34,20 @@ static void find(void)
 {
     layer1_find(511, 719);
     layer1_find_px(11, 1, 2, RESERVED, 4, 7, 63, 143);
+    layer1_place_of(511, 719);
+    layer1_locate(1, 0, 365439);
+    layer1_locate(2, 15, 199);
+    layer1_locate_px(11, 1, 2, RESERVED, 4, 7, 9215);
     layer1_lookup(buffer[LAYER1_CONTROL], 256);
     layer1_lookup_frame(buffer[LAYER1_CONTROL], 4096);
+}
+
+/* A working that is not refused, of each way of reading a channel's frames: as lent, and none for zeros. */
+static void work(void)
+{
+    word = layer1_working(11, 1, 2, RESERVED, 1, buffer[LAYER1_P1], 18272, 0, 365439, worked, LAYER1_WORKED);
+    if (layer1_number(word) == 0)
+        word = layer1_working(11, 1, 2, RESERVED, 4, NULL, 0, 7, 9215, worked, LAYER1_WORKED);
 }
 
 static void nearest(void)
@@ -63,6 +77,27 @@ static void dumped(uint8_t mode, uint8_t matrices[COUNT][4][MOST])
             memcpy(dump + dump_len, matrices[t][m], len[LAYER1_PM + m]);
             dump_len += len[LAYER1_PM + m];
         }
+}
+
+/* The input of a sheet over the run's L1 frames, with a question of each kind. */
+static uint8_t input[64 + COUNT * (1 + 28160)], text[LAYER1_SHEET_ROOM];
+static size_t input_len;
+static uint8_t sheet_mode;
+
+static void sheet(void) { word = layer1_sheet(sheet_mode, COUNT, 0, 0, input, input_len, text, sizeof text); }
+
+static void asked(uint8_t mode)
+{
+    const char *list = mode == 1 ? "0 PM 0 0\n4 PM 511 719\n\n" : mode == 11 ? "0 PM 0 0\n1 PX1 7 63 143\n4 PX2 0 0 0\n\n" : "0 PM 0 0\n1 PX1 7 63 71\n\n";
+    sheet_mode = mode;
+    input_len = strlen(list);
+    memset(input, 0, sizeof input);
+    memcpy(input, list, input_len);
+    for (size_t t = 0; t < COUNT; t++) {
+        input_len++;
+        for (size_t place = LAYER1_P1; place <= LAYER1_P4; place++)
+            input_len += layer1_sender_length(mode, place);
+    }
 }
 
 static void fill(void)
@@ -108,6 +143,20 @@ static size_t run(void (*call)(void), uint8_t matrices[COUNT][4][MOST])
     return greatest;
 }
 
+/* The stack of an answer sheet of a mode that has sheets, which must be one. */
+static size_t of_a_sheet(uint8_t mode)
+{
+    if (mode == 5 || mode == 6)
+        return 0;
+    asked(mode);
+    size_t bytes = taken(sheet);
+    if (layer1_number(word) != 0 || text[0] != 'M') {
+        printf("no sheet: number %u, %.60s\n", layer1_number(word), (const char *)text);
+        exit(1);
+    }
+    return bytes;
+}
+
 int main(void)
 {
     static const uint8_t modes[] = {1, 2, 3, 5, 6, 11};
@@ -128,9 +177,15 @@ int main(void)
             printf("refused: number %u\n", layer1_number(word));
             exit(1);
         }
-        printf("%u %zu %zu %zu\n", modes[m], sending, reading, judging);
-        above |= sending > LAYER1_SEND_STACK || reading > LAYER1_READ_STACK || judging > LAYER1_JUDGE_STACK;
+        size_t sheets = of_a_sheet(modes[m]);
+        printf("%u %zu %zu %zu %zu\n", modes[m], sending, reading, judging, sheets);
+        above |= sending > LAYER1_SEND_STACK || reading > LAYER1_READ_STACK || judging > LAYER1_JUDGE_STACK || sheets > LAYER1_SHEET_STACK;
     }
-    return above || taken(find) > LAYER1_SEND_STACK || taken(nearest) > LAYER1_SEND_STACK || taken(restore) > LAYER1_SEND_STACK
+    size_t working = taken(work);
+    if (layer1_number(word) != 0) {
+        printf("no working: number %u place %u\n", layer1_number(word), layer1_place(word));
+        exit(1);
+    }
+    return above || working > LAYER1_SEND_STACK || taken(find) > LAYER1_SEND_STACK || taken(nearest) > LAYER1_SEND_STACK || taken(restore) > LAYER1_SEND_STACK
         || taken(fill) > LAYER1_SEND_STACK;
 }

@@ -1,6 +1,6 @@
 -- The fields of a word are what it was made of: the shifts and masks of `include/layer1.h`, as quotients and remainders. Assumes nothing.
-use Prim.Native.Nat.{ℕ, _*_, _^_, _/_, _%_, _<_, _≤_}
-use mathlib.Core.Path.{_≡_, ap, ap₂, _∙_}
+use Prim.Native.Nat.{ℕ, _+_, _*_, _^_, _/_, _%_, _<_, _≤_}
+use mathlib.Core.Path.{_≡_, sym, ap, ap₂, _∙_}
 use mathlib.Core.Bool.{cond}
 use native.Mathlib.Nat.{mul-le-mul}
 use native.Mathlib.Omega.{arith}
@@ -11,15 +11,17 @@ use Rattle.runs.specs.declared.State.{State}
 use Rattle.runs.specs.Answers.{numberOf, placeOf}
 use Rattle.decoding.specs.declared.Decoded.{Decoded}
 use Rattle.dumps.specs.declared.Verdict.{Verdict}
-use Rattle.interleaving.specs.Matrix.{Inside}
+use Rattle.interleaving.specs.Matrix.{Inside, matrixRow, matrixColumn}
 use Rattle.queries.specs.Finder.{Channel, none, p1, pids}
 use Rattle.queries.specs.Finder as Finder
 use Rattle.queries.specs.Places as Places
 use Rattle.queries.specs.FinderPX.{Content, none as nothing, coded, fill}
 use Rattle.queries.specs.FinderPX as FinderPX
+use Rattle.locating.specs.Locator as Locator
+use Rattle.locating.specs.LocatorPX as LocatorPX
 use Rattle.queries.specs.Lookup as Lookup
 use Rattle.queries.specs.LookupFrame as LookupFrame
-use Rattle.words.specs.Words.{answerWord, channelNumber, contentNumber, decodedWord, foundPxWord, foundWord, lookedUpFrameWord, lookedUpWord, numberRead, outcomeWord, placedWord, verdictWord}
+use Rattle.words.specs.Words.{answerWord, channelNumber, contentNumber, decodedWord, foundPxWord, foundWord, locatedPxWord, locatedWord, lookedUpFrameWord, lookedUpWord, numberRead, outcomeWord, placedWord, verdictWord}
 
 pub number-lt : (a : Answer) → numberOf a < 2 ^ 8
 number-lt Success = omega arith
@@ -125,6 +127,37 @@ unfolding foundPxWord
 found-px-fields v n (p, f, e, b) =
     let c = content-lt (v .content) in
     (omega arith, omega arith, omega arith, omega arith, omega arith, omega arith)
+
+abbrev pub SmallLocated : Locator.Values → Type 0
+SmallLocated v = (v .place < 2 ^ 8) × Inside 20 16 36 (v .position)
+
+-- row and column of PM too, where they are those of the position
+pub located-fields : (v : Locator.Values) → v .number < 2 ^ 8 → SmallLocated v → v .row ≡ matrixRow (v .position) → v .column ≡ matrixColumn 36 (v .position)
+    → (locatedWord v % 2 ^ 8 ≡ v .number)
+    × (byte (locatedWord v) (2 ^ 8) ≡ v .position .block)
+    × (byte (locatedWord v) (2 ^ 16) ≡ v .position .row)
+    × (byte (locatedWord v) (2 ^ 24) ≡ v .position .partition)
+    × (byte (locatedWord v) (2 ^ 32) ≡ v .place)
+    × (locatedWord v / 2 ^ 40 ≡ v .position .column)
+    × (32 * byte (locatedWord v) (2 ^ 8) + byte (locatedWord v) (2 ^ 16) ≡ v .row)
+    × (36 * byte (locatedWord v) (2 ^ 24) + locatedWord v / 2 ^ 40 ≡ v .column)
+unfolding locatedWord matrixRow matrixColumn
+located-fields v n s row column =
+    let (n', b, r, q, p, c) = placed-fields (record { number = v .number; place = v .place; position = v .position }) n s in
+    (n', b, r, q, p, c, rw (b, r) (sym row), rw (q, c) (sym column))
+
+abbrev pub SmallLocatedPX : LocatorPX.Values → Type 0
+SmallLocatedPX v = (v .place < 2 ^ 8) × (v .after < 2 ^ 8) × (v .pair < 2 ^ 8) × (v .row < 2 ^ 8) × (v .column < 2 ^ 24)
+
+pub located-px-fields : (v : LocatorPX.Values) → v .number < 2 ^ 8 → SmallLocatedPX v
+    → (locatedPxWord v % 2 ^ 8 ≡ v .number)
+    × (byte (locatedPxWord v) (2 ^ 8) ≡ v .pair)
+    × (byte (locatedPxWord v) (2 ^ 16) ≡ v .row)
+    × (byte (locatedPxWord v) (2 ^ 24) ≡ v .after)
+    × (byte (locatedPxWord v) (2 ^ 32) ≡ v .place)
+    × (locatedPxWord v / 2 ^ 40 ≡ v .column)
+unfolding locatedPxWord
+located-px-fields v n (p, a, q, r, c) = (omega arith, omega arith, omega arith, omega arith, omega arith, omega arith)
 
 pub looked-up-fields : (v : Lookup.Values) → v .number < 2 ^ 8 → v .mode < 2 ^ 8 → v .count < 2 ^ 8 → v .reserved < 2 ^ 8
     → (lookedUpWord v % 2 ^ 8 ≡ v .number)

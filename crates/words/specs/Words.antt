@@ -15,6 +15,8 @@ use Rattle.queries.specs.Finder as Finder
 use Rattle.queries.specs.Places as Places
 use Rattle.queries.specs.FinderPX.{Content, none as nothing, coded, fill}
 use Rattle.queries.specs.FinderPX as FinderPX
+use Rattle.locating.specs.Locator as Locator
+use Rattle.locating.specs.LocatorPX as LocatorPX
 use Rattle.queries.specs.Lookup as Lookup
 use Rattle.queries.specs.LookupFrame as LookupFrame
 
@@ -55,6 +57,14 @@ contentNumber fill = 2
 -- the cell finder of PX1 and PX2
 unfoldable pub foundPxWord : FinderPX.Values → ℕ
 foundPxWord v = v .number + 2 ^ 8 * contentNumber (v .content) + 2 ^ 16 * v .frame + 2 ^ 24 * v .before + 2 ^ 32 * v .place + 2 ^ 40 * v .bit
+
+-- the cell of PM that a coded bit of P1 or PIDS goes into: its position, as for a row and a column
+unfoldable pub locatedWord : Locator.Values → ℕ
+locatedWord v = placedWord (record { number = v .number; place = v .place; position = v .position })
+
+-- the cell of PX1 or PX2 that a coded bit of P3 or P4 goes into, and how many L1 frames later it is sent
+unfoldable pub locatedPxWord : LocatorPX.Values → ℕ
+locatedPxWord v = v .number + 2 ^ 8 * v .pair + 2 ^ 16 * v .row + 2 ^ 24 * v .after + 2 ^ 32 * v .place + 2 ^ 40 * v .column
 
 -- a lookup
 unfoldable pub lookedUpWord : Lookup.Values → ℕ

@@ -3,6 +3,8 @@ use causes::number;
 use causes::place;
 use decoding::Decoded;
 use dumps::Verdict;
+use locating::Located;
+use locating::LocatedPx;
 use queries::Found;
 use queries::FoundPx;
 use queries::LookedUp;
@@ -20,9 +22,11 @@ ghost use Rattle.queries.specs.Finder.{values};
 ghost use Rattle.queries.specs.Places.{values as valuesOfPlace};
 ghost use Rattle.interleaving.specs.Matrix.{Inside};
 ghost use Rattle.queries.specs.FinderPX.{values as valuesPX};
+ghost use Rattle.locating.specs.Locator.{values as valuesOfBit};
+ghost use Rattle.locating.specs.LocatorPX.{values as valuesOfBitPX};
 ghost use Rattle.queries.specs.Lookup.{values as valuesOfBlock};
 ghost use Rattle.queries.specs.LookupFrame.{values as valuesOfFrame};
-ghost use Rattle.words.specs.Words.{answerWord, decodedWord, eightOf, foundPxWord, foundWord, lookedUpFrameWord, lookedUpWord, numberRead, outcomeWord, placedWord, rowWord, verdictWord};
+ghost use Rattle.words.specs.Words.{answerWord, decodedWord, eightOf, foundPxWord, foundWord, locatedPxWord, locatedWord, lookedUpFrameWord, lookedUpWord, numberRead, outcomeWord, placedWord, rowWord, verdictWord};
 
 // The word of an answer alone, and so of any refusal.
 pub fn answer_word(answer: Answer) -> u64
@@ -90,6 +94,41 @@ pub fn found_px_word(cell: FoundPx) -> u64
         }
         FoundPx::Fill => 512,
         FoundPx::Refused { answer } => answer_word(answer),
+    }
+}
+
+// The word of where a coded bit of P1 or PIDS goes.
+pub fn located_word(cell: Located) -> u64
+    requires { ⌜ (valuesOfBit cell .place < 2 ^ 8) × Inside 20 16 36 (valuesOfBit cell .position) ⌝ }
+    ensures { λ r. ⌜ r ≡ locatedWord (valuesOfBit cell) ⌝ }
+{
+    match cell {
+        Located::At {
+            position,
+            row: _,
+            column: _,
+        } => placed_word(Placed::At { position }),
+        Located::Refused { answer } => answer_word(answer),
+    }
+}
+
+// The word of where a coded bit of P3 or P4 goes.
+pub fn located_px_word(cell: LocatedPx) -> u64
+    requires { ⌜ (valuesOfBitPX cell .place < 2 ^ 8) × (valuesOfBitPX cell .after < 2 ^ 8) × (valuesOfBitPX cell .pair < 2 ^ 8)
+        × (valuesOfBitPX cell .row < 2 ^ 8) × (valuesOfBitPX cell .column < 2 ^ 24) ⌝ }
+    ensures { λ r. ⌜ r ≡ locatedPxWord (valuesOfBitPX cell) ⌝ }
+{
+    match cell {
+        LocatedPx::At {
+            later,
+            pair,
+            row,
+            column,
+        } => {
+            let low = 256 * (pair as u64) + 65536 * (row as u64) + 16777216 * (later as u64);
+            low + 1099511627776 * (column as u64)
+        }
+        LocatedPx::Refused { answer } => answer_word(answer),
     }
 }
 
