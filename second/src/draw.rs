@@ -358,8 +358,12 @@ const EDGES: [&[u8]; 65] = [
 /// every L1 frame, between the edges.
 pub fn cell_list(seed: u64, mode: &Mode, count: u64) -> Vec<u8> {
     let mut draw = Draw::new(seed);
-    let beyond = [("PM", count), ("P3", count), ("PM", count.saturating_add(1))]
-        .map(|(name, frame)| format!("{frame} {name} 0 0"));
+    let beyond = [
+        ("PM", count),
+        ("P3", count),
+        ("PM", count.saturating_add(1)),
+    ]
+    .map(|(name, frame)| format!("{frame} {name} 0 0"));
     let beyond = beyond.iter().map(|line| line.as_bytes());
     let edges: Vec<&[u8]> = EDGES.into_iter().chain(beyond).collect();
     let first = draw.index(edges.len());
@@ -425,7 +429,11 @@ fn drawn_bit(draw: &mut Draw, mode: &Mode, count: u64) -> String {
         }
         Some(chosen) => {
             let (name, row) = sent[chosen];
-            format!("{frame} {name} {} {}", draw.below(8), draw.index(row.frame_bits))
+            format!(
+                "{frame} {name} {} {}",
+                draw.below(8),
+                draw.index(row.frame_bits)
+            )
         }
     }
 }

@@ -315,7 +315,10 @@ impl Sheet {
         let width = self.tagged[px].as_ref()?.row.width();
         let (line, column) = (cell / width, cell % width);
         let (pair, row) = (line / 64, line % 64);
-        Some(format!(" {} {frame} {pair} {row} {column}", MATRICES[px + 1]))
+        Some(format!(
+            " {} {frame} {pair} {row} {column}",
+            MATRICES[px + 1]
+        ))
     }
 
     /// House matter: what is left, each in an L1 frame after the run's last, and the last line
@@ -327,9 +330,8 @@ impl Sheet {
             let What::InPx { px, number } = asked.what else {
                 unreachable!("every other line asks for something of an L1 frame of the run")
             };
-            let place = |(frame, tags): &(u64, Tags)| {
-                self.place(px, *frame, tags, asked.frame, number)
-            };
+            let place =
+                |(frame, tags): &(u64, Tags)| self.place(px, *frame, tags, asked.frame, number);
             let place = after
                 .iter()
                 .find_map(place)

@@ -16,8 +16,8 @@ use Rattle.runs.proofs.Answered.{not-success}
 use Rattle.text.specs.Lines.{lines}
 use Rattle.sheettext.specs.Texts.{valueIn, valued}
 use Rattle.sheettext.specs.Lists.{answers}
-use Rattle.sheets.specs.Inputs.{behind, carried, emptyLine, frameSize, listIn, named, older}
-use Rattle.sheets.specs.Run.{sent}
+use Rattle.sheetinputs.specs.Inputs.{behind, carried, emptyLine, frameSize, listIn, named, older}
+use Rattle.sheetinputs.specs.Run.{sent}
 use Rattle.sheets.specs.Sheet.{noCount, noFrame, noList, noLong, noLongList, noMode, noShort, noWithout, sheetFor, sheetOf, told}
 use Rattle.idealsheets.specs.Ideal.{Sent, idealSheet}
 use Rattle.idealsheets.proofs.Ideal.{whole-sheet}

@@ -18,14 +18,14 @@ use Rattle.sheetlines.specs.Entries.{entryOf, turnOf}
 use Rattle.sheetlines.specs.declared.questions.Question.{Question}
 use Rattle.sheettext.specs.Texts.{ending, head, valueIn, valueText, valued}
 use Rattle.sheettext.specs.Lists.{answered, answers, refusals}
-use Rattle.sheets.specs.Inputs.{behind, carried, emptyAt, emptyLine, frameSize, listIn}
-use Rattle.sheets.specs.Run.{lents, sent}
+use Rattle.sheetinputs.specs.Inputs.{behind, carried, emptyAt, emptyLine, frameSize, listIn}
+use Rattle.sheetinputs.specs.Run.{lents, sent}
 use Rattle.sheets.specs.Sheet.{sheetOf, told, unsent}
 use Rattle.idealsheets.specs.Ideal.{Sent, codedBit, framesAt, idealAnswers, idealSheet}
 use Rattle.idealsheets.proofs.Sequence.{Ok, bytes-drop, calls-length, lents-bytes, lents-length, meantOf, nth-frame, succeeded-all}
 use Rattle.sheets.proofs.Loop.{on-success}
 use Rattle.sheets.proofs.Same.{answers-same}
-use Rattle.sheets.proofs.Older.{older-covered}
+use Rattle.sheetinputs.proofs.Older.{older-covered}
 use Rattle.sheets.proofs.Texts.{by-frames, by-list}
 use Rattle.idealsheets.proofs.Values.{asked-value}
 

@@ -47,9 +47,9 @@ use Rattle.sheetlines.specs.declared.entries.Entry.{Entry}
 use Rattle.sheetlines.specs.declared.entries.Entry.the-variants.{Refused}
 use Rattle.sheetlines.proofs.Ranges.{by-channel}
 use Rattle.sheettext.specs.Texts.{valueIn}
-use Rattle.sheets.specs.Inputs.{older}
+use Rattle.sheetinputs.specs.Inputs.{older}
 use Rattle.idealsheets.specs.Ideal.{bitOf, codedBit}
-use Rattle.sheets.proofs.Older.{older-cases, older-main}
+use Rattle.sheetinputs.proofs.Older.{older-cases, older-main}
 
 p3-is : (mode : ℕ) → older mode ≡ true → kindOf mode P3 ≡ kindOfNumber mode 3
 unfolding kindOf kindOfNumber

@@ -23,8 +23,8 @@ use Rattle.sheetlines.specs.declared.entries.Entry.{Entry}
 use Rattle.sheetlines.specs.declared.entries.Entry.the-variants.{Stands, Fill, Refused}
 use Rattle.sheettext.specs.Texts.{ending, head, valued}
 use Rattle.sheettext.specs.Lists.{answered, answers, refusals}
-use Rattle.sheets.specs.Inputs.{behind, carried, emptyLine, frameSize, listIn, named, older}
-use Rattle.sheets.specs.Run.{sent}
+use Rattle.sheetinputs.specs.Inputs.{behind, carried, emptyLine, frameSize, listIn, named, older}
+use Rattle.sheetinputs.specs.Run.{sent}
 use Rattle.sheets.specs.Sheet.{unsent}
 
 -- the transfer frames of L1 frame t, in the bytes behind the list; no bytes for P3 or P4 mean zeros (S-5)

@@ -26,12 +26,12 @@ use Rattle.text.specs.Lines.{lines}
 use Rattle.sheettext.specs.Texts.{ending, valueIn, valued}
 use Rattle.sheettext.specs.Lists.{answered, answers, asking}
 use Rattle.text.proofs.Walk.{lines-length}
-use Rattle.sheets.specs.declared.turns.Turn.{Turn}
-use Rattle.sheets.specs.Inputs.{frameSize, older}
-use Rattle.sheets.specs.Run.{blank, lents, sent}
+use Rattle.sheetturns.specs.declared.turns.Turn.{Turn}
+use Rattle.sheetinputs.specs.Inputs.{frameSize, older}
+use Rattle.sheetinputs.specs.Run.{blank, lents, sent}
 use Rattle.sheets.specs.Sheet.{noFrame, told, unsent}
-use Rattle.sheets.specs.Turned.{Turned}
-use Rattle.sheets.proofs.Older.{older-covered}
+use Rattle.sheetturns.specs.Turned.{Turned}
+use Rattle.sheetinputs.proofs.Older.{older-covered}
 use Rattle.sheets.proofs.Totals.{total, total-le, total-on}
 
 -- a sending keeps the mode

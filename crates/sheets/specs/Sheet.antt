@@ -12,8 +12,8 @@ use Rattle.text.specs.Letters.{ascii}
 use Rattle.text.specs.Lines.{lines}
 use Rattle.sheettext.specs.Texts.{ending, head, last, valueIn, valued, word}
 use Rattle.sheettext.specs.Lists.{answered, answers, refusals}
-use Rattle.sheets.specs.Inputs.{behind, carried, emptyLine, frameSize, listIn, named, older}
-use Rattle.sheets.specs.Run.{sent}
+use Rattle.sheetinputs.specs.Inputs.{behind, carried, emptyLine, frameSize, listIn, named, older}
+use Rattle.sheetinputs.specs.Run.{sent}
 
 -- the mode has no sheets; a channel without data that the mode has not; more than 64 L1 frames
 unfoldable pub noMode : List ℕ

@@ -1,7 +1,7 @@
 // The L1 frames of an input sent one after the other, and their answers put.
-use crate::inputs::frame_size;
 use crate::refusals::put_no_frame;
-use crate::turns::take_turn;
+use sheetinputs::frame_size;
+use sheetturns::take_turn;
 ghost use mathlib.Core.Path.{_≡_};
 ghost use mathlib.Core.Bool.{true};
 ghost use mathlib.Core.List.{_++_};
@@ -14,8 +14,8 @@ ghost use Rattle.text.specs.Lines.{lines};
 ghost use Rattle.text.specs.Put.{Put};
 ghost use Rattle.sheettext.specs.Texts.{ending};
 ghost use Rattle.sheettext.specs.Lists.{answered, asking};
-ghost use Rattle.sheets.specs.Inputs.{frameSize, older};
-ghost use Rattle.sheets.specs.Run.{sent};
+ghost use Rattle.sheetinputs.specs.Inputs.{frameSize, older};
+ghost use Rattle.sheetinputs.specs.Run.{sent};
 ghost use Rattle.sheets.specs.Sheet.{told, unsent};
 
 // Puts the answers that say LATER, and the last line.

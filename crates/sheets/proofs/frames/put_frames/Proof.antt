@@ -6,7 +6,7 @@ use borrow.Author.Needs.{needs}
 use denote.Ref.{now}
 use lib.ListN.{length, take}
 use Rattle.calls.specs.Called.{memory}
-use Rattle.sheets.specs.Inputs.{frameSize}
+use Rattle.sheetinputs.specs.Inputs.{frameSize}
 use Rattle.sheets.proofs.Loop.{Going, frame-within, going-begins, going-ends, going-on, going-stops, part-positive, room-for, room-last}
 use Rattle.sheets.proofs.Texts.{put-first}
 use Rattle.sheets.proofs.frames.put_frames.Statement.{statement}
