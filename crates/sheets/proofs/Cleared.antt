@@ -11,7 +11,7 @@ use borrow.Author.Tests.{lt-ltb, le-ltb}
 use Rattle.runs.specs.declared.Answer.the-variants.{Success, WrongLength}
 use Rattle.sheets.specs.Sheet.{sheetOf}
 use Rattle.sheets.specs.Call.{sheetCall}
-use Rattle.sheets.specs.Turned.{Begins}
+use Rattle.sheets.specs.Begun.{Begins}
 
 pub begins : {out text : List ℕ} {n : ℕ} → (n ≤ length out) × (take n out ≡ text) → Begins out n text
 begins (h, e) = record { within = h; holds = e }

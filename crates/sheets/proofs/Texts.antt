@@ -12,8 +12,8 @@ use Rattle.text.specs.Lines.{lines}
 use Rattle.text.specs.Put.{Put}
 use Rattle.sheettext.specs.Texts.{head}
 use Rattle.sheettext.specs.Lists.{refusals}
-use Rattle.sheets.specs.Inputs.{behind, carried, emptyAt, emptyLine, frameSize, listIn, named, older}
-use Rattle.sheets.specs.Run.{sent}
+use Rattle.sheetinputs.specs.Inputs.{behind, carried, emptyAt, emptyLine, frameSize, listIn, named, older}
+use Rattle.sheetinputs.specs.Run.{sent}
 use Rattle.sheets.specs.Sheet.{noCount, noList, noLong, noLongList, noMode, noShort, noWithout, sheetFor, sheetOf, told}
 
 -- a text at the start of the buffer

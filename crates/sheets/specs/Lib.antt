@@ -1,6 +1,3 @@
-pub mod Inputs
-pub mod Run
 pub mod Sheet
 pub mod Call
-pub mod Ideal
-pub mod Turned
+pub mod Begun

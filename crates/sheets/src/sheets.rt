@@ -1,13 +1,13 @@
 // The answer sheet for an input.
 use crate::frames::put_run;
-use crate::inputs::are_named;
-use crate::inputs::empty_at;
-use crate::inputs::empty_line;
-use crate::inputs::frames_size;
-use crate::inputs::is_older;
 use crate::refusals::put_long;
 use crate::refusals::put_short;
 use runs::Answer;
+use sheetinputs::are_named;
+use sheetinputs::empty_at;
+use sheetinputs::empty_line;
+use sheetinputs::frames_size;
+use sheetinputs::is_older;
 use text::put;
 ghost use mathlib.Core.Path.{_≡_};
 ghost use mathlib.Core.Bool.{true};
@@ -15,10 +15,10 @@ ghost use mathlib.Core.List.{_++_};
 ghost use Prim.Native.Nat.{_+_, _-_, _≤_, _<_};
 ghost use lib.ListN.{length, replicate, take};
 ghost use Rattle.runs.specs.declared.Extended.the-variants.{P3, P4};
-ghost use Rattle.sheets.specs.Inputs.{carried, named, older};
+ghost use Rattle.sheetinputs.specs.Inputs.{carried, named, older};
 ghost use Rattle.sheets.specs.Sheet.{sheetFor, sheetOf};
 ghost use Rattle.sheets.specs.Call.{said, sheetCall};
-ghost use Rattle.sheets.specs.Turned.{Begins};
+ghost use Rattle.sheets.specs.Begun.{Begins};
 
 // Puts the sheet for a list and the bytes behind it, with n3 and n4 bytes of P3 and P4 in an L1 frame.
 fn put_sheet(

@@ -1,7 +1,7 @@
 -- `put_run` meets its contract: the memory that it lends holds zeros. Assumes nothing.
 use mathlib.Core.Path.{sym}
 use lib.Seq.{length-take-le}
-use Rattle.sheets.proofs.Older.{memory-clear, room-memory3, room-memory4}
+use Rattle.sheetinputs.proofs.Older.{memory-clear, room-memory3, room-memory4}
 use borrow.Author.Needs.{needs}
 use Rattle.sheets.proofs.frames.put_run.Statement.{statement}
 use Rattle.sheets.proofs.frames.put_run.Tie as tie

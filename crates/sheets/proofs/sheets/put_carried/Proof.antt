@@ -3,7 +3,7 @@ use mathlib.Core.Path.{ap₂, _∙_}
 use Prim.Native.Nat.{ℕ}
 use denote.Ref.{now}
 use Rattle.sheets.specs.Sheet.{sheetFor}
-use Rattle.sheets.proofs.Older.{carried-p3, carried-p4, carried-small}
+use Rattle.sheetinputs.proofs.Older.{carried-p3, carried-p4, carried-small}
 use borrow.Author.Needs.{needs}
 use Rattle.sheets.proofs.sheets.put_carried.Statement.{statement}
 use Rattle.sheets.proofs.sheets.put_carried.Tie as tie

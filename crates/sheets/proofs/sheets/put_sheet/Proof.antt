@@ -6,7 +6,7 @@ use native.Mathlib.Omega.{arith}
 use denote.Ref.{now}
 use Rattle.text.specs.Lines.{lines}
 use Rattle.text.proofs.Stored.{put-then}
-use Rattle.sheets.specs.Run.{sent}
+use Rattle.sheetinputs.specs.Run.{sent}
 use Rattle.sheets.specs.Sheet.{told}
 use Rattle.sheets.proofs.Texts.{by-frames, by-short, by-surplus, put-first}
 use borrow.Author.Needs.{needs}

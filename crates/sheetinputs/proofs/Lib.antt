@@ -1,0 +1,2 @@
+pub mod Older
+mod Empty
