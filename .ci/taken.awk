@@ -23,6 +23,13 @@ function row(    columns, names, n, i, text) {
         columns = "No.|L1 frame|Matrix|Row|Column|Channel|Transfer frame|Coded bit|Value"
         put("Matrix", "PM")
     }
+    if (title == "Coded bits") {
+        columns = "No.|L1 frame|Channel|Transfer frame|Coded bit|Matrix|Sent in L1 frame|Block pair|Row|Column|Value"
+        if (value["Block pair"] == "-") {
+            sub(/Block pair[|]/, "", columns)
+            cells--
+        }
+    }
     n = split(columns, names, "|")
     for (i = 1; i <= n; i++)
         text = text (i == 1 ? "" : " ") (!(names[i] in value) ? "?" : value[names[i]] == "" ? "_" : value[names[i]])

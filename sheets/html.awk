@@ -4,7 +4,7 @@
 function begin() {
     examiner = copy == "examiner"
     whose = examiner ? "Examiner’s copy" : "Candidate’s copy"
-    # Widths in millimetres of the 8 columns for PM and the 11 for PX, 180 together.
+    # Widths in millimetres of the 8 columns for PM and the 11 for PX and for coded bits, 180 together.
     widths[8] = "11 17 17 18 27 27 36 27"
     widths[11] = "11 13 15 13 12 16 21 20 20 24 15"
     print "<!DOCTYPE html>\n<html lang=\"en\">\n<head>\n<meta charset=\"utf-8\">"
@@ -67,6 +67,10 @@ function candidate_words() {
         print "<p>In " px_title " also write the L1 frame in which the bit was coded. Where only the zero fill of a fresh start can stand, write FILL"
         print "as the channel and a dash in the other boxes.</p>"
     }
+    if (bit_lines > 0) {
+        print "<p>Under Coded bits each line names a bit. Write the L1 frame in which it is sent and the cell into which it goes, and the bit’s value,"
+        print "or LATER where that L1 frame is none of this run. PM has no block pairs: write a dash.</p>"
+    }
 }
 
 function examiner_words() {
@@ -87,17 +91,18 @@ function cell(c, asked, text,    class) {
     return "<td" class ">" (text == "-" ? "–" : text) "</td>"
 }
 
-function table(title, heads, asked, rows, n,    head, cells, wide, columns, c, r, text) {
+function table(title, groups, heads, asked, rows, n,    group, head, cells, wide, columns, c, r, text) {
     if (n == 0)
         return
+    split(groups, group, "|")
     columns = split(heads, head, "|") + 1
     split(widths[columns], wide, " ")
     print "<h2>" title "</h2>\n<table>\n<colgroup>"
     for (c = 1; c <= columns; c++)
         print "<col style=\"width: " wide[c] "mm\">"
     print "</colgroup>\n<thead>"
-    print "<tr><th rowspan=\"2\">No.</th><th class=\"group\" colspan=\"" asked "\">Cell</th>"
-    print "<th class=\"group answer first\" colspan=\"" columns - 1 - asked "\">Whose bit stands in it</th></tr>\n<tr>"
+    print "<tr><th rowspan=\"2\">No.</th><th class=\"group\" colspan=\"" asked "\">" group[1] "</th>"
+    print "<th class=\"group answer first\" colspan=\"" columns - 1 - asked "\">" group[2] "</th></tr>\n<tr>"
     for (c = 1; c < columns; c++) {
         sub("/", "<br>", head[c])
         print "<th" (c > asked ? " class=\"answer" (c == asked + 1 ? " first" : "") "\"" : "") ">" head[c] "</th>"

@@ -22,7 +22,7 @@ function measure(cells, columns,    c) {
             width[c] = length(cells[c])
 }
 
-function table(title, heads, asked, rows, n,    head, upper, lower, cells, columns, c, r) {
+function table(title, groups, heads, asked, rows, n,    head, upper, lower, cells, columns, c, r) {
     if (n == 0)
         return
     columns = split("No.|" heads, head, "|")

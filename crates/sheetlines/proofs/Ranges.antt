@@ -26,7 +26,7 @@ use Rattle.queries.proofs.Placing.{found-inside}
 use Rattle.calls.proofs.Admitted.{valid-says}
 use Rattle.locating.specs.Locator.{located}
 use Rattle.locating.specs.declared.locator.Located.the-variants.{At}
-use Rattle.locating.specs.LocatorPX.{locatedPX, standing}
+use Rattle.locating.specs.LocatorPX.{locatedPX}
 use Rattle.locating.specs.declared.locator_px.LocatedPx.{LocatedPx}
 use Rattle.locating.specs.declared.locator_px.LocatedPx.the-variants.{At as AtPX}
 use Rattle.locating.specs.BothWays.{foundAgain}

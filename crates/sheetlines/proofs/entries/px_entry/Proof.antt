@@ -1,6 +1,4 @@
 -- `px_entry` meets its contract: the match is the definition's, and a cell in which a bit is found is one of the matrix. Assumes nothing.
-use mathlib.Core.Path.{_≡_, sym, ap, _∙_}
-use Prim.Native.Nat.{ℕ}
 use native.Mathlib.Omega.{arith}
 use Rattle.sheetlines.proofs.Ranges.{found-as, px-in-range}
 use borrow.Author.Needs.{needs}
@@ -20,7 +18,7 @@ sub-from : tie.Need-sub-from
 sub-from c = omega (arith, px-in-range _ _ _ _ _ _ _ _ (found-as _ _ _ _ _ _ (c .before .before .before .before .state-before .ensures) (c .before .before .before .find-px .ensures .0) (c .before .earlier .given .1)) .3)
 
 in-px-requires : tie.Need-in-px-requires
-in-px-requires c κs =     let h = px-in-range _ _ _ _ _ _ _ _ (found-as _ _ _ _ _ _ (c .before .before .before .before .state-before .ensures) (c .before .before .before .find-px .ensures .0) (c .before .earlier .given .1)) in
+in-px-requires c κs = let h = px-in-range _ _ _ _ _ _ _ _ (found-as _ _ _ _ _ _ (c .before .before .before .before .state-before .ensures) (c .before .before .before .find-px .ensures .0) (c .before .earlier .given .1)) in
     (h .0, h .1, h .2)
 
 enum-told : tie.Need-enum-told

@@ -1,6 +1,4 @@
 -- `px_placed` meets its contract: the match is the definition's, and a cell that is located is one of the matrix, at most two L1 frames later. Assumes nothing.
-use mathlib.Core.Path.{_≡_, sym, ap, _∙_}
-use Prim.Native.Nat.{ℕ}
 use native.Mathlib.Omega.{arith}
 use Rattle.sheetlines.proofs.Ranges.{located-as, px-placed-in-range}
 use borrow.Author.Needs.{needs}
@@ -20,7 +18,7 @@ add-sent : tie.Need-add-sent
 add-sent c = omega (arith, px-placed-in-range _ _ _ _ _ _ _ _ (located-as _ _ _ _ _ (c .before .before .before .before .state-before .ensures) (c .before .before .before .locate-px .ensures .0) (c .before .later .given .1)) .0)
 
 in-px-requires : tie.Need-in-px-requires
-in-px-requires c κs =     let h = px-placed-in-range _ _ _ _ _ _ _ _ (located-as _ _ _ _ _ (c .before .before .before .before .state-before .ensures) (c .before .before .before .locate-px .ensures .0) (c .before .later .given .1)) in
+in-px-requires c κs = let h = px-placed-in-range _ _ _ _ _ _ _ _ (located-as _ _ _ _ _ (c .before .before .before .before .state-before .ensures) (c .before .before .before .locate-px .ensures .0) (c .before .later .given .1)) in
     (h .1, h .2, h .3)
 
 enum-told : tie.Need-enum-told

@@ -27,7 +27,7 @@ px-question-requires : tie.Need-px-question-requires
 px-question-requires c κs = search needs
 
 returns : tie.Need-returns
-returns c =     c .px-question .ensures ∙ asks-px1 _ _ _ (sym (c .before .before .same .ensures) ∙ c .before .if1 .taken)
+returns c = c .px-question .ensures ∙ asks-px1 _ _ _ (sym (c .before .before .same .ensures) ∙ c .before .if1 .taken)
     ∙ words-cut _ (c .before .before .before .before .before .before .before .word .ensures) (c .before .before .before .before .before .before .rest .ensures) (c .before .before .before .before .before .word2 .ensures) (c .before .before .before .before .rest2 .ensures)
 
 slice-aggregate-same-2 : tie.Need-slice-aggregate-same-2
@@ -40,7 +40,7 @@ px-question-requires-2 : tie.Need-px-question-requires-2
 px-question-requires-2 c κs = search needs
 
 returns-2 : tie.Need-returns-2
-returns-2 c =     c .px-question2 .ensures ∙ asks-px2 _ _ _ (sym (c .before .before .before .before .before .same .ensures) ∙ c .before .before .before .before .if1 .left) (sym (c .before .before .same2 .ensures) ∙ c .before .if2 .taken)
+returns-2 c = c .px-question2 .ensures ∙ asks-px2 _ _ _ (sym (c .before .before .before .before .before .same .ensures) ∙ c .before .before .before .before .if1 .left) (sym (c .before .before .same2 .ensures) ∙ c .before .if2 .taken)
     ∙ words-cut _ (c .before .before .before .before .before .before .before .before .before .before .word .ensures) (c .before .before .before .before .before .before .before .before .before .rest .ensures) (c .before .before .before .before .before .before .before .before .word2 .ensures) (c .before .before .before .before .before .before .before .rest2 .ensures)
 
 name-number-requires : tie.Need-name-number-requires
@@ -50,7 +50,7 @@ two-question-requires : tie.Need-two-question-requires
 two-question-requires c κs = search needs
 
 returns-3 : tie.Need-returns-3
-returns-3 c =     c .two-question .ensures
+returns-3 c = c .two-question .ensures
     ∙ asks-two _ _ _ (sym (c .before .before .before .before .before .before .same .ensures) ∙ c .before .before .before .before .before .if1 .left) (sym (c .before .before .before .same2 .ensures) ∙ c .before .before .if2 .left) _ (c .before .name-number .ensures)
     ∙ words-cut _ (c .before .before .before .before .before .before .before .before .before .before .before .word .ensures) (c .before .before .before .before .before .before .before .before .before .before .rest .ensures) (c .before .before .before .before .before .before .before .before .before .word2 .ensures) (c .before .before .before .before .before .before .before .before .rest2 .ensures)
 

@@ -53,7 +53,7 @@ same-requires-5 c κs = search needs
 
 returns-5 : tie.Need-returns-5
 unfolding named
-returns-5 c = 
+returns-5 c =
     rw (
       sym (c .before .before .before .before .before .before .before .before .before .before .before .before .before .same .ensures) ∙ c .before .before .before .before .before .before .before .before .before .before .before .before .if1 .left,
       sym (c .before .before .before .before .before .before .before .before .before .before .same2 .ensures) ∙ c .before .before .before .before .before .before .before .before .before .if2 .left,
@@ -64,7 +64,7 @@ returns-5 c =
 
 returns-6 : tie.Need-returns-6
 unfolding named
-returns-6 c = 
+returns-6 c =
     rw (
       sym (c .before .before .before .before .before .before .before .before .before .before .before .before .before .same .ensures) ∙ c .before .before .before .before .before .before .before .before .before .before .before .before .if1 .left,
       sym (c .before .before .before .before .before .before .before .before .before .before .same2 .ensures) ∙ c .before .before .before .before .before .before .before .before .before .if2 .left,

@@ -67,7 +67,7 @@ same-length c = search needs
 
 returns : tie.Need-returns
 unfolding asked
-returns c = 
+returns c =
     put-text (sym (rw (c .before .before .before .before .before .before .before .before .before .before .before .before .before .before .before .before .before .before .question .given .1)))
     (put-most (omega arith) (put-then (c .before .before .before .before .before .before .before .before .before .before .before .before .before .before .before .field .ensures) (put-then (c .before .before .before .before .before .before .before .before .before .before .put .ensures) (put-then (c .before .before .before .before .before .before .field2 .ensures) (c .before .before .field3 .ensures)))))
 
@@ -76,7 +76,7 @@ same-length-2 c = search needs
 
 returns-2 : tie.Need-returns-2
 unfolding asked
-returns-2 c = 
+returns-2 c =
     put-text (sym (rw (c .before .before .before .before .before .before .before .before .before .before .before .before .before .before .before .before .before .before .before .before .before .question2 .given .1)))
     (put-most (omega arith) (put-then (c .before .before .before .before .before .before .before .before .before .before .before .before .before .before .before .before .before .before .field4 .ensures) (put-then (c .before .before .before .before .before .before .before .before .before .before .before .before .before .before .put-matrix .ensures) (put-then (c .before .before .before .before .before .before .before .before .before .before .field5 .ensures) (put-then (c .before .before .before .before .before .before .field6 .ensures) (c .before .before .field7 .ensures))))))
 
@@ -85,7 +85,7 @@ same-length-3 c = search needs
 
 returns-3 : tie.Need-returns-3
 unfolding asked
-returns-3 c = 
+returns-3 c =
     put-text (sym (rw (c .before .before .before .before .before .before .before .before .before .before .before .before .before .before .before .before .before .question3 .given .1)))
     (put-most (omega arith) (put-then (c .before .before .before .before .before .before .before .before .before .before .before .before .before .before .field8 .ensures) (put-then (c .before .before .before .before .before .before .before .before .before .before .put-channel .ensures) (put-then (c .before .before .before .before .before .before .field9 .ensures) (c .before .before .field10 .ensures)))))
 

@@ -19,7 +19,7 @@ turn-of-requires : tie.Need-turn-of-requires
 turn-of-requires c κs = search needs
 
 returns : tie.Need-returns
-returns c =     not-asked _ (c .before .before .before .before .before .before .before .before .before .args .mode) (c .before .before .before .before .before .before .before .before .before .args .count) (c .before .before .before .before .before .before .before .before .before .args .t) (now (c .before .before .before .before .before .before .before .before .before .args .line)) _ (c .before .before .before .asked .ensures) _ (c .before .before .entry-for .ensures) _ (c .before .turn-of .ensures) _ _ (c .if1 .taken)
+returns c = not-asked _ (c .before .before .before .before .before .before .before .before .before .args .mode) (c .before .before .before .before .before .before .before .before .before .args .count) (c .before .before .before .before .before .before .before .before .before .args .t) (now (c .before .before .before .before .before .before .before .before .before .args .line)) _ (c .before .before .before .asked .ensures) _ (c .before .before .entry-for .ensures) _ (c .before .turn-of .ensures) _ _ (c .if1 .taken)
 
 value-of-requires : tie.Need-value-of-requires
 value-of-requires c κs = search needs
@@ -34,7 +34,7 @@ same-length : tie.Need-same-length
 same-length c = search needs
 
 returns-2 : tie.Need-returns-2
-returns-2 c =     is-asked _ (c .before .before .before .before .before .before .before .before .before .before .before .before .before .before .before .before .before .before .args .mode) (c .before .before .before .before .before .before .before .before .before .before .before .before .before .before .before .before .before .before .args .count) (c .before .before .before .before .before .before .before .before .before .before .before .before .before .before .before .before .before .before .args .t) (now (c .before .before .before .before .before .before .before .before .before .before .before .before .before .before .before .before .before .before .args .line)) _ (c .before .before .before .before .before .before .before .before .before .before .before .before .asked .ensures) _ (c .before .before .before .before .before .before .before .before .before .before .before .entry-for .ensures) _ (c .before .before .before .before .before .before .before .before .before .before .turn-of .ensures) _ _ (c .before .before .before .before .before .before .before .before .before .if1 .left) _ _ 197 (omega arith)
+returns-2 c = is-asked _ (c .before .before .before .before .before .before .before .before .before .before .before .before .before .before .before .before .before .before .args .mode) (c .before .before .before .before .before .before .before .before .before .before .before .before .before .before .before .before .before .before .args .count) (c .before .before .before .before .before .before .before .before .before .before .before .before .before .before .before .before .before .before .args .t) (now (c .before .before .before .before .before .before .before .before .before .before .before .before .before .before .before .before .before .before .args .line)) _ (c .before .before .before .before .before .before .before .before .before .before .before .before .asked .ensures) _ (c .before .before .before .before .before .before .before .before .before .before .before .entry-for .ensures) _ (c .before .before .before .before .before .before .before .before .before .before .turn-of .ensures) _ _ (c .before .before .before .before .before .before .before .before .before .if1 .left) _ _ 197 (omega arith)
     (put-then (c .before .before .before .before .before .before .put-names .ensures) (put-text (value-known (c .before .before .before .before .before .before .before .before .before .before .before .before .before .before .before .before .before .before .args .count) (c .before .before .before .before .before .before .before .before .before .before .before .entry-for .result) (valueIn (matrices (now (c .before .before .before .before .before .before .before .before .before .before .before .before .before .before .before .before .before .before .args .pm)) (now (c .before .before .before .before .before .before .before .before .before .before .before .before .before .before .before .before .before .before .args .px1)) (now (c .before .before .before .before .before .before .before .before .before .before .before .before .before .before .before .before .before .before .args .px2)))) (c .before .before .before .before .before .before .before .before .value-of .ensures)) (c .before .before .put-value .ensures)))
 
 pub put-answer-spec : {M : Type 1} → statement M

@@ -23,7 +23,7 @@ same-length : tie.Need-same-length
 same-length c = search needs
 
 returns : tie.Need-returns
-returns c =     owner-refused (c .before .before .before .before .before .before .before .before .before .before .args .mode) (c .before .before .before .before .before .before .before .before .before .before .args .number) (now (c .before .before .before .before .before .before .before .before .before .before .args .line)) _ (c .before .before .before .before .before .before .before .asked .ensures) _ (c .before .before .before .before .before .before .entry-for .ensures) _ (c .before .before .before .before .before .is-refused .ensures) _ _ _ _ (c .before .before .before .before .if1 .taken) (c .before .before .refuse .ensures)
+returns c = owner-refused (c .before .before .before .before .before .before .before .before .before .before .args .mode) (c .before .before .before .before .before .before .before .before .before .before .args .number) (now (c .before .before .before .before .before .before .before .before .before .before .args .line)) _ (c .before .before .before .before .before .before .before .asked .ensures) _ (c .before .before .before .before .before .before .entry-for .ensures) _ (c .before .before .before .before .before .is-refused .ensures) _ _ _ _ (c .before .before .before .before .if1 .taken) (c .before .before .refuse .ensures)
 
 put-names-requires : tie.Need-put-names-requires
 put-names-requires c κs = search needs
@@ -38,7 +38,7 @@ same-length-2 : tie.Need-same-length-2
 same-length-2 c = search needs
 
 returns-2 : tie.Need-returns-2
-returns-2 c =     owner-said (c .before .before .before .before .before .before .before .before .before .before .before .before .before .before .before .args .mode) (c .before .before .before .before .before .before .before .before .before .before .before .before .before .before .before .args .number) (now (c .before .before .before .before .before .before .before .before .before .before .before .before .before .before .before .args .line)) _ (c .before .before .before .before .before .before .before .before .before .before .before .before .asked .ensures) _ (c .before .before .before .before .before .before .before .before .before .before .before .entry-for .ensures) _ (c .before .before .before .before .before .before .before .before .before .before .is-refused .ensures) _ _ _ _ (c .before .before .before .before .before .before .before .before .before .if1 .left) 176 (omega arith)
+returns-2 c = owner-said (c .before .before .before .before .before .before .before .before .before .before .before .before .before .before .before .args .mode) (c .before .before .before .before .before .before .before .before .before .before .before .before .before .before .before .args .number) (now (c .before .before .before .before .before .before .before .before .before .before .before .before .before .before .before .args .line)) _ (c .before .before .before .before .before .before .before .before .before .before .before .before .asked .ensures) _ (c .before .before .before .before .before .before .before .before .before .before .before .entry-for .ensures) _ (c .before .before .before .before .before .before .before .before .before .before .is-refused .ensures) _ _ _ _ (c .before .before .before .before .before .before .before .before .before .if1 .left) 176 (omega arith)
     (put-then (c .before .before .before .before .before .before .before .put-names .ensures) (c .before .before .put .ensures))
 
 pub put-owner-line-spec : {M : Type 1} → statement M

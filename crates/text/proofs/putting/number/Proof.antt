@@ -18,7 +18,7 @@ slice-aggregate-put : tie.Need-slice-aggregate-put
 slice-aggregate-put c = search needs
 
 put-requires : tie.Need-put-requires
-put-requires c κs =     let d = c .before .before .decimal .ensures in
+put-requires c κs = let d = c .before .before .decimal .ensures in
     let k : c .before .before .decimal .result ≤ 20 = at-most-twenty _ _ (search needs) (d .1 .0) in
     omega (arith, d .0)
 
@@ -26,7 +26,7 @@ same-length : tie.Need-same-length
 same-length c = search needs
 
 returns : tie.Need-returns
-returns c =     let d = c .before .before .before .before .before .decimal .ensures in
+returns c = let d = c .before .before .before .before .before .decimal .ensures in
     let k : c .before .before .before .before .before .decimal .result ≤ 20 = at-most-twenty _ _ (search needs) (d .1 .0) in
     put-most (omega (arith, d .0)) (put-text (d .1 .1 ∙ fewest-decimal _ _ (d .1 .0)) (c .before .before .put .ensures))
 

@@ -18,9 +18,9 @@ use Rattle.runs.specs.Runs.{Call, Every, calls, noFrames, succeeded}
 use Rattle.runs.specs.Sending.{sendStep}
 use Rattle.layout.specs.Inputs.{framesIn}
 use Rattle.layout.specs.Layout.{cut}
 use Rattle.sheets.specs.Inputs.{frameSize}
 use Rattle.sheets.specs.Run.{lents}
-use Rattle.sheets.specs.Ideal.{framesAt}
+use Rattle.idealsheets.specs.Ideal.{framesAt}
 
 -- ---- bytes
 

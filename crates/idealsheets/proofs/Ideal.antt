@@ -1,6 +1,6 @@
 -- A sheet of an input whose L1 frames are all sent is the one that SY_IDD_1011s lays down for its transfer frames. Assumes nothing.
-use mathlib.Core.Path.{_≡_, refl, sym, ap, ap₂, subst, _∙_}
-use mathlib.Core.Bool.{Bool, true, false, cond}
+use mathlib.Core.Path.{_≡_, refl, sym, ap, subst, _∙_}
+use mathlib.Core.Bool.{Bool, true}
 use mathlib.Core.List.{List, [], _∷_, _++_, map, append-assoc}
 use Prim.Native.Nat.{ℕ, suc, _+_, _*_, _<_}
 use native.Mathlib.Omega.{arith}
@@ -14,54 +14,34 @@ use Rattle.runs.specs.Starting.{zeros}
 use Rattle.runs.proofs.Lists.{length-map}
 use Rattle.runs.proofs.Readable.{start-clear}
 use Rattle.text.specs.Lines.{lines}
-use Rattle.sheetlines.specs.Entries.{asksOf, entryOf}
-use Rattle.sheetlines.specs.Questions.{questionOf}
+use Rattle.sheetlines.specs.Entries.{entryOf, turnOf}
 use Rattle.sheetlines.specs.declared.questions.Question.{Question}
-use Rattle.sheetlines.specs.declared.entries.Entry.{Entry}
-use Rattle.sheettext.specs.Texts.{answer, ending, entryText, head, valueIn}
+use Rattle.sheettext.specs.Texts.{ending, head, valueIn, valueText, valued}
 use Rattle.sheettext.specs.Lists.{answered, answers, refusals}
 use Rattle.sheets.specs.Inputs.{behind, carried, emptyAt, emptyLine, frameSize, listIn}
 use Rattle.sheets.specs.Run.{lents, sent}
-use Rattle.sheets.specs.Sheet.{sheetOf, told}
-use Rattle.sheets.specs.Ideal.{Sent, codedBit, framesAt, idealAnswers, idealSheet}
-use Rattle.sheets.proofs.Sequence.{Ok, bytes-drop, calls-length, lents-bytes, lents-length, meantOf, nth-frame, succeeded-all}
+use Rattle.sheets.specs.Sheet.{sheetOf, told, unsent}
+use Rattle.idealsheets.specs.Ideal.{Sent, codedBit, framesAt, idealAnswers, idealSheet}
+use Rattle.idealsheets.proofs.Sequence.{Ok, bytes-drop, calls-length, lents-bytes, lents-length, meantOf, nth-frame, succeeded-all}
 use Rattle.sheets.proofs.Loop.{on-success}
+use Rattle.sheets.proofs.Same.{answers-same}
 use Rattle.sheets.proofs.Older.{older-covered}
 use Rattle.sheets.proofs.Texts.{by-frames, by-list}
-use Rattle.sheets.proofs.Values.{asked-value}
-
--- ---- texts with the same values
-
-answer-same : (v w : Entry → ℕ) (mode count t : ℕ) (q : Question) → (asksOf t q ≡ true → v (entryOf mode count q) ≡ w (entryOf mode count q))
-    → answer v mode count t q ≡ answer w mode count t q
-unfolding answer
-answer-same v w mode count t q h = go (asksOf t q) h
-  where
-    go : (b : Bool) → (b ≡ true → v (entryOf mode count q) ≡ w (entryOf mode count q))
-        → cond b (entryText q (entryOf mode count q) (v (entryOf mode count q))) [] ≡ cond b (entryText q (entryOf mode count q) (w (entryOf mode count q))) []
-    go true e = ap (entryText q (entryOf mode count q)) (e refl)
-    go false e = refl
-
-answers-same : (v w : Entry → ℕ) (mode count t : ℕ) → ((q : Question) → asksOf t q ≡ true → v (entryOf mode count q) ≡ w (entryOf mode count q))
-    → (ls : List (List ℕ)) → answers v mode count t ls ≡ answers w mode count t ls
-unfolding answers
-answers-same v w mode count t h [] = refl
-answers-same v w mode count t h (line ∷ ls) =
-    ap₂ (λ (a b : List ℕ). a ++ b) (answer-same v w mode count t (questionOf line) (h (questionOf line))) (answers-same v w mode count t h ls)
+use Rattle.idealsheets.proofs.Values.{asked-value}
 
 abbrev signalOf : Call → Signal
 signalOf c = c .result .lent .signal
 
 module _ (mode count : ℕ) (ls : List (List ℕ)) (F : ℕ → Frames) where
   told-ideal : (cs : List Call) (t : ℕ) (text : List ℕ) → Every Ok cs
-      → ((i u : ℕ) → i < length cs → u ≡ t + i → answers (valueIn (getD (map signalOf cs) i noSignal .matrices)) mode count u ls ≡ answers (codedBit mode F u) mode count u ls)
-      → told mode count ls t text cs ≡ text ++ (idealAnswers mode count ls F (length cs) t ++ ending (answered mode count ls))
+      → ((i u : ℕ) → i < length cs → u ≡ t + i → answers (valued count (valueIn (getD (map signalOf cs) i noSignal .matrices))) mode count u ls ≡ answers (valued count (codedBit mode F)) mode count u ls)
+      → told mode count ls t text cs ≡ text ++ (idealAnswers mode count ls F (length cs) t ++ (unsent mode count ls ++ ending (answered mode count ls)))
   unfolding told idealAnswers
   told-ideal [] t text e h = refl
   told-ideal (c ∷ cs) t text e h =
-      let A : List ℕ = answers (codedBit mode F t) mode count t ls in
+      let A : List ℕ = answers (valued count (codedBit mode F)) mode count t ls in
       let R : List ℕ = idealAnswers mode count ls F (length cs) (suc t) in
-      let E : List ℕ = ending (answered mode count ls) in
+      let E : List ℕ = unsent mode count ls ++ ending (answered mode count ls) in
       on-success (c .result .answer) _ _ (e .0)
       ∙ ap (λ (x : List ℕ). told mode count ls (suc t) (text ++ x) cs) (h 0 t (omega arith) (omega arith))
       ∙ told-ideal cs (suc t) (text ++ A) (e .1) (λ i u l q. h (suc i) u (omega arith) (omega arith))
@@ -112,11 +92,12 @@ module _ (mode n : ℕ) (without3 without4 : Bool) (input : List ℕ) (small : B
   unfolding matricesAt signalsSent
   matrices-are t = ap (λ (cs : List Call). getD (map signalOf cs) t noSignal .matrices) all-sent
 
-  value-is : (t : ℕ) → t < n → (q : Question) → asksOf t q ≡ true
-      → valueIn (getD (map signalOf (sent mode n n3 n4 B)) t noSignal .matrices) (entryOf mode n q) ≡ codedBit mode (framesAt mode n3 n4 B) t (entryOf mode n q)
+  value-is : (t : ℕ) → t < n → (q : Question) → turnOf n (entryOf mode n q) ≡ t
+      → valued n (valueIn (getD (map signalOf (sent mode n n3 n4 B)) t noSignal .matrices)) (entryOf mode n q) ≡ valued n (codedBit mode (framesAt mode n3 n4 B)) (entryOf mode n q)
   value-is t h q e =
-      ap (λ (x : Matrices). valueIn x (entryOf mode n q)) (sym (matrices-are t))
-      ∙ asked-value mode (w .mode-older) run t (subst (λ (k : ℕ). t < k) (sym run-length) h) (framesAt mode n3 n4 B) (λ u l. frame-is u (omega arith)) n q e
+      ap (valueText n (entryOf mode n q))
+      (ap (λ (x : Matrices). valueIn x (entryOf mode n q)) (sym (matrices-are t))
+      ∙ asked-value mode (w .mode-older) run t (subst (λ (k : ℕ). t < k) (sym run-length) h) (framesAt mode n3 n4 B) (λ u l. frame-is u (omega arith)) n h q e)
 
   pub whole-sheet : sheetOf mode n without3 without4 input ≡ idealSheet mode n without3 without4 input
   unfolding idealSheet
@@ -126,7 +107,7 @@ module _ (mode n : ℕ) (without3 without4 : Bool) (input : List ℕ) (small : B
       ∙ told-ideal mode n L (framesAt mode n3 n4 B) (sent mode n n3 n4 B) 0 (head mode n without3 without4 ++ refusals mode n 1 L) (w .each)
       (λ i u l q.
       let same : i ≡ u = omega arith in
-      subst (λ (k : ℕ). answers (valueIn (getD (map signalOf (sent mode n n3 n4 B)) i noSignal .matrices)) mode n k L ≡ answers (codedBit mode (framesAt mode n3 n4 B) k) mode n k L) same
+      subst (λ (k : ℕ). answers (valued n (valueIn (getD (map signalOf (sent mode n n3 n4 B)) i noSignal .matrices))) mode n k L ≡ answers (valued n (codedBit mode (framesAt mode n3 n4 B))) mode n k L) same
       (answers-same _ _ mode n i (value-is i (omega (arith, sent-length))) L))
-      ∙ ap (λ (k : ℕ). (head mode n without3 without4 ++ refusals mode n 1 L) ++ (idealAnswers mode n L (framesAt mode n3 n4 B) k 0 ++ ending (answered mode n L))) sent-length
+      ∙ ap (λ (k : ℕ). (head mode n without3 without4 ++ refusals mode n 1 L) ++ (idealAnswers mode n L (framesAt mode n3 n4 B) k 0 ++ (unsent mode n L ++ ending (answered mode n L)))) sent-length
       ∙ append-assoc (head mode n without3 without4) (refusals mode n 1 L) _

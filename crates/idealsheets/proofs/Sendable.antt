@@ -32,12 +32,12 @@ use Rattle.runs.proofs.Succeeds.{send-succeeds}
 use Rattle.layout.specs.Inputs.{framesIn, handed}
 use Rattle.layout.specs.Layout.{cut}
 use Rattle.arguments.specs.Arguments.{carriedOf}
 use Rattle.sheets.specs.Inputs.{behind, carried, emptyAt, emptyLine, frameSize, named, older}
 use Rattle.sheets.specs.Run.{blank, lents, sent}
-use Rattle.sheets.specs.Ideal.{Sent}
-use Rattle.sheets.proofs.Sequence.{bytes-drop, bytes-take, frames-bytes}
+use Rattle.idealsheets.specs.Ideal.{Sent}
+use Rattle.idealsheets.proofs.Sequence.{bytes-drop, bytes-take, frames-bytes}
 use Rattle.sheets.proofs.Older.{older-covered}
 use Rattle.sheets.proofs.Turning.{cut-length}
 
 abbrev OkCall : Call → Type 0
 OkCall c = numberOf (c .result .answer) ≡ 0

@@ -18,12 +18,14 @@ use Rattle.runs.specs.Runs.{Call, Every}
 use Rattle.queries.specs.FinderPX.{frameCoded}
 use Rattle.layout.specs.Inputs.{framesIn}
 use Rattle.text.specs.Lines.{lines}
+use Rattle.sheetlines.specs.declared.entries.CodedBit.{CodedBit}
 use Rattle.sheetlines.specs.declared.entries.Entry.{Entry}
-use Rattle.sheetlines.specs.declared.entries.Entry.the-variants as entry
-use Rattle.sheettext.specs.Texts.{ending, head}
+use Rattle.sheetlines.specs.declared.entries.Entry.the-variants.{Stands, Fill, Refused}
+use Rattle.sheettext.specs.Texts.{ending, head, valued}
 use Rattle.sheettext.specs.Lists.{answered, answers, refusals}
 use Rattle.sheets.specs.Inputs.{behind, carried, emptyLine, frameSize, listIn, named, older}
 use Rattle.sheets.specs.Run.{sent}
+use Rattle.sheets.specs.Sheet.{unsent}
 
 -- the transfer frames of L1 frame t, in the bytes behind the list; no bytes for P3 or P4 mean zeros (S-5)
 unfoldable pub framesAt : (mode n3 n4 : ℕ) (bytes : List ℕ) → ℕ → Frames
@@ -32,26 +34,30 @@ framesAt mode n3 n4 bytes t = filled mode (framesIn mode n3 n4 (take (frameSize 
 abbrev pub extendedOf : (channel : ℕ) → Extended
 extendedOf channel = cond (eqb channel 3) P3 P4
 
--- the coded bit that an answer of L1 frame t names, where F 0, F 1, .. are the transfer frames of the L1 frames
-unfoldable pub codedBit : (mode : ℕ) (F : ℕ → Frames) (t : ℕ) → Entry → ℕ
-codedBit mode F t (entry.P1 bit at) = channel TwoFifths 146176 (bitAt (F t .p1)) bit
-codedBit mode F t (entry.Pids frame bit at) = channel TwoFifths 80 (bitAt (F t .pids)) (frame * 200 + bit)
-codedBit mode F t (entry.Extended channel from frame bit at) =
-    let e = extendedOf channel in
-    codedOf (kindOf mode e) (frameOf (F from) e) (frame * frameCoded (kindOf mode e) + bit)
-codedBit mode F t entry.Fill = 0
-codedBit mode F t entry.Refused = 0
+-- its value, where F 0, F 1, .. are the transfer frames of the L1 frames: 1 is P1, 2 PIDS, 3 P3, 4 P4
+unfoldable pub bitOf : (mode : ℕ) (F : ℕ → Frames) → CodedBit → ℕ
+bitOf mode F coded =
+    let e = extendedOf (coded .channel) in
+    cond (eqb (coded .channel) 1) (channel TwoFifths 146176 (bitAt (F (coded .from) .p1)) (coded .bit))
+    (cond (eqb (coded .channel) 2) (channel TwoFifths 80 (bitAt (F (coded .from) .pids)) (coded .frame * 200 + coded .bit))
+    (codedOf (kindOf mode e) (frameOf (F (coded .from)) e) (coded .frame * frameCoded (kindOf mode e) + coded .bit)))
+
+-- the value of an answer: of the coded bit that it names, or that its line asks for
+unfoldable pub codedBit : (mode : ℕ) (F : ℕ → Frames) → Entry → ℕ
+codedBit mode F (Stands coded cell) = bitOf mode F coded
+codedBit mode F (Fill sent) = 0
+codedBit mode F Refused = 0
 
 -- the answers of n L1 frames from number t on
 unfoldable pub idealAnswers : (mode count : ℕ) (list : List (List ℕ)) (F : ℕ → Frames) (n t : ℕ) → List ℕ
 idealAnswers mode count list F zero t = []
-idealAnswers mode count list F (suc n) t = answers (codedBit mode F t) mode count t list ++ idealAnswers mode count list F n (suc t)
+idealAnswers mode count list F (suc n) t = answers (valued count (codedBit mode F)) mode count t list ++ idealAnswers mode count list F n (suc t)
 
 unfoldable pub idealSheet : (mode count : ℕ) (without3 without4 : Bool) (input : List ℕ) → List ℕ
 idealSheet mode count without3 without4 input =
     let list = lines (listIn input) in
     let F = framesAt mode (carried mode P3 without3) (carried mode P4 without4) (behind input) in
-    head mode count without3 without4 ++ (refusals mode count 1 list ++ (idealAnswers mode count list F count 0 ++ ending (answered mode count list)))
+    head mode count without3 without4 ++ (refusals mode count 1 list ++ (idealAnswers mode count list F count 0 ++ (unsent mode count list ++ ending (answered mode count list))))
 
 -- an input whose L1 frames are all sent
 pub record Sent (mode count : ℕ) (without3 without4 : Bool) (input : List ℕ) : Type 0 where

@@ -14,15 +14,15 @@ use Rattle.runs.specs.Answers.{numberOf}
 use Rattle.runs.specs.Runs.{Call, Every}
 use Rattle.runs.proofs.Answered.{not-success}
 use Rattle.text.specs.Lines.{lines}
-use Rattle.sheettext.specs.Texts.{valueIn}
+use Rattle.sheettext.specs.Texts.{valueIn, valued}
 use Rattle.sheettext.specs.Lists.{answers}
 use Rattle.sheets.specs.Inputs.{behind, carried, emptyLine, frameSize, listIn, named, older}
 use Rattle.sheets.specs.Run.{sent}
 use Rattle.sheets.specs.Sheet.{noCount, noFrame, noList, noLong, noLongList, noMode, noShort, noWithout, sheetFor, sheetOf, told}
-use Rattle.sheets.specs.Ideal.{Sent, idealSheet}
-use Rattle.sheets.proofs.Ideal.{whole-sheet}
+use Rattle.idealsheets.specs.Ideal.{Sent, idealSheet}
+use Rattle.idealsheets.proofs.Ideal.{whole-sheet}
 use Rattle.sheets.proofs.Loop.{on-success}
 use Rattle.sheets.proofs.Texts.{by-count, by-frames, by-list, by-long, by-mode, by-open, by-short, by-surplus, by-without}
 
 -- the first byte of a text
 abbrev first : List ℕ → ℕ
@@ -66,7 +66,7 @@ surplus-none want = refl
 
 module _ (mode count : ℕ) (ls : List (List ℕ)) where
   told-on : (t : ℕ) (text : List ℕ) (c : Call) (cs : List Call) → numberOf (c .result .answer) ≡ 0
-      → told mode count ls t text (c ∷ cs) ≡ told mode count ls (suc t) (text ++ answers (valueIn (c .result .lent .signal .matrices)) mode count t ls) cs
+      → told mode count ls t text (c ∷ cs) ≡ told mode count ls (suc t) (text ++ answers (valued count (valueIn (c .result .lent .signal .matrices))) mode count t ls) cs
   unfolding told
   told-on t text c cs e = on-success (c .result .answer) _ _ e
 
@@ -77,10 +77,10 @@ module _ (mode count : ℕ) (ls : List (List ℕ)) where
   all-sent : (cs : List Call) (t : ℕ) (text : List ℕ) → first (told mode count ls t text cs) ≡ 77 → Every (λ (c : Call). numberOf (c .result .answer) ≡ 0) cs
   all-sent [] t text e = tt
   all-sent (c ∷ cs) t text e =
-      go (eqb (numberOf (c .result .answer)) 0) refl (all-sent cs (suc t) (text ++ answers (valueIn (c .result .lent .signal .matrices)) mode count t ls))
+      go (eqb (numberOf (c .result .answer)) 0) refl (all-sent cs (suc t) (text ++ answers (valued count (valueIn (c .result .lent .signal .matrices))) mode count t ls))
     where
       go : (b : Bool) → eqb (numberOf (c .result .answer)) 0 ≡ b
-          → (first (told mode count ls (suc t) (text ++ answers (valueIn (c .result .lent .signal .matrices)) mode count t ls) cs) ≡ 77 → Every (λ (c : Call). numberOf (c .result .answer) ≡ 0) cs)
+          → (first (told mode count ls (suc t) (text ++ answers (valued count (valueIn (c .result .lent .signal .matrices))) mode count t ls) cs) ≡ 77 → Every (λ (c : Call). numberOf (c .result .answer) ≡ 0) cs)
           → Every (λ (c : Call). numberOf (c .result .answer) ≡ 0) (c ∷ cs)
       go true q later = let z = eqb-true _ _ q in (z, later (ap first (sym (told-on t text c cs z)) ∙ e))
       go false q later = absurd (not-begun _ _ (told-stops t text c cs (eqb-false _ _ q)) (frame-none t (c .result .answer)) e)
