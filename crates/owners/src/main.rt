@@ -28,7 +28,19 @@ fn room() -> [u8; 819200]
     [0; 819200]
 }
 
-// Reads a block of the input, and writes what is printed for the lines that end in it.
+// Writes a text, and says where that failed.
+fn write(text: &[u8]) -> bool {
+    if io::write_all(STDOUT_FILENO, text) {
+        return true;
+    }
+    io::write_all(
+        STDERR_FILENO,
+        b"not written: standard output takes no more\n",
+    );
+    false
+}
+
+// Reads a block of the input, and writes what is printed for the lines that end in it. Where it cannot be written, nothing more is answered.
 fn answer_block(mode: u8, at: Progress, line: &mut [u8], out: &mut [u8]) -> Turn
     requires { ⌜ (at .held ≤ 4096) × (length (now line) ≡ 4096) × (length (now out) ≡ 819200) × (at .number + 4096 < 2 ^ 64) ⌝ }
     ensures { λ r. ⌜ (r .at .held ≤ 4096) × (length (now (line .exit)) ≡ 4096) × (length (now (out .exit)) ≡ 819200) × (r .at .number ≤ at .number + 4096) ⌝ }
@@ -41,16 +53,15 @@ fn answer_block(mode: u8, at: Progress, line: &mut [u8], out: &mut [u8]) -> Turn
     let n = io::count(got, &block);
     let next = ownerlines::answer(mode, at, &block[..n], line, out);
     let end = next.end;
-    let written = io::write_all(STDOUT_FILENO, &out[..end]);
-    if n == 0 {
+    if !write(&out[..end]) {
         return Turn {
-            at: next,
+            at: ownerlines::start(),
             more: false,
         };
     }
     Turn {
         at: next,
-        more: written,
+        more: n != 0,
     }
 }
 
@@ -80,12 +91,7 @@ fn run(mode: u8) {
     let mut out = room();
     let last = answer_all(mode, ownerlines::start(), &mut line, &mut out);
     let end = ownerlines::finish(mode, last, &line, &mut out);
-    if !io::write_all(STDOUT_FILENO, &out[..end]) {
-        io::write_all(
-            STDERR_FILENO,
-            b"not written: standard output takes no more\n",
-        );
-    }
+    write(&out[..end]);
 }
 
 // Says how the program is started.
