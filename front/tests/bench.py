@@ -63,9 +63,7 @@ class Bench:
         self.environment = {**os.environ, "PATH": f"{ROOT}:{os.environ.get('PATH', '')}", "LAYER1_PROGRAMS": str(self.programs), "COLUMNS": "100"}
 
     def place_programs(self) -> None:
-        """Stand-ins for programs that are not built, or print an older format."""
-        if not os.access(BUILT / "owners", os.X_OK):
-            standins.put(self.programs, "owners", "owners")
+        """Stand-ins for programs that print an older format, and for programs that fail."""
         if not made("sheet", "1", "0", given=b"\n").startswith(b"MP1"):
             standins.put(self.programs, "sheet", "sheet")
         for name in ("failing", "complaining"):

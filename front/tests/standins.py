@@ -1,117 +1,13 @@
-"""Stand-ins for programs that a revision does not have yet, for the tests alone: owners, by the program cells and by the equations of 10.2.6; sheet, with head
-and end around what an older program sheet prints; programs that fail. Where target/bin has the program itself, it is used."""
+"""Stand-ins for programs, for the tests alone: sheet, with head and end around what an older program sheet prints, where target/bin has such a one; programs
+that fail."""
 
 import os
 import subprocess
 import sys
 from pathlib import Path
-from typing import Dict, List, Optional, Tuple
+from typing import List
 
 BUILT = Path(__file__).resolve().parents[2] / "target" / "bin"
-PX_ROWS = {2: (2, 4, 4608), 3: (4, 2, 9216), 11: (4, 2, 9216)}
-
-Tag = Optional[Tuple[int, int]]
-
-
-def listed(cells: List[Tuple[int, int]]) -> List[str]:
-    """What the cell list program says of cells of PM, without their rows and columns."""
-    text = "".join(f"{row} {column}\n" for row, column in cells)
-    lines = subprocess.run([BUILT / "cells"], input=text.encode(), stdout=subprocess.PIPE, check=True).stdout.decode().splitlines()[1:]
-    return [" ".join(line.split()[2:]) if not line.startswith("REFUSED") else "REFUSED" for line in lines]
-
-
-def all_bits() -> Dict[str, str]:
-    """The cell of PM for each coded bit of P1 and PIDS."""
-    cells = [(row, column) for row in range(512) for column in range(720)]
-    return {owner: f"{row} {column}" for (row, column), owner in zip(cells, listed(cells))}
-
-
-def tagged(mode: int, count: int) -> List[List[Tag]]:
-    """For each L1 frame, which coded bit of which L1 frame the cells of its eight PX matrices show, by 10.2.6."""
-    partitions, factor, _ = PX_ROWS[mode]
-    width, bits = 36 * partitions, 1024 * 36 * partitions
-    written = []
-    counters = [0] * partitions
-    for i in range(bits):
-        partition = (i + 2 * (factor // 4)) // factor % partitions
-        pt = counters[partition]
-        counters[partition] += 1
-        block = (pt + 7 * partition - 1151 * (pt // 1152)) % 32
-        written.append((32 * block + 11 * pt % 1152 // 36) * width + 36 * partition + 11 * pt % 36)
-    memory: List[Tag] = [None] * bits
-    frames = []
-    for frame in range(count):
-        first = frame % 2 * bits // 2
-        shown = []
-        for n in range(bits // 2):
-            memory[written[first + n]] = (frame, n)
-            shown.append(memory[first + n])
-        frames.append(shown)
-    return frames
-
-
-class Owners:
-    """The program owners."""
-
-    def __init__(self, mode: int, lines: List[str]) -> None:
-        self.mode = mode
-        self.lines = [line.split() for line in lines]
-        last = max([int(words[0]) for words in self.lines if words and words[0].isdigit()] + [0])
-        extended = any(word in ("PX1", "PX2", "P3", "P4") for words in self.lines for word in words)
-        self.px = tagged(mode, min(last, 10) + 3) if extended and mode in PX_ROWS else []
-        asks_bits = any(words[1:2] in (["P1"], ["PIDS"]) for words in self.lines)
-        self.bits = all_bits() if asks_bits else {}
-        self.of_pm = self.pm_owners()
-
-    def pm_owners(self) -> Dict[Tuple[int, int], str]:
-        """The owners of all cells of PM that are asked for."""
-        cells = [(int(w[2]), int(w[3])) for w in self.lines if w[1:2] == ["PM"] and len(w) == 4 and all(x.isdigit() for x in w[2:])]
-        return dict(zip(cells, listed(cells))) if cells else {}
-
-    def answer(self, words: List[str]) -> Optional[str]:
-        """What is said of a question, or nothing."""
-        if len(words) < 4 or not all(word.isdigit() for word in words[2:]) or not words[0].isdigit():
-            return None
-        frame, name, numbers = int(words[0]), words[1], [int(word) for word in words[2:]]
-        if name == "PM" and len(numbers) == 2:
-            found = self.of_pm[numbers[0], numbers[1]]
-            return None if found == "REFUSED" else found
-        if name in ("P1", "PIDS") and len(numbers) == 2:
-            cell = self.bits.get(" ".join([name, *words[2:]]))
-            return None if cell is None else f"PM {frame} {cell}"
-        if not self.px or (name in ("PX2", "P4") and self.mode != 11):
-            return None
-        partitions, _, size = PX_ROWS[self.mode]
-        if name in ("PX1", "PX2") and len(numbers) == 3:
-            return self.px_owner(frame, name, numbers, 36 * partitions, size)
-        if name in ("P3", "P4") and len(numbers) == 2 and numbers[0] < 8 and numbers[1] < size:
-            return self.px_cell(frame, name, numbers[0] * size + numbers[1], 36 * partitions)
-        return None
-
-    def px_owner(self, frame: int, name: str, numbers: List[int], width: int, size: int) -> Optional[str]:
-        """Whose bit a cell of PX shows."""
-        pair, row, column = numbers
-        if pair > 7 or row > 63 or column >= width:
-            return None
-        tag = self.px[frame][(64 * pair + row) * width + column]
-        return "FILL" if tag is None else f"P{name[2:] == '2' and 4 or 3} {tag[0]} {tag[1] // size} {tag[1] % size}"
-
-    def px_cell(self, frame: int, name: str, bit: int, width: int) -> str:
-        """Where a bit of P3 or P4 goes."""
-        for sent in range(frame, frame + 3):
-            if (frame, bit) in self.px[sent]:
-                at = self.px[sent].index((frame, bit))
-                return f"PX{int(name[1]) - 2} {sent} {at // width // 64} {at // width % 64} {at % width}"
-        return "REFUSED"
-
-
-def owners(words: List[str]) -> None:
-    """owners MODE."""
-    lines = sys.stdin.read().splitlines()
-    program = Owners(int(words[0]), lines)
-    for number, words_of_line in enumerate(program.lines, 1):
-        answer = program.answer(words_of_line)
-        print(f"REFUSED {number}" if answer is None else " ".join([*words_of_line, answer]))
 
 
 def sheet(words: List[str]) -> None:

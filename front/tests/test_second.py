@@ -105,6 +105,17 @@ class Second(unittest.TestCase):
             for answer in answers:
                 self.check_answer(mode, answer.split())
 
+    def test_all_bits(self) -> None:
+        """where of a whole transfer frame prints what the second program's owners does, and pids piped into restore gives the frame that was sent."""
+        tframe = SEED % 16
+        questions = "".join(f"1 PIDS {tframe} {bit}\n" for bit in range(200)).encode()
+        for mode in OLDER:
+            wanted = self.second("owners", mode, given=questions)
+            self.assertEqual(self.front(f"where PIDS {tframe} all --mode {mode} --frame 1 --lines"), wanted)
+            given = self.file(f"in{mode}")[len(self.file(f"in{mode}")) // COUNT :]
+            sent = given[1 + 18272 + 10 * tframe :][:10].hex().upper() + "\n"
+            self.assertEqual(self.front(f"pids out{mode} 1 {tframe} | layer1 restore"), sent.encode())
+
     def questions(self, draw: random.Random, mode: int) -> List[str]:
         """Cells of PM, and of PX where the mode has them."""
         lines = [f"{n % COUNT} PM {draw.randrange(512)} {draw.randrange(720)}" for n in range(2)]

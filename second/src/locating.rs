@@ -17,7 +17,10 @@ use crate::scrambling::Register;
 pub const NAMES: [&str; 4] = ["P1", "PIDS", "P3", "P4"];
 
 /// House matter: an L1 frame that a line can name is below this.
-pub const GREATEST_FRAME: u64 = 1_000_000_000;
+pub const GREATEST_FRAME: u64 = 1 << 32;
+
+/// House matter: a line of more bytes is refused, as it could not stand in a sheet's list.
+pub const LONGEST_LINE: usize = 4095;
 
 /// Document 01, refusal 3: an argument out of range, at its place.
 fn out_of_range(place: usize) -> Refusal {
@@ -326,16 +329,22 @@ fn answer(mode: &Mode, line: &[u8]) -> Option<String> {
     }
 }
 
+/// House matter: what a line asks, with no newline, and without the CR of another system.
+fn question(line: &[u8]) -> Option<&[u8]> {
+    let line = line.strip_suffix(b"\n").unwrap_or(line);
+    if line.len() > LONGEST_LINE {
+        return None;
+    }
+    Some(line.strip_suffix(b"\r").unwrap_or(line))
+}
+
 /// House matter: an answer for each line of the input.
 pub fn owners(mode: &Mode, input: &mut impl BufRead, output: &mut impl Write) -> io::Result<()> {
     let mut line = Vec::new();
     let mut number = 0u64;
     while input.read_until(b'\n', &mut line)? > 0 {
         number += 1;
-        if line.last() == Some(&b'\n') {
-            line.pop();
-        }
-        match answer(mode, &line) {
+        match question(&line).and_then(|asked| answer(mode, asked)) {
             Some(answer) => writeln!(output, "{answer}")?,
             None => writeln!(output, "REFUSED {number}")?,
         }

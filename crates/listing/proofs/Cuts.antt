@@ -1,19 +1,16 @@
 -- A line with one more byte: what is before and after its first space, and its state. Assumes nothing.
 use mathlib.Core.Path.{_≡_, refl, sym, ap, ap₂, _∙_}
 use Prim.Native.Nat.{ℕ}
-use mathlib.Core.Bool.{Bool, true, false, cond, _||_, or-false, or-true, or-assoc, true≢false}
+use mathlib.Core.Bool.{Bool, true, false, cond, _||_, or-true, true≢false}
 use mathlib.Core.List.{List, [], _∷_, _++_, append-nil}
 use borrow.Author.Tests.{eq-eqb, ne-eqb}
 use lib.Dec.{eqb}
 use Rattle.text.specs.Lines.{after, before, space}
-use Rattle.listing.specs.Running.{begun, contains, partOf, lineOf}
+use Rattle.linewise.proofs.Onward.{contains-snoc}
+use Rattle.linewise.specs.Going.{begun, contains}
+use Rattle.listing.specs.Running.{partOf, lineOf}
 use Rattle.listing.specs.declared.parsing.Part.{Part}
 use Rattle.listing.specs.declared.parsing.Line.{Line}
-
-pub contains-snoc : (x : ℕ) (bytes : List ℕ) (b : ℕ) → contains x (bytes ++ (b ∷ [])) ≡ (contains x bytes || eqb b x)
-unfolding contains
-contains-snoc x [] b = or-false (eqb b x)
-contains-snoc x (c ∷ bytes) b = ap (λ (t : Bool). eqb c x || t) (contains-snoc x bytes b) ∙ sym (or-assoc (eqb c x) (contains x bytes) (eqb b x))
 
 -- a choice where one of two tests holds, and where none does
 by-either : (t s : Bool) (a x y : List ℕ) → (t || s) ≡ true → (s ≡ true → x ≡ y) → cond t a x ≡ cond t a y

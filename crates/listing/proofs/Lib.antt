@@ -2,5 +2,4 @@ mod Pushed
 mod Cuts
 mod Meaning
 mod Celled
-mod Going
 mod Examples

@@ -15,7 +15,8 @@ use Rattle.text.specs.Numbers.{isNumber, value}
 use Rattle.text.specs.Lines.{after, before, space}
 use Rattle.text.specs.Refused.{refused}
 use Rattle.listing.specs.Printed.{told, printed}
-use Rattle.listing.specs.Running.{begun, partOf, lineOf, known, shown}
+use Rattle.linewise.specs.Going.{begun}
+use Rattle.listing.specs.Running.{partOf, lineOf, known, shown}
 use Rattle.listing.specs.declared.parsing.Line.{Line}
 
 -- the number that a part is known by

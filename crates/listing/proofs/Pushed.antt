@@ -9,7 +9,8 @@ use borrow.Author.Tests.{le-leb, lt-leb}
 use lib.Dec.{leb}
 use lib.ListN.{length}
 use Rattle.text.specs.Numbers.{isDigit, digitsAlone, value}
-use Rattle.listing.specs.Running.{begun, partOf}
+use Rattle.linewise.specs.Going.{begun}
+use Rattle.listing.specs.Running.{partOf}
 use Rattle.listing.specs.declared.parsing.Part.{Part}
 
 length-snoc : (bytes : List ℕ) (b : ℕ) → length (bytes ++ (b ∷ [])) ≡ suc (length bytes)

@@ -1,7 +1,7 @@
 -- Document 01: what the cell list program prints, as ASCII bytes.
-use Prim.Native.Nat.{ℕ, _+_}
+use Prim.Native.Nat.{ℕ}
 use mathlib.Core.Bool.{cond, _&&_}
-use mathlib.Core.List.{List, [], _∷_, _++_}
+use mathlib.Core.List.{List, _++_}
 use Rattle.queries.specs.Finder.{found}
 use Rattle.queries.specs.declared.finder.Found.{Found}
 use Rattle.queries.specs.declared.finder.Found.the-variants.{P1, Pids, Refused}
@@ -9,6 +9,7 @@ use Rattle.text.specs.Letters.{ascii}
 use Rattle.text.specs.Lines.{after, before, lines, space}
 use Rattle.text.specs.Numbers.{decimal, isNumber, value}
 use Rattle.text.specs.Refused.{refused}
+use Rattle.linewise.specs.EachLine.{eachLine}
 
 abbrev pub namedP1 : List ℕ
 namedP1 = ascii "P1"
@@ -35,14 +36,9 @@ printed number line =
     cond (isNumber row && isNumber column) (told number (value row) (value column) (found (value row) (value column)))
     (refused number)
 
--- what is printed for lines, of which the first has this number
-unfoldable pub listed : (number : ℕ) (input : List (List ℕ)) → List ℕ
-listed number [] = []
-listed number (line ∷ rest) = printed number line ++ listed (number + 1) rest
-
 abbrev pub header : List ℕ
 header = ascii "ROW COL CHANNEL FRAME BIT\n"
 
 -- all that is printed for an input: the header, and the lines numbered from 1
 unfoldable pub output : (input : List ℕ) → List ℕ
-output input = header ++ listed 1 (lines input)
+output input = header ++ eachLine printed 1 (lines input)

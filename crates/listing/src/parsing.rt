@@ -4,7 +4,8 @@ ghost use Prim.Native.Nat.{ℕ, _-_, _≤_};
 ghost use mathlib.Core.Bool.{cond};
 ghost use mathlib.Core.List.{List, [], _∷_, _++_};
 ghost use Rattle.text.specs.Numbers.{isDigit};
-ghost use Rattle.listing.specs.Running.{begun, partOf, lineOf};
+ghost use Rattle.linewise.specs.Going.{begun};
+ghost use Rattle.listing.specs.Running.{partOf, lineOf};
 
 // A part of a line: whether it has bytes, and their number, where 1000 is too many or no number.
 pub struct Part {

@@ -1,4 +1,4 @@
--- An argument of a program: decimal digits, at least one. A number above the limit stands as the limit, which is more L1 frames than a run of a year has.
+-- An argument of a program: decimal digits, at least one. A number above the limit stands as the limit, 2^32: 200 years have fewer L1 frames.
 use Prim.Native.Nat.{ℕ, _+_, _-_, _*_, min}
 use mathlib.Core.Bool.{Bool, cond, not, _&&_}
 use mathlib.Core.List.{List, [], _∷_}
@@ -7,7 +7,7 @@ use Rattle.operands.specs.declared.Operand.{Operand}
 use Rattle.operands.specs.declared.Operand.the-variants.{Number, NotDecimal}
 
 abbrev pub limit : ℕ
-limit = 1000000000
+limit = 4294967296
 
 -- the bytes 0 to 9 of ASCII
 unfoldable pub isDigit : ℕ → Bool

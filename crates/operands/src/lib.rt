@@ -23,10 +23,10 @@ fn push(n: u64, byte: u8) -> u64
     ensures { λ r. ⌜ r ≡ min limit (10 * n + (byte - 48)) ⌝ }
 {
     let next = 10 * n + (byte - 48) as u64;
-    if next < 1_000_000_000 {
+    if next < 4_294_967_296 {
         return next;
     }
-    1_000_000_000
+    4_294_967_296
 }
 
 // An argument as a number.

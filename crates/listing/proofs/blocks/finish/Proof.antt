@@ -3,7 +3,7 @@ use mathlib.Core.Path.{refl, _∙_}
 use borrow.Author.Tests.{not-true, not-false}
 use native.Mathlib.Omega.{arith}
 use Rattle.io.proofs.Counting.{counts}
-use Rattle.listing.proofs.Going.{ended-input, ended-open}
+use Rattle.linewise.proofs.Onward.{ended-input, ended-open}
 use borrow.Author.Needs.{needs}
 use Rattle.listing.proofs.blocks.finish.Statement.{statement}
 use Rattle.listing.proofs.blocks.finish.Tie as tie

@@ -7,7 +7,7 @@ use borrow.Author.Needs.{needs}
 use lib.ListN.{length, take}
 use Rattle.listing.specs.Running.{Reached}
 use Rattle.io.proofs.Counting.{counts}
-use Rattle.listing.proofs.Going.{block-start, block-more, block-end}
+use Rattle.linewise.proofs.Onward.{block-start, block-more, block-end}
 use Rattle.listing.proofs.blocks.list.Statement.{statement}
 use Rattle.listing.proofs.blocks.list.Tie as tie
 

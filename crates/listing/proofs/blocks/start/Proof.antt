@@ -2,7 +2,9 @@
 use mathlib.Core.Path.{refl}
 use native.Mathlib.Omega.{arith}
 use Rattle.io.proofs.Counting.{counts}
-use Rattle.listing.proofs.Going.{first-line}
+use Rattle.linewise.proofs.Onward.{first-line}
+use Rattle.listing.specs.Printed.{header, output, printed}
+use Rattle.listing.specs.Running.{lineOf}
 use borrow.Author.Needs.{needs}
 use Rattle.listing.proofs.blocks.start.Statement.{statement}
 use Rattle.listing.proofs.blocks.start.Tie as tie
@@ -20,9 +22,10 @@ same-length : tie.Need-same-length
 same-length c = search needs
 
 returns : tie.Need-returns
+unfolding output
 returns c =
     let p = c .before .before .before .put .ensures in
-    (refl, counts _ _ (omega (arith, p .within, p .size)), p .size, first-line (p .holds) (c .empty .ensures))
+    (refl, counts _ _ (omega (arith, p .within, p .size)), p .size, first-line lineOf printed output header (λ input. refl) (p .holds) (c .empty .ensures))
 
 pub start-spec : {M : Type 1} → statement M
 start-spec =

@@ -1,7 +1,7 @@
 -- `listing::take_byte` meets its contract: the byte ends the open line, or is part of it. Assumes nothing.
 use mathlib.Core.Path.{refl}
 use native.Mathlib.Omega.{arith}
-use Rattle.listing.proofs.Going.{longer, ended-line}
+use Rattle.linewise.proofs.Onward.{longer, ended-line}
 use Rattle.text.proofs.Stored.{put-behind}
 use borrow.Author.Needs.{needs}
 use Rattle.listing.proofs.blocks.take_byte.Statement.{statement}

@@ -2,7 +2,8 @@
 use mathlib.Core.Path.{refl}
 use Rattle.text.specs.Numbers.{digitsAlone, value}
 use Rattle.text.specs.Lines.{before, after}
-use Rattle.listing.specs.Running.{begun, contains, partOf, lineOf}
+use Rattle.linewise.specs.Going.{begun, contains}
+use Rattle.listing.specs.Running.{partOf, lineOf}
 use Rattle.listing.proofs.parsing.empty.Statement.{statement}
 use Rattle.listing.proofs.parsing.empty.Tie as tie
 

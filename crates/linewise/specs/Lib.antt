@@ -1,0 +1,2 @@
+pub mod EachLine
+pub mod Going
