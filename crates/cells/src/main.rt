@@ -1,6 +1,5 @@
 // Document 01's cell list program: reads lines of a row and a column, and prints whose coded bit stands in each cell of PM.
 use libc::STDIN_FILENO;
-use libc::STDOUT_FILENO;
 use listing::Progress;
 ghost use mathlib.Core.Path.{_≡_};
 ghost use Prim.Native.Nat.{_+_, _^_, _≤_, _<_};
@@ -32,7 +31,7 @@ fn list_block(at: Progress, out: &mut [u8]) -> Turn
     let n = io::count(got, &block);
     let next = listing::list(at, &block[..n], out);
     let end = next.end;
-    let written = io::write_all(STDOUT_FILENO, &out[..end]);
+    let written = programs::write_out(&out[..end]);
     if n == 0 {
         return Turn {
             at: next,
@@ -65,12 +64,19 @@ fn list_all(at: Progress, out: &mut [u8]) -> Progress
     at
 }
 
-fn main() {
+// Lists standard input.
+fn list() {
     let mut out = room();
     let at = listing::start(&mut out);
     let end = at.end;
-    io::write_all(STDOUT_FILENO, &out[..end]);
+    programs::write_out(&out[..end]);
     let last = list_all(at, &mut out);
     let end = listing::finish(last, &mut out);
-    io::write_all(STDOUT_FILENO, &out[..end]);
+    programs::write_out(&out[..end]);
+}
+
+fn main() {
+    if programs::is_plain(b"cells <LIST") {
+        list();
+    }
 }

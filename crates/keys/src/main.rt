@@ -2,7 +2,6 @@
 // run of their sums, which `sender` reads (document 02, S-14).
 use libc::STDERR_FILENO;
 use libc::STDIN_FILENO;
-use libc::STDOUT_FILENO;
 use operands::Operand;
 use programs::Arguments;
 
@@ -48,26 +47,27 @@ fn turn(n: u64, frame: u64, sum: &mut [u8], more: &mut [u8]) -> bool {
         summing::add(more, sum);
         run += 1;
     }
-    io::write_all(STDOUT_FILENO, sum)
+    programs::write_out(sum)
 }
 
-// Sums L1 frames till one is refused or `count` are written.
-fn sum_all(n: u64, count: u64, sum: &mut [u8], more: &mut [u8]) {
+// Sums L1 frames till one is refused, and answers whether `count` are written.
+fn sum_all(n: u64, count: u64, sum: &mut [u8], more: &mut [u8]) -> bool {
     let mut frame: u64 = 0;
     while frame < count {
         if !turn(n, frame, sum, more) {
-            return;
+            return false;
         }
         frame += 1;
     }
+    true
 }
 
 // Whether a mode is covered: a start in it tells. One that is not is refused before anything is read.
 fn covers(mode: u8) -> bool {
-    let started = layer1::start_sender(mode, &mut [0u8; 0], &mut [0u8; 0], &mut [0u8; 0]);
+    let started = calls::start_sender(mode, &mut [0u8; 0], &mut [0u8; 0], &mut [0u8; 0]);
     let answer = started.answer;
-    if layer1::number(answer) == 1 {
-        programs::refuse(1, 0, 0);
+    if causes::number(answer) == 1 {
+        messages::refuse(1, 0, 0);
         return false;
     }
     true
@@ -78,38 +78,38 @@ fn run(mode: u8, count: u64, n: u64) {
     if !covers(mode) {
         return;
     }
-    let want = layer1::sender_lengths(mode);
-    let wanted = programs::frames_length(mode, want[3], want[4]);
+    let want = modes::sender_lengths(mode);
+    let wanted = run_input::frames_length(mode, want[3], want[4]);
     let mut sum = [0u8; 27649];
     let mut more = [0u8; 27649];
     let a = programs::within(wanted, &sum);
     let b = programs::within(wanted, &more);
-    sum_all(n, count, &mut sum[..a], &mut more[..b]);
-}
-
-fn usage() {
-    programs::usage(
-        b"keys MODE COUNT N, N odd: the scrambling sequence and the fixed bits of the control stand in every run, and cancel in an even number of them",
-    );
+    let good = sum_all(n, count, &mut sum[..a], &mut more[..b]);
+    messages::check_end(good, count);
 }
 
 // Goes on with an odd number of runs.
-fn with_number(mode: u8, count: u64, number: Operand) {
+fn with_number(mode: u8, count: u64, number: Operand, line: &[u8]) {
     match number {
         Operand::Number(n) => {
             if n % 2 == 1 {
                 run(mode, count, n);
             } else {
-                usage();
+                programs::usage(line);
             }
         }
-        Operand::NotDecimal => usage(),
+        Operand::NotDecimal => programs::usage(line),
     }
 }
 
 fn main() {
+    let line =
+        b"keys MODE COUNT N, N odd: the scrambling sequence and the fixed bits of the control stand in every run, and cancel in an even number of them";
+    if programs::gives_help(line) {
+        return;
+    }
     match programs::read_arguments(4) {
-        Arguments::Run { mode, count } => with_number(mode, count, programs::operand(3)),
-        Arguments::Wrong => usage(),
+        Arguments::Run { mode, count } => with_number(mode, count, programs::operand(3), line),
+        Arguments::Wrong => programs::usage(line),
     }
 }

@@ -2,15 +2,29 @@
 // of the one three earlier; PIDS; P2; and from the third on P3 and P4 of the one two earlier. With `on` it goes on after an L1 frame that is refused.
 use libc::STDIN_FILENO;
 use programs::Arguments;
-use programs::Step;
+use programs::write_out;
 use runs::State;
+
+// The state after an L1 frame, and whether to go on.
+struct Step {
+    state: State,
+    go_on: bool,
+}
+
+// Writes two buffers to standard output, and answers whether both went out.
+fn write_two(first: &[u8], second: &[u8]) -> bool {
+    if !write_out(first) {
+        return false;
+    }
+    write_out(second)
+}
 
 // Writes P1, unless it waits, and PIDS.
 fn write_first(waits: bool, p1: &[u8], pids: &[u8]) -> bool {
     if waits {
-        return programs::write_two(b"", pids);
+        return write_two(b"", pids);
     }
-    programs::write_two(p1, pids)
+    write_two(p1, pids)
 }
 
 // Writes what a reading in this state returns. P1 waits where there is a delay memory.
@@ -24,16 +38,19 @@ fn write_returned(
     p4: &[u8],
     delay: &[u8],
 ) -> bool {
-    if !programs::write_two(&[reserved; 1], b"") {
+    if !write_two(&[reserved; 1], b"") {
         return false;
     }
     if !write_first(age < 3 && delay.len() > 0, p1, pids) {
         return false;
     }
     if age < 2 {
-        return programs::write_two(p2, b"");
+        return write_two(p2, b"");
     }
-    programs::write_four(p2, p3, p4, b"")
+    if !write_two(p2, p3) {
+        return false;
+    }
+    write_out(p4)
 }
 
 // Whether to go on after a refusal: never after a length, since the input has ended.
@@ -78,9 +95,9 @@ fn turn(
     let answer = read.answer;
     let next = read.state;
     let reserved = read.reserved;
-    let number = layer1::number(answer);
+    let number = causes::number(answer);
     if number != 0 {
-        programs::refuse(number, layer1::place(answer), frame);
+        messages::refuse(number, causes::place(answer), frame);
         return Step {
             state: next,
             go_on: goes_on(on, number),
@@ -105,11 +122,11 @@ fn read_all(
     memory4: &mut [u8],
     delay: &mut [u8],
 ) {
-    let started = layer1::start_reader(mode, memory3, memory4, delay);
+    let started = calls::start_reader(mode, memory3, memory4, delay);
     let answer = started.answer;
-    let number = layer1::number(answer);
+    let number = causes::number(answer);
     if number != 0 {
-        programs::refuse(number, layer1::place(answer), 0);
+        messages::refuse(number, causes::place(answer), 0);
         return;
     }
     let mut state = started.state;
@@ -130,13 +147,13 @@ fn read_all(
             delay,
         );
         state = step.state;
-        left = programs::left_after(left, step.go_on);
+        left = messages::left_after(left, step.go_on);
     }
 }
 
 // The buffers of a run in MP1, MP2, MP3 and MP11, each of its length in this mode: no P2, and no delay memory.
 fn run_plain(mode: u8, count: u64, on: bool) {
-    let want = layer1::reader_lengths(mode);
+    let want = modes::reader_lengths(mode);
     let mut input = [0u8; 68608];
     let mut p1 = [0u8; 18272];
     let mut pids = [0u8; 160];
@@ -223,10 +240,14 @@ fn run(mode: u8, count: u64, on: bool) {
 }
 
 fn main() {
+    let line = b"reader MODE COUNT [on]";
+    if programs::gives_help(line) {
+        return;
+    }
     let on = programs::argument_is(3, b"on");
     let words = if on { 4 } else { 3 };
     match programs::read_arguments(words) {
         Arguments::Run { mode, count } => run(mode, count, on),
-        Arguments::Wrong => programs::usage(b"reader MODE COUNT [on]"),
+        Arguments::Wrong => programs::usage(line),
     }
 }

@@ -1,9 +1,23 @@
 // sender MODE COUNT [without P3|P4|P3 P4] [dump]: reads COUNT L1 frames, each its reserved number, one byte, and its transfer frames, P1, PIDS, P2, P3, P4, but not of a channel without data, and writes for each its PM, PX1, PX2 and control. With `dump` the header
 // of a dump goes out before them (document 02, S-13).
-use libc::STDOUT_FILENO;
 use programs::Sending;
-use programs::Step;
+use programs::write_out;
+use run_input::Step;
 use runs::State;
+
+// Writes PM, PX1, PX2 and control, and answers whether all went out.
+fn write_signal(pm: &[u8], px1: &[u8], px2: &[u8], control: &[u8]) -> bool {
+    if !write_out(pm) {
+        return false;
+    }
+    if !write_out(px1) {
+        return false;
+    }
+    if !write_out(px2) {
+        return false;
+    }
+    write_out(control)
+}
 
 // Sends L1 frame `frame` and writes it.
 fn turn(
@@ -20,7 +34,7 @@ fn turn(
     memory4: &mut [u8],
     delay: &mut [u8],
 ) -> Step {
-    let sent = programs::send_next(
+    let sent = run_input::send_next(
         state,
         frame,
         n3,
@@ -38,7 +52,7 @@ fn turn(
         return sent;
     }
     let next = sent.state;
-    let go_on = programs::write_four(pm, px1, px2, control);
+    let go_on = write_signal(pm, px1, px2, control);
     Step { state: next, go_on }
 }
 
@@ -48,7 +62,7 @@ fn write_header(mode: u8, count: u64) -> bool {
         return false;
     }
     let header = layout::header_of(mode, count as usize);
-    io::write_all(STDOUT_FILENO, &header)
+    write_out(&header)
 }
 
 // Starts a sender, and writes the header of a dump where one is wanted.
@@ -60,7 +74,7 @@ fn begin(
     memory4: &mut [u8],
     delay: &mut [u8],
 ) -> Step {
-    let started = programs::start_sending(mode, memory3, memory4, delay);
+    let started = run_input::start_sending(mode, memory3, memory4, delay);
     if !dump {
         return started;
     }
@@ -72,7 +86,7 @@ fn begin(
     Step { state, go_on }
 }
 
-// Starts a sender, and sends L1 frames till one is refused or `count` are sent.
+// Starts a sender, sends L1 frames till one is refused, and answers whether `count` are sent.
 fn send_all(
     mode: u8,
     count: u64,
@@ -87,13 +101,14 @@ fn send_all(
     memory3: &mut [u8],
     memory4: &mut [u8],
     delay: &mut [u8],
-) {
+) -> bool {
     let started = begin(mode, count, dump, memory3, memory4, delay);
     if !started.go_on {
-        return;
+        return false;
     }
     let mut state = started.state;
     let mut left = count;
+    let mut good = true;
     while left > 0 {
         let step = turn(
             state,
@@ -110,13 +125,15 @@ fn send_all(
             delay,
         );
         state = step.state;
-        left = programs::left_after(left, step.go_on);
+        good = step.go_on;
+        left = messages::left_after(left, good);
     }
+    good
 }
 
 // The buffers of a run in MP1, MP2, MP3 and MP11, each of its length in this mode: no P2, and no delay memory.
 fn run_plain(mode: u8, count: u64, dump: bool, n3: usize, n4: usize) {
-    let want = layer1::sender_lengths(mode);
+    let want = modes::sender_lengths(mode);
     let mut input = [0u8; 27649];
     let mut pm = [0u8; 46080];
     let mut px1 = [0u8; 9216];
@@ -124,12 +141,12 @@ fn run_plain(mode: u8, count: u64, dump: bool, n3: usize, n4: usize) {
     let mut control = [0u8; 4096];
     let mut memory3 = [0u8; 18432];
     let mut memory4 = [0u8; 18432];
-    let a = programs::within(programs::frames_length(mode, n3, n4), &input);
+    let a = programs::within(run_input::frames_length(mode, n3, n4), &input);
     let b = programs::within(want[6], &px1);
     let c = programs::within(want[7], &px2);
     let d = programs::within(want[9], &memory3);
     let e = programs::within(want[10], &memory4);
-    send_all(
+    let good = send_all(
         mode,
         count,
         dump,
@@ -144,6 +161,7 @@ fn run_plain(mode: u8, count: u64, dump: bool, n3: usize, n4: usize) {
         &mut memory4[..e],
         &mut [0u8; 0],
     );
+    messages::check_end(good, count);
 }
 
 // The buffers of a run in MP5: no P4.
@@ -155,8 +173,8 @@ fn run_mp5(count: u64, dump: bool, n3: usize) {
     let mut control = [0u8; 4096];
     let mut memory3 = [0u8; 18432];
     let mut delay = [0u8; 13824];
-    let a = programs::within(programs::frames_length(5, n3, 0), &input);
-    send_all(
+    let a = programs::within(run_input::frames_length(5, n3, 0), &input);
+    let good = send_all(
         5,
         count,
         dump,
@@ -171,6 +189,7 @@ fn run_mp5(count: u64, dump: bool, n3: usize) {
         &mut [0u8; 0],
         &mut delay,
     );
+    messages::check_end(good, count);
 }
 
 // The buffers of a run in MP6: neither P3 nor P4.
@@ -180,7 +199,7 @@ fn run_mp6(count: u64, dump: bool) {
     let mut px2 = [0u8; 18432];
     let mut control = [0u8; 4096];
     let mut delay = [0u8; 27648];
-    send_all(
+    let good = send_all(
         6,
         count,
         dump,
@@ -195,6 +214,7 @@ fn run_mp6(count: u64, dump: bool) {
         &mut [0u8; 0],
         &mut delay,
     );
+    messages::check_end(good, count);
 }
 
 // A run. The buffers of one mode and of another share the stack, since they stand in functions of their own.
@@ -206,20 +226,20 @@ fn run(mode: u8, count: u64, dump: bool, n3: usize, n4: usize) {
     }
 }
 
-fn usage() {
-    programs::usage(b"sender MODE COUNT [without P3|P4|P3 P4] [dump]");
-}
-
 // A run whose L1 frames a dump can hold, where one is wanted.
-fn run_held(mode: u8, count: u64, dump: bool, n3: usize, n4: usize) {
+fn run_held(mode: u8, count: u64, dump: bool, n3: usize, n4: usize, line: &[u8]) {
     if dump && count > 65535 {
-        usage();
+        programs::usage(line);
     } else {
         run(mode, count, dump, n3, n4);
     }
 }
 
 fn main() {
+    let line = b"sender MODE COUNT [without P3|P4|P3 P4] [dump]";
+    if programs::gives_help(line) {
+        return;
+    }
     let words = programs::words_before(b"dump");
     let dump = words < os::arg_count();
     match programs::read_sending(words) {
@@ -228,7 +248,7 @@ fn main() {
             count,
             n3,
             n4,
-        } => run_held(mode, count, dump, n3, n4),
-        Sending::Wrong => usage(),
+        } => run_held(mode, count, dump, n3, n4, line),
+        Sending::Wrong => programs::usage(line),
     }
 }

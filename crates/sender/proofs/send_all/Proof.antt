@@ -8,7 +8,7 @@ use Rattle.sender.proofs.send_all.Statement.{statement}
 use Rattle.sender.proofs.send_all.Tie as tie
 
 abbrev Inv-loop : tie.InvT-loop
-Inv-loop mode count dump n3 n4 input₀ pm₀ px1₀ px2₀ control₀ memory3₀ memory4₀ delay₀ state₀ left₀ input pm px1 px2 control memory3 memory4 delay state left =
+Inv-loop mode count dump n3 n4 input₀ pm₀ px1₀ px2₀ control₀ memory3₀ memory4₀ delay₀ state₀ left₀ good₀ input pm px1 px2 control memory3 memory4 delay state left good =
     (left ≤ count)
     × (length input ≡ length input₀)
     × (length pm ≡ length pm₀)
@@ -20,7 +20,7 @@ Inv-loop mode count dump n3 n4 input₀ pm₀ px1₀ px2₀ control₀ memory3�
     × (length delay ≡ length delay₀)
 
 abbrev μ-loop : tie.MeasureT-loop
-μ-loop mode count dump n3 n4 input₀ pm₀ px1₀ px2₀ control₀ memory3₀ memory4₀ delay₀ state₀ left₀ input pm px1 px2 control memory3 memory4 delay state left = left
+μ-loop mode count dump n3 n4 input₀ pm₀ px1₀ px2₀ control₀ memory3₀ memory4₀ delay₀ state₀ left₀ good₀ input pm px1 px2 control memory3 memory4 delay state left good = left
 
 begin-requires : tie.Need-begin-requires Inv-loop μ-loop
 begin-requires c κs = search needs
