@@ -5,10 +5,11 @@ ghost use mathlib.Core.Path.{_≡_};
 ghost use Prim.Native.Nat.{_+_, _^_, _≤_, _<_};
 ghost use lib.ListN.{length};
 
-// Where the input's lines have been listed to, and whether there may be more.
+// Where the input's lines have been listed to, whether there may be more, and whether all went out.
 struct Turn {
     at: Progress,
     more: bool,
+    good: bool,
 }
 
 // Room for what is printed for a block of 4,096 bytes: at most 92 bytes for each.
@@ -36,32 +37,36 @@ fn list_block(at: Progress, out: &mut [u8]) -> Turn
         return Turn {
             at: next,
             more: false,
+            good: written,
         };
     }
     Turn {
         at: next,
         more: written,
+        good: written,
     }
 }
 
 // Lists the input from block to block. A proved loop has to end, so it counts its turns down, from a number that no run uses up.
-fn list_all(at: Progress, out: &mut [u8]) -> Progress
+fn list_all(at: Progress, out: &mut [u8]) -> Turn
     requires { ⌜ (length (now out) ≡ 376832) × (at .number ≡ 1) ⌝ }
     ensures { λ _. ⌜ length (now (out .exit)) ≡ 376832 ⌝ }
 {
     let mut at = at;
     let mut turns: u64 = 281474976710656;
     let mut more = true;
+    let mut good = true;
     while more {
         if turns == 0 {
-            return at;
+            return Turn { at, more, good };
         }
         turns -= 1;
         let t = list_block(at, out);
         at = t.at;
         more = t.more;
+        good = t.good;
     }
-    at
+    Turn { at, more, good }
 }
 
 // Lists standard input.
@@ -69,9 +74,15 @@ fn list() {
     let mut out = room();
     let at = listing::start(&mut out);
     let end = at.end;
-    programs::write_out(&out[..end]);
+    if !programs::write_out(&out[..end]) {
+        return;
+    }
     let last = list_all(at, &mut out);
-    let end = listing::finish(last, &mut out);
+    if !last.good {
+        return;
+    }
+    let reached = last.at;
+    let end = listing::finish(reached, &mut out);
     programs::write_out(&out[..end]);
 }
 

@@ -1,32 +1,10 @@
 // judge: reads a dump from standard input, L1 frame by L1 frame, and prints one line: `accepted`, or as what it is refused (document 02, S-13).
-use dumps::Verdict;
 use libc::STDIN_FILENO;
-use runs::Answer;
+ghost use Prim.Native.Nat.{_≤_};
+ghost use lib.ListN.{length};
+ghost use Rattle.io.specs.Counts.{Counts};
 
-// Prints the verdict: the line of a refusal is that of the other programs.
-fn say(verdict: Verdict) {
-    let answer = verdict.answer;
-    let number = causes::number(answer);
-    if number == 0 {
-        programs::write_out(b"accepted\n");
-        return;
-    }
-    let place = causes::place(answer);
-    let frame = verdict.frame;
-    let mut line = [0u8; 91];
-    let n = messages::put_refusal(&mut line, number, place, frame as u64);
-    programs::write_out(&line[..n]);
-}
-
-// What is said after the last of `count` L1 frames.
-fn after_last(count: usize) -> Verdict {
-    if standard_input::is_more() {
-        return dumps::judged_as(Answer::WrongEnd, count);
-    }
-    dumps::judged_as(Answer::Success, 0)
-}
-
-// Judges the L1 frames as they come; the buffer is as long as one.
+// Judges the L1 frames as they come, in a buffer as long as one, and puts the line.
 fn judge_frames(
     mode: u8,
     count: usize,
@@ -34,34 +12,41 @@ fn judge_frames(
     memory3: &mut [u8],
     memory4: &mut [u8],
     delay: &mut [u8],
-) -> Verdict {
+    line: &mut [u8],
+) -> usize
+    requires { ⌜ 91 ≤ length (now line) ⌝ }
+    ensures { λ r. ⌜ Counts r (now (line .exit)) ⌝ }
+{
     let begun = calls::start_reader(mode, memory3, memory4, delay);
     let mut state = begun.state;
-    let mut left = count;
-    while left > 0 {
-        let came = io::read_full(STDIN_FILENO, frame);
-        let judged = dumps::judge_frame(
+    let mut t: usize = 0;
+    while t < count {
+        let n = io::read_full(STDIN_FILENO, frame);
+        let judged = judge_step::judge_bytes(
             mode,
-            count - left,
+            t,
             state,
-            &frame[..came],
+            &frame[..n],
             memory3,
             memory4,
             delay,
+            line,
         );
-        let verdict = judged.verdict;
-        let answer = verdict.answer;
-        if causes::number(answer) != 0 {
-            return verdict;
+        let end = judged.length;
+        if end > 0 {
+            return end;
         }
         state = judged.state;
-        left -= 1;
+        t += 1;
     }
-    after_last(count)
+    judge_step::put_last(standard_input::is_more(), count, line)
 }
 
 // The buffers of a run, each of its length in this mode.
-fn judge_rest(mode: u8, count: usize) -> Verdict {
+fn judge_rest(mode: u8, count: usize, line: &mut [u8]) -> usize
+    requires { ⌜ 91 ≤ length (now line) ⌝ }
+    ensures { λ r. ⌜ Counts r (now (line .exit)) ⌝ }
+{
     let want = modes::reader_lengths(mode);
     let mut frame = [0u8; 68608];
     let mut memory3 = [0u8; 27648];
@@ -78,24 +63,29 @@ fn judge_rest(mode: u8, count: usize) -> Verdict {
         &mut memory3[..a],
         &mut memory4[..b],
         &mut delay[..c],
+        line,
     )
 }
 
-// Judges the dump on standard input.
-fn judge() {
+// Judges the dump on standard input, and puts the line.
+fn judge(line: &mut [u8]) -> usize
+    requires { ⌜ 91 ≤ length (now line) ⌝ }
+    ensures { λ r. ⌜ Counts r (now (line .exit)) ⌝ }
+{
     let mut head = [0u8; 8];
     let n = io::read_full(STDIN_FILENO, &mut head);
     let answer = layout::head_answer(&head[..n]);
     if causes::number(answer) != 0 {
-        say(dumps::judged_as(answer, 0));
-        return;
+        return judge_step::put_line(dumps::judged_as(answer, 0), line);
     }
-    let count = layout::word_at(&head, 6);
-    say(judge_rest(head[5], count));
+    judge_rest(head[5], layout::word_at(&head, 6), line)
 }
 
 fn main() {
-    if programs::is_plain(b"judge <DUMP") {
-        judge();
+    if !programs::is_plain(b"judge <DUMP") {
+        return;
     }
+    let mut line = [0u8; 91];
+    let n = judge(&mut line);
+    programs::write_out(&line[..n]);
 }

@@ -5,46 +5,23 @@ use libc::STDIN_FILENO;
 use operands::Operand;
 use programs::Arguments;
 
-// Says which L1 frame of which run cannot be sent, and why.
-fn refuse(run: u64, frame: u64, why: &[u8]) -> bool {
-    io::write_all(STDERR_FILENO, b"refused: run ");
-    io::print_decimal(STDERR_FILENO, run);
-    io::write_all(STDERR_FILENO, b" frame ");
-    io::print_decimal(STDERR_FILENO, frame);
-    io::write_all(STDERR_FILENO, why);
-    false
-}
-
-// Whether the first byte of an L1 frame's input is a reserved number.
-fn has_number(input: &[u8]) -> bool {
-    if input.len() == 0 {
-        return false;
-    }
-    input[0] < 8
-}
-
-// Reads an L1 frame of a run, and answers whether a sender takes it.
-fn take(run: u64, frame: u64, input: &mut [u8]) -> bool {
-    if io::read_full(STDIN_FILENO, input) < input.len() {
-        return refuse(run, frame, b": it ends early\n");
-    }
-    if !has_number(input) {
-        return refuse(run, frame, b": its reserved number is above 7\n");
-    }
-    true
+// Reads the input of L1 frame `frame` of a run and adds it. Answers whether it was taken; if not, it says why.
+fn take(run: u64, frame: u64, sum: &mut [u8], more: &mut [u8]) -> bool {
+    let mut line = [0u8; 93];
+    let n = io::read_full(STDIN_FILENO, more);
+    let added = keys_step::add_input(run, frame, &more[..n], sum, &mut line);
+    let length = added.length;
+    io::write_all(STDERR_FILENO, &line[..length]);
+    added.good
 }
 
 // Sums an L1 frame of n runs and writes it. Answers whether to go on.
 fn turn(n: u64, frame: u64, sum: &mut [u8], more: &mut [u8]) -> bool {
-    if !take(0, frame, sum) {
-        return false;
-    }
-    let mut run: u64 = 1;
+    let mut run: u64 = 0;
     while run < n {
-        if !take(run, frame, more) {
+        if !take(run, frame, sum, more) {
             return false;
         }
-        summing::add(more, sum);
         run += 1;
     }
     programs::write_out(sum)
@@ -61,7 +38,6 @@ fn sum_all(n: u64, count: u64, sum: &mut [u8], more: &mut [u8]) -> bool {
     }
     true
 }
-
 // Whether a mode is covered: a start in it tells. One that is not is refused before anything is read.
 fn covers(mode: u8) -> bool {
     let started = calls::start_sender(mode, &mut [0u8; 0], &mut [0u8; 0], &mut [0u8; 0]);

@@ -1,7 +1,7 @@
 -- A line put part by part at the start of a buffer that is long enough. Assumes nothing.
 use mathlib.Core.Path.{_≡_}
-use mathlib.Core.List.{List, _++_}
-use Prim.Native.Nat.{ℕ, _+_, _≤_}
+use mathlib.Core.List.{List}
+use Prim.Native.Nat.{ℕ, _≤_}
 use native.Mathlib.Omega.{arith}
 use lib.ListN.{length, take}
 use Rattle.io.specs.Counts.{Counts}
@@ -23,7 +23,8 @@ pub put-refusal : {a b c d e f g : List ℕ} {m n o p q end : ℕ} (number place
 unfolding refusal
 put-refusal number place frame room h i j k l s = at-start room (put-then h (put-then i (put-then j (put-then k (put-then l s)))))
 
-pub put-goes-on : {a b c : List ℕ} {m end : ℕ} (frame : ℕ) → 53 ≤ length a → Put a b 0 m 32 (ascii "refused: input goes on at frame ") → Put b c m end 21 (followed frame (ascii "\n"))
+pub put-goes-on : {a b c : List ℕ} {m end : ℕ} (frame : ℕ) → 53 ≤ length a → Put a b 0 m 32 (ascii "refused: input goes on at frame ")
+    → Put b c m end 21 (followed frame (ascii "\n"))
     → Counts end c × (take end c ≡ goesOn frame)
 unfolding goesOn
 put-goes-on frame room h i = at-start room (put-then h i)

@@ -11,7 +11,8 @@ followed n text = decimal n ++ text
 -- a refused call: the answer's number and place, and the L1 frame, numbered from 0
 unfoldable pub refusal : (number place frame : ℕ) → List ℕ
 refusal number place frame =
-    ascii "refused: number " ++ (followed number (ascii " ") ++ (ascii "place " ++ (followed place (ascii " ") ++ (ascii "frame " ++ followed frame (ascii "\n")))))
+    ascii "refused: number "
+    ++ (followed number (ascii " ") ++ (ascii "place " ++ (followed place (ascii " ") ++ (ascii "frame " ++ followed frame (ascii "\n")))))
 
 -- an input that goes on where L1 frame `frame` would stand, behind the last
 unfoldable pub goesOn : (frame : ℕ) → List ℕ

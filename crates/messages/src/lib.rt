@@ -3,9 +3,8 @@ use libc::STDERR_FILENO;
 use programs::write_out;
 use text::field;
 use text::put;
-ghost use mathlib.Core.Bool.{cond};
 ghost use mathlib.Core.Path.{_≡_};
-ghost use Prim.Native.Nat.{_-_, _<_, _≤_};
+ghost use Prim.Native.Nat.{_≤_};
 ghost use lib.ListN.{length, take};
 ghost use Rattle.io.specs.Counts.{Counts};
 ghost use Rattle.messages.specs.Lines.{goesOn, refusal};
@@ -46,15 +45,6 @@ pub fn write_step(done: bool, bytes: &[u8]) -> bool {
     }
     io::write_all(STDERR_FILENO, bytes);
     false
-}
-
-// How many L1 frames are left after one more: none where the run does not go on.
-pub fn left_after(left: u64, go_on: bool) -> u64
-    requires { ⌜ 0 < left ⌝ }
-    ensures { λ r. ⌜ r < left ⌝ }
-    ensures { λ r. ⌜ r ≡ cond «go_on» (left - 1) 0 ⌝ }
-{
-    if go_on { left - 1 } else { 0 }
 }
 
 // Says so where the input of a run that is whole goes on behind its last L1 frame.

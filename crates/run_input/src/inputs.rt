@@ -32,7 +32,7 @@ pub fn frames_length(mode: u8, n3: usize, n4: usize) -> usize
 }
 
 // The number of the L1 frame in the input.
-fn number_of(input: &[u8]) -> u8
+pub fn number_of(input: &[u8]) -> u8
     ensures { λ r. ⌜ r ≡ getD (now (input .entry)) 0 0 ⌝ }
 {
     if input.len() == 0 {
