@@ -32,6 +32,8 @@ pub enum Stop {
     /// Document 02, S-9: the finder keeps to the older modes.
     NotFound,
     TooLong,
+    /// House matter: the input goes on where this L1 frame would stand, behind the last.
+    GoesOn(u64),
     Usage,
     Different(String),
     Trouble(io::Error),
@@ -53,6 +55,11 @@ fn refused(number: u32, place: usize, frame: u64) -> Stop {
 /// Document 01, refusals: what is said of a refused L1 frame.
 pub fn refusal_line(number: u32, place: usize, frame: u64) -> String {
     format!("refused: number {number} place {place} frame {frame}")
+}
+
+/// House matter: what is said of an input that goes on behind its last L1 frame.
+pub fn goes_on_line(frame: u64) -> String {
+    format!("refused: input goes on at frame {frame}")
 }
 
 /// House matter: what is said of an input that is longer than the program takes.
@@ -354,6 +361,10 @@ fn send_behind(
     for frame in 0..count {
         let matrices = send_next(&mut sender, handed, frame, input)?;
         output.write_all(&matrices.concat())?;
+    }
+    if !take(input, 1)?.is_empty() {
+        output.flush()?;
+        return Err(Stop::GoesOn(count));
     }
     Ok(())
 }

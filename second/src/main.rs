@@ -212,6 +212,10 @@ fn ended(done: Result<(), Stop>) -> ExitCode {
             eprintln!("{}", commands::too_long_line());
             ExitCode::from(1)
         }
+        Err(Stop::GoesOn(frame)) => {
+            eprintln!("{}", commands::goes_on_line(frame));
+            ExitCode::from(1)
+        }
         Err(Stop::Different(difference)) => {
             println!("{difference}");
             ExitCode::from(1)

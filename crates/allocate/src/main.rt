@@ -1,7 +1,6 @@
 // allocate: reads lines of eight shares and eight counts of messages waiting, and prints for each the sixteen PIDS places.
 use libc::STDERR_FILENO;
 use libc::STDIN_FILENO;
-use libc::STDOUT_FILENO;
 ghost use mathlib.Core.Path.{_≡_};
 ghost use lib.ListN.{length};
 
@@ -19,7 +18,8 @@ fn output_room() -> [u8; 1048640]
     [0; 1048640]
 }
 
-fn main() {
+// Answers the lines of standard input.
+fn answer() {
     let mut input = input_room();
     let n = io::read_full(STDIN_FILENO, &mut input);
     if n > 16384 {
@@ -31,5 +31,11 @@ fn main() {
     }
     let mut out = output_room();
     let end = placelines::answer(&input[..n], &mut out);
-    io::write_all(STDOUT_FILENO, &out[..end]);
+    programs::write_out(&out[..end]);
+}
+
+fn main() {
+    if programs::is_plain(b"allocate <LINES") {
+        answer();
+    }
 }

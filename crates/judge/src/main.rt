@@ -1,52 +1,10 @@
 // judge: reads a dump from standard input, L1 frame by L1 frame, and prints one line: `accepted`, or as what it is refused (document 02, S-13).
-use dumps::Verdict;
 use libc::STDIN_FILENO;
-use libc::STDOUT_FILENO;
-use runs::Answer;
+ghost use Prim.Native.Nat.{_≤_};
+ghost use lib.ListN.{length};
+ghost use Rattle.io.specs.Counts.{Counts};
 
-// Writes a word of the line and the number after it, and answers whether they went out.
-fn write_field(word: &[u8], n: u64) -> bool {
-    if !io::write_all(STDOUT_FILENO, word) {
-        return false;
-    }
-    io::print_decimal(STDOUT_FILENO, n)
-}
-
-// Prints the verdict. A write that fails ends it, so that no line lacks its front.
-fn say(verdict: Verdict) {
-    let answer = verdict.answer;
-    let number = layer1::number(answer);
-    if number == 0 {
-        io::write_all(STDOUT_FILENO, b"accepted\n");
-        return;
-    }
-    if !write_field(b"refused: number ", number as u64) {
-        return;
-    }
-    if !write_field(b" place ", layer1::place(answer) as u64) {
-        return;
-    }
-    if !write_field(b" frame ", verdict.frame as u64) {
-        return;
-    }
-    io::write_all(STDOUT_FILENO, b"\n");
-}
-
-// Whether the input goes on.
-fn is_more() -> bool {
-    let mut byte = [0u8; 1];
-    io::read_full(STDIN_FILENO, &mut byte) != 0
-}
-
-// What is said after the last of `count` L1 frames.
-fn after_last(count: usize) -> Verdict {
-    if is_more() {
-        return dumps::judged_as(Answer::WrongEnd, count);
-    }
-    dumps::judged_as(Answer::Success, 0)
-}
-
-// Judges the L1 frames as they come; the buffer is as long as one.
+// Judges the L1 frames as they come, in a buffer as long as one, and puts the line.
 fn judge_frames(
     mode: u8,
     count: usize,
@@ -54,35 +12,42 @@ fn judge_frames(
     memory3: &mut [u8],
     memory4: &mut [u8],
     delay: &mut [u8],
-) -> Verdict {
-    let begun = layer1::start_reader(mode, memory3, memory4, delay);
+    line: &mut [u8],
+) -> usize
+    requires { ⌜ 91 ≤ length (now line) ⌝ }
+    ensures { λ r. ⌜ Counts r (now (line .exit)) ⌝ }
+{
+    let begun = calls::start_reader(mode, memory3, memory4, delay);
     let mut state = begun.state;
-    let mut left = count;
-    while left > 0 {
-        let came = io::read_full(STDIN_FILENO, frame);
-        let judged = dumps::judge_frame(
+    let mut t: usize = 0;
+    while t < count {
+        let n = io::read_full(STDIN_FILENO, frame);
+        let judged = judge_step::judge_bytes(
             mode,
-            count - left,
+            t,
             state,
-            &frame[..came],
+            &frame[..n],
             memory3,
             memory4,
             delay,
+            line,
         );
-        let verdict = judged.verdict;
-        let answer = verdict.answer;
-        if layer1::number(answer) != 0 {
-            return verdict;
+        let end = judged.length;
+        if end > 0 {
+            return end;
         }
         state = judged.state;
-        left -= 1;
+        t += 1;
     }
-    after_last(count)
+    judge_step::put_last(standard_input::is_more(), count, line)
 }
 
 // The buffers of a run, each of its length in this mode.
-fn judge_rest(mode: u8, count: usize) -> Verdict {
-    let want = layer1::reader_lengths(mode);
+fn judge_rest(mode: u8, count: usize, line: &mut [u8]) -> usize
+    requires { ⌜ 91 ≤ length (now line) ⌝ }
+    ensures { λ r. ⌜ Counts r (now (line .exit)) ⌝ }
+{
+    let want = modes::reader_lengths(mode);
     let mut frame = [0u8; 68608];
     let mut memory3 = [0u8; 27648];
     let mut memory4 = [0u8; 27648];
@@ -98,17 +63,29 @@ fn judge_rest(mode: u8, count: usize) -> Verdict {
         &mut memory3[..a],
         &mut memory4[..b],
         &mut delay[..c],
+        line,
     )
 }
 
-fn main() {
+// Judges the dump on standard input, and puts the line.
+fn judge(line: &mut [u8]) -> usize
+    requires { ⌜ 91 ≤ length (now line) ⌝ }
+    ensures { λ r. ⌜ Counts r (now (line .exit)) ⌝ }
+{
     let mut head = [0u8; 8];
     let n = io::read_full(STDIN_FILENO, &mut head);
     let answer = layout::head_answer(&head[..n]);
-    if layer1::number(answer) != 0 {
-        say(dumps::judged_as(answer, 0));
+    if causes::number(answer) != 0 {
+        return judge_step::put_line(dumps::judged_as(answer, 0), line);
+    }
+    judge_rest(head[5], layout::word_at(&head, 6), line)
+}
+
+fn main() {
+    if !programs::is_plain(b"judge <DUMP") {
         return;
     }
-    let count = layout::word_at(&head, 6);
-    say(judge_rest(head[5], count));
+    let mut line = [0u8; 91];
+    let n = judge(&mut line);
+    programs::write_out(&line[..n]);
 }

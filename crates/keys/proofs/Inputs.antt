@@ -8,7 +8,7 @@ use Rattle.runs.specs.MainChannels.{mainOf, p1Len, p2Len}
 use Rattle.runs.specs.Lengths.{pidsLen}
 use Rattle.runs.specs.Chain.{Buffer}
 use Rattle.runs.specs.Runs.{Every}
-use Rattle.programs.specs.Inputs.{framesIn}
+use Rattle.run_input.specs.Inputs.{framesIn}
 use Rattle.summing.specs.Sums.{sumOf, sumFrames}
 use Rattle.summing.proofs.Buffers.{cut-sum, every-map}
 use Rattle.summing.proofs.Numbers.{number-sum}

@@ -30,7 +30,7 @@ fn send(mode: u8, reserved: u8, control: &mut [u8; 4096]) {
     let mut s3 = [0u8; 18432];
     let mut s4 = [0u8; 18432];
     let mut delay = [0u8; 27648];
-    let a = programs::within(programs::frames_length(mode, want[3], want[4]), &input);
+    let a = programs::within(run_input::frames_length(mode, want[3], want[4]), &input);
     let c = programs::within(want[6], &px1);
     let d = programs::within(want[7], &px2);
     let e = programs::within(want[9], &s3);
@@ -42,7 +42,7 @@ fn send(mode: u8, reserved: u8, control: &mut [u8; 4096]) {
         age: 0,
         reserved: 0,
     };
-    given(programs::send_input(
+    given(run_input::send_input(
         state,
         want[3],
         want[4],

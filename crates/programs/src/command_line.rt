@@ -4,6 +4,7 @@ use arguments::Sending;
 use arguments::arguments_of;
 use arguments::sending_of;
 use libc::STDERR_FILENO;
+use libc::STDOUT_FILENO;
 use operands::Operand;
 
 // An argument of the program. One longer than the buffer is not taken as a number.
@@ -48,14 +49,14 @@ pub fn read_arguments(words: usize) -> Arguments {
 }
 
 // The channels without data, and with how many words the program was started if these name them.
-struct Without {
-    p3: bool,
-    p4: bool,
-    words: usize,
+pub struct Without {
+    pub p3: bool,
+    pub p4: bool,
+    pub words: usize,
 }
 
 // After MODE and COUNT `without P3`, `without P4`, `without P3 P4`, or nothing. Other words are too many: no program is started with none.
-fn read_without() -> Without {
+pub fn read_without() -> Without {
     if !argument_is(3, b"without") {
         return Without {
             p3: false,
@@ -113,9 +114,38 @@ pub fn read_number(words: usize) -> Operand {
     operand(1)
 }
 
+// Writes how the program is started.
+fn write_usage(to: i32, line: &[u8]) {
+    io::write_all(to, b"usage: ");
+    io::write_all(to, line);
+    io::write_all(to, b"\n");
+}
+
 // Says how the program is started.
 pub fn usage(line: &[u8]) {
-    io::write_all(STDERR_FILENO, b"usage: ");
-    io::write_all(STDERR_FILENO, line);
-    io::write_all(STDERR_FILENO, b"\n");
+    write_usage(STDERR_FILENO, line);
+}
+
+// Whether the program was asked for help, which it is given on standard output: how it is started.
+pub fn gives_help(line: &[u8]) -> bool {
+    if os::arg_count() != 2 {
+        return false;
+    }
+    if !argument_is(1, b"--help") {
+        return false;
+    }
+    write_usage(STDOUT_FILENO, line);
+    true
+}
+
+// Whether a program that takes no arguments was started with none; where not, its usage or its help is given.
+pub fn is_plain(line: &[u8]) -> bool {
+    if gives_help(line) {
+        return false;
+    }
+    if os::arg_count() > 1 {
+        usage(line);
+        return false;
+    }
+    true
 }

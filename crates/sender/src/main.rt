@@ -1,225 +1,145 @@
-// sender MODE COUNT [without P3|P4|P3 P4] [dump]: reads COUNT L1 frames, each its reserved number, one byte, and its transfer frames, P1, PIDS, P2, P3, P4, but not of a channel without data, and writes for each its PM, PX1, PX2 and control. With `dump` the header
-// of a dump goes out before them (document 02, S-13).
-use libc::STDOUT_FILENO;
+// sender MODE COUNT [without P3|P4|P3 P4] [dump]: reads COUNT L1 frames, each its reserved number, one byte, and its transfer frames, P1, PIDS, P2, P3, P4, but not
+// of a channel without data, and writes for each its PM, PX1, PX2 and control. With `dump` the header of a dump goes out before them (document 02, S-13).
+use libc::STDIN_FILENO;
 use programs::Sending;
-use programs::Step;
 use runs::State;
 
-// Sends L1 frame `frame` and writes it.
+// The state after an L1 frame, and whether it went out.
+struct Turned {
+    state: State,
+    good: bool,
+}
+
+// Reads L1 frame `frame`, sends it and writes it.
 fn turn(
     state: State,
     frame: u64,
     n3: usize,
     n4: usize,
     input: &mut [u8],
-    pm: &mut [u8],
-    px1: &mut [u8],
-    px2: &mut [u8],
-    control: &mut [u8],
     memory3: &mut [u8],
     memory4: &mut [u8],
     delay: &mut [u8],
-) -> Step {
-    let sent = programs::send_next(
+) -> Turned {
+    let mut out = [0u8; 77824];
+    let n = io::read_full(STDIN_FILENO, input);
+    let step = sender_step::send_bytes(
         state,
-        frame,
         n3,
         n4,
-        input,
-        pm,
-        px1,
-        px2,
-        control,
+        frame,
+        &input[..n],
+        &mut out,
         memory3,
         memory4,
         delay,
     );
-    if !sent.go_on {
-        return sent;
-    }
-    let next = sent.state;
-    let go_on = programs::write_four(pm, px1, px2, control);
-    Step { state: next, go_on }
+    let next = step.state;
+    let length = step.length;
+    let good = messages::write_step(step.done, &out[..length]);
+    Turned { state: next, good }
 }
 
-// Writes the header of a dump, and answers whether it went out. A count above 65,535 has none.
-fn write_header(mode: u8, count: u64) -> bool {
-    if count > 65535 {
-        return false;
-    }
-    let header = layout::header_of(mode, count as usize);
-    io::write_all(STDOUT_FILENO, &header)
-}
-
-// Starts a sender, and writes the header of a dump where one is wanted.
-fn begin(
-    mode: u8,
+// Sends L1 frames till one is refused, and answers whether `count` are sent.
+fn send_all(
+    start: State,
     count: u64,
-    dump: bool,
+    n3: usize,
+    n4: usize,
+    input: &mut [u8],
     memory3: &mut [u8],
     memory4: &mut [u8],
     delay: &mut [u8],
-) -> Step {
-    let started = programs::start_sending(mode, memory3, memory4, delay);
-    if !dump {
-        return started;
+) -> bool {
+    let mut state = start;
+    let mut frame: u64 = 0;
+    while frame < count {
+        let turned = turn(state, frame, n3, n4, input, memory3, memory4, delay);
+        if !turned.good {
+            return false;
+        }
+        state = turned.state;
+        frame += 1;
     }
-    if !started.go_on {
-        return started;
-    }
-    let state = started.state;
-    let go_on = write_header(mode, count);
-    Step { state, go_on }
+    true
 }
 
-// Starts a sender, and sends L1 frames till one is refused or `count` are sent.
-fn send_all(
+// Writes the header of a dump where one is wanted, and answers whether it went out. A count above 65,535 has none.
+fn write_header(mode: u8, count: u64, dump: bool) -> bool {
+    if !dump {
+        return true;
+    }
+    if count > 65535 {
+        return false;
+    }
+    programs::write_out(&layout::header_of(mode, count as usize))
+}
+
+// Starts a sender, and sends. Answers whether `count` L1 frames are sent.
+fn begin(
     mode: u8,
     count: u64,
     dump: bool,
     n3: usize,
     n4: usize,
     input: &mut [u8],
-    pm: &mut [u8],
-    px1: &mut [u8],
-    px2: &mut [u8],
-    control: &mut [u8],
     memory3: &mut [u8],
     memory4: &mut [u8],
     delay: &mut [u8],
-) {
-    let started = begin(mode, count, dump, memory3, memory4, delay);
-    if !started.go_on {
-        return;
+) -> bool {
+    let started = calls::start_sender(mode, memory3, memory4, delay);
+    let answer = started.answer;
+    let state = started.state;
+    let number = causes::number(answer);
+    if number != 0 {
+        messages::refuse(number, causes::place(answer), 0);
+        return false;
     }
-    let mut state = started.state;
-    let mut left = count;
-    while left > 0 {
-        let step = turn(
-            state,
-            count - left,
-            n3,
-            n4,
-            input,
-            pm,
-            px1,
-            px2,
-            control,
-            memory3,
-            memory4,
-            delay,
-        );
-        state = step.state;
-        left = programs::left_after(left, step.go_on);
+    if !write_header(mode, count, dump) {
+        return false;
     }
+    send_all(state, count, n3, n4, input, memory3, memory4, delay)
 }
 
-// The buffers of a run in MP1, MP2, MP3 and MP11, each of its length in this mode: no P2, and no delay memory.
-fn run_plain(mode: u8, count: u64, dump: bool, n3: usize, n4: usize) {
-    let want = layer1::sender_lengths(mode);
+// The buffers of a run, each of its length in this mode.
+fn run(mode: u8, count: u64, dump: bool, n3: usize, n4: usize) {
+    let want = modes::sender_lengths(mode);
     let mut input = [0u8; 27649];
-    let mut pm = [0u8; 46080];
-    let mut px1 = [0u8; 9216];
-    let mut px2 = [0u8; 9216];
-    let mut control = [0u8; 4096];
     let mut memory3 = [0u8; 18432];
     let mut memory4 = [0u8; 18432];
-    let a = programs::within(programs::frames_length(mode, n3, n4), &input);
-    let b = programs::within(want[6], &px1);
-    let c = programs::within(want[7], &px2);
-    let d = programs::within(want[9], &memory3);
-    let e = programs::within(want[10], &memory4);
-    send_all(
+    let mut delay = [0u8; 27648];
+    let a = programs::within(run_input::frames_length(mode, n3, n4), &input);
+    let b = programs::within(want[9], &memory3);
+    let c = programs::within(want[10], &memory4);
+    let d = programs::within(want[11], &delay);
+    let good = begin(
         mode,
         count,
         dump,
         n3,
         n4,
         &mut input[..a],
-        &mut pm,
-        &mut px1[..b],
-        &mut px2[..c],
-        &mut control,
-        &mut memory3[..d],
-        &mut memory4[..e],
-        &mut [0u8; 0],
+        &mut memory3[..b],
+        &mut memory4[..c],
+        &mut delay[..d],
     );
-}
-
-// The buffers of a run in MP5: no P4.
-fn run_mp5(count: u64, dump: bool, n3: usize) {
-    let mut input = [0u8; 23041];
-    let mut pm = [0u8; 46080];
-    let mut px1 = [0u8; 9216];
-    let mut px2 = [0u8; 9216];
-    let mut control = [0u8; 4096];
-    let mut memory3 = [0u8; 18432];
-    let mut delay = [0u8; 13824];
-    let a = programs::within(programs::frames_length(5, n3, 0), &input);
-    send_all(
-        5,
-        count,
-        dump,
-        n3,
-        0,
-        &mut input[..a],
-        &mut pm,
-        &mut px1,
-        &mut px2,
-        &mut control,
-        &mut memory3,
-        &mut [0u8; 0],
-        &mut delay,
-    );
-}
-
-// The buffers of a run in MP6: neither P3 nor P4.
-fn run_mp6(count: u64, dump: bool) {
-    let mut input = [0u8; 18433];
-    let mut pm = [0u8; 46080];
-    let mut px2 = [0u8; 18432];
-    let mut control = [0u8; 4096];
-    let mut delay = [0u8; 27648];
-    send_all(
-        6,
-        count,
-        dump,
-        0,
-        0,
-        &mut input,
-        &mut pm,
-        &mut [0u8; 0],
-        &mut px2,
-        &mut control,
-        &mut [0u8; 0],
-        &mut [0u8; 0],
-        &mut delay,
-    );
-}
-
-// A run. The buffers of one mode and of another share the stack, since they stand in functions of their own.
-fn run(mode: u8, count: u64, dump: bool, n3: usize, n4: usize) {
-    match mode {
-        5 => run_mp5(count, dump, n3),
-        6 => run_mp6(count, dump),
-        _ => run_plain(mode, count, dump, n3, n4),
-    }
-}
-
-fn usage() {
-    programs::usage(b"sender MODE COUNT [without P3|P4|P3 P4] [dump]");
+    messages::check_end(good, count);
 }
 
 // A run whose L1 frames a dump can hold, where one is wanted.
-fn run_held(mode: u8, count: u64, dump: bool, n3: usize, n4: usize) {
+fn run_held(mode: u8, count: u64, dump: bool, n3: usize, n4: usize, line: &[u8]) {
     if dump && count > 65535 {
-        usage();
+        programs::usage(line);
     } else {
         run(mode, count, dump, n3, n4);
     }
 }
 
 fn main() {
+    let line = b"sender MODE COUNT [without P3|P4|P3 P4] [dump]";
+    if programs::gives_help(line) {
+        return;
+    }
     let words = programs::words_before(b"dump");
     let dump = words < os::arg_count();
     match programs::read_sending(words) {
@@ -228,7 +148,7 @@ fn main() {
             count,
             n3,
             n4,
-        } => run_held(mode, count, dump, n3, n4),
-        Sending::Wrong => usage(),
+        } => run_held(mode, count, dump, n3, n4, line),
+        Sending::Wrong => programs::usage(line),
     }
 }

@@ -1,11 +1,10 @@
-// sheet MODE COUNT [without P3|P4|P3 P4]: reads a cell list, an empty line and COUNT L1 frames, each its reserved number and its transfer frames, as `sender` does, and prints the answer sheet.
+// sheet MODE COUNT [without P3|P4|P3 P4]: reads a cell list, an empty line and COUNT L1 frames, each its reserved number and its transfer frames, as `sender` does,
+// and prints the answer sheet, or the line that says why there is none, which goes to standard error too.
 use libc::STDERR_FILENO;
 use libc::STDIN_FILENO;
-use libc::STDOUT_FILENO;
-use programs::Sending;
+use programs::Arguments;
 ghost use mathlib.Core.Path.{_≡_};
 ghost use lib.ListN.{length};
-ghost use Rattle.io.specs.Counts.{Counts};
 
 // Room for the longest input that has a sheet, and one byte more: of a longer one the rest cannot matter.
 fn input_room() -> [u8; 1773634]
@@ -21,46 +20,39 @@ fn output_room() -> [u8; 1200000]
     [0; 1200000]
 }
 
-// Puts the sheet for the input, and answers how many bytes it has.
-fn answer(mode: u8, count: u64, n3: usize, n4: usize, input: &[u8], out: &mut [u8]) -> usize
-    ensures { λ r. ⌜ Counts r (now (out .exit)) ⌝ }
-{
-    let want = modes::sender_lengths(mode);
-    let sheet = sheets::sheet(mode, count, n3 < want[3], n4 < want[4], input, out);
-    programs::within(sheet.length, out)
-}
-
-// Writes the text, and says why there is no sheet, or that it could not be written.
+// Writes the sheet, and says why there is none.
 fn tell(text: &[u8]) {
-    if !io::write_all(STDOUT_FILENO, text) {
-        io::write_all(STDERR_FILENO, b"refused: the sheet could not be written\n");
+    if !programs::write_out(text) {
         return;
     }
-    if text.len() == 0 {
-        return;
-    }
-    if text[0] == b'N' {
+    if text.len() > 0 && text[0] == b'N' {
         io::write_all(STDERR_FILENO, text);
     }
 }
 
-// A channel with fewer bytes than the mode's is without data.
-fn run(mode: u8, count: u64, n3: usize, n4: usize) {
-    let mut input = input_room();
-    let n = io::read_full(STDIN_FILENO, &mut input);
-    let mut out = output_room();
-    let end = answer(mode, count, n3, n4, &input[..n], &mut out);
+// Writes the sheet for an input.
+fn answer(mode: u8, count: u64, without3: bool, without4: bool, input: &[u8], out: &mut [u8]) {
+    let sheet = sheets::sheet(mode, count, without3, without4, input, out);
+    let end = programs::within(sheet.length, out);
     tell(&out[..end]);
 }
 
+// Reads the input, all of it that can matter.
+fn run(mode: u8, count: u64, without3: bool, without4: bool) {
+    let mut input = input_room();
+    let n = io::read_full(STDIN_FILENO, &mut input);
+    let mut out = output_room();
+    answer(mode, count, without3, without4, &input[..n], &mut out);
+}
+
 fn main() {
-    match programs::read_sending(os::arg_count()) {
-        Sending::Run {
-            mode,
-            count,
-            n3,
-            n4,
-        } => run(mode, count, n3, n4),
-        Sending::Wrong => programs::usage(b"sheet MODE COUNT [without P3|P4|P3 P4]"),
+    let line = b"sheet MODE COUNT [without P3|P4|P3 P4]";
+    if programs::gives_help(line) {
+        return;
+    }
+    let without = programs::read_without();
+    match programs::read_arguments(without.words) {
+        Arguments::Run { mode, count } => run(mode, count, without.p3, without.p4),
+        Arguments::Wrong => programs::usage(line),
     }
 }

@@ -46,8 +46,8 @@ fn print_source(source: Source) {
     }
 }
 
-// Prints the line of element k.
-fn print_line(mode: u8, k: usize, re: f32, im: f32) {
+// Prints the line of element k, and answers whether it went out.
+fn print_line(mode: u8, k: usize, re: f32, im: f32) -> bool {
     print_subcarrier(k);
     io::write_all(STDOUT_FILENO, b" ");
     print_part(re);
@@ -55,14 +55,16 @@ fn print_line(mode: u8, k: usize, re: f32, im: f32) {
     print_part(im);
     io::write_all(STDOUT_FILENO, b" ");
     print_source(subcarriers::source_at(mode, k));
-    io::write_all(STDOUT_FILENO, b"\n");
+    programs::write_out(b"\n")
 }
 
 // Prints a line for each element of the vector.
 fn print_all(mode: u8, re: &[f32; 1093], im: &[f32; 1093]) {
     let mut k: usize = 0;
     while k < 1093 {
-        print_line(mode, k, re[k], im[k]);
+        if !print_line(mode, k, re[k], im[k]) {
+            return;
+        }
         k += 1;
     }
 }
@@ -84,7 +86,7 @@ fn answer_symbol(
     let d = io::read_full(STDIN_FILENO, control);
     let mut re = [0.0f32; 1093];
     let mut im = [0.0f32; 1093];
-    let answer = layer1::fill_vector(
+    let answer = mapping::fill_vector(
         mode,
         symbol,
         lower,
@@ -96,9 +98,9 @@ fn answer_symbol(
         &mut re,
         &mut im,
     );
-    let number = layer1::number(answer);
+    let number = causes::number(answer);
     if number != 0 {
-        programs::refuse(number, layer1::place(answer), 0);
+        messages::refuse(number, causes::place(answer), 0);
         return;
     }
     print_all(mode, &re, &im);
@@ -106,7 +108,7 @@ fn answer_symbol(
 
 // The buffers of an L1 frame, each of its length in this mode.
 fn run(mode: u8, symbol: usize, lower: f32, upper: f32) {
-    let lengths = layer1::reader_lengths(mode);
+    let lengths = modes::reader_lengths(mode);
     let mut pm = [0u8; 46080];
     let mut px1 = [0u8; 9216];
     let mut px2 = [0u8; 9216];
@@ -132,26 +134,26 @@ fn scale(i: usize) -> Typed {
     scale_of(&text[..n])
 }
 
-fn usage() {
-    programs::usage(b"vector MODE SYMBOL LOWER UPPER");
-}
-
 // Goes on with both scales.
-fn with_scales(mode: u8, symbol: u64, lower: Typed, upper: Typed) {
+fn with_scales(mode: u8, symbol: u64, lower: Typed, upper: Typed, line: &[u8]) {
     match lower {
         Typed::Times(a) => {
             match upper {
                 Typed::Times(b) => run(mode, symbol as usize, value_of(a), value_of(b)),
-                Typed::NotExact => usage(),
+                Typed::NotExact => programs::usage(line),
             }
         }
-        Typed::NotExact => usage(),
+        Typed::NotExact => programs::usage(line),
     }
 }
 
 fn main() {
+    let line = b"vector MODE SYMBOL LOWER UPPER";
+    if programs::gives_help(line) {
+        return;
+    }
     match programs::read_arguments(5) {
-        Arguments::Run { mode, count } => with_scales(mode, count, scale(3), scale(4)),
-        Arguments::Wrong => usage(),
+        Arguments::Run { mode, count } => with_scales(mode, count, scale(3), scale(4), line),
+        Arguments::Wrong => programs::usage(line),
     }
 }

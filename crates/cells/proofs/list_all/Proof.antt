@@ -7,10 +7,10 @@ use Rattle.cells.proofs.list_all.Statement.{statement}
 use Rattle.cells.proofs.list_all.Tie as tie
 
 abbrev Inv-loop : tie.InvT-loop
-Inv-loop out₀ at₀ turns₀ more₀ out at turns more = (length out ≡ 376832) × (length out ≡ length out₀) × (at .number + 4096 * turns ≤ 1152921504606846977)
+Inv-loop out₀ at₀ turns₀ more₀ good₀ out at turns more good = (length out ≡ 376832) × (length out ≡ length out₀) × (at .number + 4096 * turns ≤ 1152921504606846977)
 
 abbrev μ-loop : tie.MeasureT-loop
-μ-loop out₀ at₀ turns₀ more₀ out at turns more = turns
+μ-loop out₀ at₀ turns₀ more₀ good₀ out at turns more good = turns
 
 loop-holds : tie.Need-loop-holds Inv-loop μ-loop
 loop-holds c = (c .before .pre .0, refl, omega (arith, c .before .pre .1))

@@ -12,32 +12,20 @@ Inv-loop n frame sum₀ more₀ run₀ sum more run = (length sum ≡ length sum
 abbrev μ-loop : tie.MeasureT-loop
 μ-loop n frame sum₀ more₀ run₀ sum more run = n - run
 
+loop-holds : tie.Need-loop-holds Inv-loop μ-loop
+loop-holds c = search needs
+
 take-requires : tie.Need-take-requires Inv-loop μ-loop
 take-requires c κs = search needs
 
 same-length : tie.Need-same-length Inv-loop μ-loop
 same-length c = search needs
 
-returns : tie.Need-returns Inv-loop μ-loop
-returns c = search needs
-
-loop-holds : tie.Need-loop-holds Inv-loop μ-loop
-loop-holds c = search needs
-
-take-requires-2 : tie.Need-take-requires-2 Inv-loop μ-loop
-take-requires-2 c κs = search needs
-
 same-length-2 : tie.Need-same-length-2 Inv-loop μ-loop
 same-length-2 c = search needs
 
-same-length-3 : tie.Need-same-length-3 Inv-loop μ-loop
-same-length-3 c = search needs
-
-returns-2 : tie.Need-returns-2 Inv-loop μ-loop
-returns-2 c = search needs
-
-add-requires : tie.Need-add-requires Inv-loop μ-loop
-add-requires c κs = search needs
+returns : tie.Need-returns Inv-loop μ-loop
+returns c = search needs
 
 add-run : tie.Need-add-run Inv-loop μ-loop
 add-run c = search needs
@@ -48,17 +36,17 @@ loop-less c = search needs
 loop-again : tie.Need-loop-again Inv-loop μ-loop
 loop-again c = search needs
 
-write-all-requires : tie.Need-write-all-requires Inv-loop μ-loop
-write-all-requires c κs = search needs
+write-out-requires : tie.Need-write-out-requires Inv-loop μ-loop
+write-out-requires c κs = search needs
+
+same-length-3 : tie.Need-same-length-3 Inv-loop μ-loop
+same-length-3 c = search needs
 
 same-length-4 : tie.Need-same-length-4 Inv-loop μ-loop
 same-length-4 c = search needs
 
-same-length-5 : tie.Need-same-length-5 Inv-loop μ-loop
-same-length-5 c = search needs
-
-returns-3 : tie.Need-returns-3 Inv-loop μ-loop
-returns-3 c = search needs
+returns-2 : tie.Need-returns-2 Inv-loop μ-loop
+returns-2 c = search needs
 
 pub turn-spec : {M : Type 1} → statement M
 turn-spec =
@@ -66,19 +54,15 @@ turn-spec =
     (tie.spec
     Inv-loop
     μ-loop
+    loop-holds
     take-requires
     same-length
-    returns
-    loop-holds
-    take-requires-2
     same-length-2
-    same-length-3
-    returns-2
-    add-requires
+    returns
     add-run
     loop-less
     loop-again
-    write-all-requires
+    write-out-requires
+    same-length-3
     same-length-4
-    same-length-5
-    returns-3)
+    returns-2)

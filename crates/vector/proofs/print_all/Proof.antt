@@ -28,6 +28,9 @@ element-copy-out-print-line-2 c = search needs
 print-line-requires : tie.Need-print-line-requires Inv-loop μ-loop
 print-line-requires c κs = search needs
 
+returns : tie.Need-returns Inv-loop μ-loop
+returns c = search needs
+
 add-k : tie.Need-add-k Inv-loop μ-loop
 add-k c = search needs
 
@@ -37,8 +40,8 @@ loop-less c = search needs
 loop-again : tie.Need-loop-again Inv-loop μ-loop
 loop-again c = search needs
 
-returns : tie.Need-returns Inv-loop μ-loop
-returns c = search needs
+returns-2 : tie.Need-returns-2 Inv-loop μ-loop
+returns-2 c = search needs
 
 pub print-all-spec : {M : Type 1} → statement M
 print-all-spec =
@@ -52,7 +55,8 @@ print-all-spec =
     mul-print-line-2
     element-copy-out-print-line-2
     print-line-requires
+    returns
     add-k
     loop-less
     loop-again
-    returns)
+    returns-2)

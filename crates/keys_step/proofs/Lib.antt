@@ -1,0 +1,3 @@
+mod Lines
+mod Steps
+pub mod All
