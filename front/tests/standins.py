@@ -1,13 +1,16 @@
-"""Stand-ins for programs that a revision does not have yet, for the tests alone: owners, by the program cells and by the equations of 10.2.6; sheet, with head
-and end around what an older program sheet prints; programs that fail. Where target/bin has the program itself, it is used."""
+"""Stand-ins for programs that a revision does not have yet, for the tests alone: owners, by the program cells and by the equations of 10.2.6; sheet, with lines
+for bits and workings by the second program; programs that fail. Where target/bin has the program itself, it is used."""
 
+import hashlib
 import os
+import re
 import subprocess
 import sys
 from pathlib import Path
 from typing import Dict, List, Optional, Tuple
 
 BUILT = Path(__file__).resolve().parents[2] / "target" / "bin"
+SECOND = BUILT.parent / "second" / "release" / "second"
 PX_ROWS = {2: (2, 4, 4608), 3: (4, 2, 9216), 11: (4, 2, 9216)}
 
 Tag = Optional[Tuple[int, int]]
@@ -114,18 +117,115 @@ def owners(words: List[str]) -> None:
         print(f"REFUSED {number}" if answer is None else " ".join([*words_of_line, answer]))
 
 
+class BothKinds:
+    """The program sheet with lines for coded bits and workings: cells by the program that is built, bits and workings by the second program."""
+
+    def __init__(self, words: List[str], data: bytes) -> None:
+        self.work = words[-1] == "work"
+        self.words = [word for word in words if word != "work"]
+        self.mode, self.count = self.words[0], int(self.words[1])
+        questions, self.frames = (b"", data[1:]) if data[:1] == b"\n" else data.split(b"\n\n", 1)
+        self.lines = questions.decode("latin-1").splitlines()
+
+    def cells(self, lines: List[str]) -> Dict[str, str]:
+        """The answers to lines for cells, by line."""
+        given = "".join(line + "\n" for line in lines).encode("latin-1") + b"\n" + self.frames
+        done = subprocess.run([BUILT / "sheet", *self.words], input=given, stdout=subprocess.PIPE, stderr=subprocess.PIPE)
+        printed = done.stdout.decode().splitlines()
+        if done.stderr or not printed or not printed[0].startswith("MP"):
+            sys.stderr.buffer.write(done.stderr)
+            sys.stdout.buffer.write(done.stdout)
+            sys.exit(0)
+        return {line: answer for line in lines for answer in printed if answer.startswith(line + " ")}
+
+    def bits(self, lines: List[str]) -> Dict[str, List[str]]:
+        """For lines for bits the words of the cell."""
+        done = subprocess.run([SECOND, "owners", self.mode], input="".join(line + "\n" for line in lines).encode(), stdout=subprocess.PIPE)
+        found = {}
+        for line, answer in zip(lines, done.stdout.decode().splitlines()):
+            if answer.startswith(line + " ") and int(line.split()[0]) < self.count:
+                found[line] = answer.split()[4:]
+        return found
+
+    def working(self, frame: int, channel: str, tframe: str, bit: str) -> str:
+        """The line of a working."""
+        size = len(self.frames) // self.count
+        lengths = {"1": (18272, 160, 0, 0), "2": (18272, 160, 2304, 0), "3": (18272, 160, 4608, 0), "11": (18272, 160, 4608, 4608)}[self.mode]
+        left_out = self.words[3:]
+        start, data = frame * size + 1, b""
+        for name, length in zip(("P1", "PIDS", "P3", "P4"), lengths):
+            length = 0 if name in left_out else length
+            if name == channel:
+                data = self.frames[start : start + length]
+            start += length
+        number = str(("P1", "PIDS", "P3", "P4").index(channel) + 1)
+        done = subprocess.run([SECOND, "working", self.mode, str(frame), number, tframe, bit], input=data, stdout=subprocess.PIPE, check=True)
+        text = done.stdout.decode().replace("true", "1").replace("false", "0")
+        one = {name: value for name, value in re.findall(r"(\w+): (\d+)", text)}
+        many = {name: re.findall(r"\d+", value) for name, value in re.findall(r"(\w+): \[(.*?)\]", text)}
+        block, row, partition, column = many["position"]
+        seven = f"FRAME {' '.join(many['bits'])} SCRAMBLER {' '.join(many['scrambling'])} SUM {one['sum']}"
+        place = f"BLOCK {block} PARTITION {partition} ROW {row} COLUMN {column} CELL {one['cell']}"
+        return f"WORK BIT {one['number']} GENERATOR {int(one['generator']):o} {seven} STEP {one['step']} K {one['k']} {place}"
+
+    def printed(self) -> List[str]:
+        """The whole sheet."""
+        asks_bit = {line: re.match(r"\d+ (P[134]|PIDS) ", line) is not None for line in self.lines}
+        places = self.bits([line for line in self.lines if asks_bit[line]])
+        shown = {line: f"{words[1]} {words[0]} {' '.join(words[2:])}" for line, words in places.items()}
+        cells = self.cells([shown.get(line, line) for line in self.lines if not asks_bit[line] or line in shown])
+        refused, answers = [], []
+        for number, line in enumerate(self.lines, 1):
+            answer = self.answer(line, places.get(line), cells.get(shown.get(line, line)), asks_bit[line])
+            if answer is None:
+                refused.append(f"REFUSED {number}")
+            else:
+                sent = int(places[line][1]) if asks_bit[line] else int(line.split()[0])
+                answers.append((sent if sent < self.count else self.count, answer))
+        head = f"MP{self.mode} {' '.join(self.words[1:])}{' work' if self.work else ''}"
+        body = [line for _, lines in sorted(answers, key=lambda each: each[0]) for line in lines]
+        return [head, *refused, *body, f"END {len(answers)}"]
+
+    def answer(self, line: str, place: Optional[List[str]], cell: Optional[str], asks_bit: bool) -> Optional[List[str]]:
+        """An answer, and its working where that is asked for."""
+        if (asks_bit and place is None) or (not asks_bit and cell is None):
+            return None
+        words = line.split()
+        if asks_bit:
+            assert place is not None
+            value = cell.split()[-1] if cell else "LATER"
+            out, coded = [f"{line} {' '.join(place)} {value}"], (int(words[0]), words[1], words[2], words[3])
+        else:
+            assert cell is not None
+            out, owner = [cell], cell.split()[len(words) :]
+            if owner == ["FILL"]:
+                return out
+            coded = (int(words[0] if words[1] == "PM" else owner[1]), owner[0], owner[-3], owner[-2])
+        return out + ([self.working(*coded)] if self.work else [])
+
+
 def sheet(words: List[str]) -> None:
-    """sheet MODE COUNT [without ..]."""
-    done = subprocess.run([BUILT / "sheet", *words], stdin=sys.stdin, stdout=subprocess.PIPE, stderr=subprocess.PIPE, check=True)
-    text = done.stdout.decode()
-    if text.startswith(("MP", "NO SHEET")):
+    """sheet MODE COUNT [without ..] [work]; what the program that is built can answer goes to it as it is."""
+    data = sys.stdin.buffer.read()
+    if words[-1:] == ["work"] or re.search(rb"(?m)^\d+ (P[134]|PIDS) ", data.split(b"\n\n", 1)[0]):
+        kept = Path(sys.argv[0]).parent / f"kept-{hashlib.sha256(' '.join(words).encode() + data).hexdigest()}"
+        text = kept.read_text() if kept.exists() else "\n".join(BothKinds(words, data).printed()) + "\n"
         sys.stdout.write(text)
-    elif done.stderr or sys.stdin.buffer.read(1):
-        print("NO SHEET FRAME 0 NUMBER 3 PLACE 0" if b"number" in done.stderr else "NO SHEET LIST")
+        beside = kept.with_name(f"{kept.name}.{os.getpid()}")
+        beside.write_text(text)
+        beside.rename(kept)
+        return
+    done = subprocess.run([BUILT / "sheet", *words], input=data, stdout=subprocess.PIPE, stderr=subprocess.PIPE)
+    sys.stderr.buffer.write(done.stderr)
+    sys.stdout.buffer.write(done.stdout)
+
+
+def second(words: List[str]) -> None:
+    """The second program where it has no such lines: its sheet is the stand-in's, the rest its own."""
+    if words[0] == "sheet":
+        sheet(words[1:])
     else:
-        answers = [line for line in text.splitlines() if not line.startswith("REFUSED")]
-        head = f"MP{words[0]} {' '.join(words[1:])}\n"
-        sys.stdout.write(f"{head}{text}END {len(answers)}\n")
+        os.execv(SECOND, [str(SECOND), *words])
 
 
 def failing(words: List[str]) -> None:
