@@ -12,7 +12,7 @@ from .record import Record, fingerprint
 def run_check(given: argparse.Namespace) -> int:
     """sitting check."""
     found = record.opened(given.folder)
-    missing, changed = record.same(found)
+    missing, changed = record.damaged(found)
     complaints = [f"{name} is missing" for name in missing] + [f"{name} has changed since it was recorded" for name in changed]
     complaints += made_again(found, set(missing + changed))
     for line in complaints:
@@ -51,7 +51,7 @@ def run_show(given: argparse.Namespace) -> int:
     """sitting show."""
     found = record.opened(given.folder)
     candidate = record.by_sheet(found, given.sheet)
-    missing, changed = record.same(found)
+    missing, changed = record.damaged(found)
     say(f"sheet {given.sheet}: candidate {candidate}, {found.run.mode.name}, {found.run.count} L1 frames, without {found.heads['without']}\n")
     say(f"drawn by software {found.heads['software']}, {'made by software ' + found.made[candidate] if candidate in found.made else 'not made yet'}\n")
     for name, content in sorted(found.hashes.items()):

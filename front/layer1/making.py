@@ -44,26 +44,19 @@ def answered(run: Run, questions: str, frames: bytes, words: Sequence[str]) -> L
 
 def made(record: Record, candidate: str, revision: str) -> Made:
     """Answers and papers of a candidate."""
+    run = record.run
     questions = record.content(f"{candidate}/questions").decode("latin-1")
-    frames = record.content(f"{candidate}/frames")
-    number = number_of_sheet(record.run.words(), questions + "\n", frames)
+    data = record.content(f"{candidate}/frames")
+    number = number_of_sheet(run.words(), questions + "\n", data)
     if number != record.sheets[candidate]:
         raise Refused(f"refused: the sheet of candidate {candidate} has the number {number} by its questions and frames, and another is recorded")
-    lines = answered(record.run, questions, frames, worked_words())
-    text = "\n".join(lines) + "\n"
-    sheet = sheet_of(lines)
+    lines = answered(run, questions, data, worked_words())
+    sheet, text = sheet_of(lines), "\n".join(lines) + "\n"
     in_step(sheet, questions, candidate)
-    second_agrees(record.run, questions, frames, text, candidate)
-    return laid_out(record, candidate, revision, text)
-
-
-def laid_out(record: Record, candidate: str, revision: str, text: str) -> Made:
-    """The papers of answers."""
-    questions = record.content(f"{candidate}/questions").decode("latin-1")
-    frames = windows.Frames(record.run.mode, record.run.without, record.content(f"{candidate}/frames"))
-    sheet = sheet_of(text.splitlines())
+    second_agrees(run, questions, data, text, candidate)
+    frames = windows.Frames(run.mode, run.without, data)
     windows.agree(frames, sheet.answers)
-    on_paper = Paper(sheet, record.sheets[candidate], candidate, revision, frames, questions)
+    on_paper = Paper(sheet, number, candidate, revision, frames, questions)
     pages = [paper.page(on_paper, examiner).encode() for examiner in (False, True)]
     return Made(on_paper, {answers_name(candidate): text.encode("latin-1"), **dict(zip(page_names(candidate), pages))})
 

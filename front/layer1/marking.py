@@ -116,7 +116,7 @@ def run_mark(given: argparse.Namespace) -> int:
     lines.append([candidate, found.sheets[candidate], "total", "", "", "", "", "", str(points), str(of)])
     kept(found, candidate, lines, given.force)
     for question in questions:
-        say(in_words(question, found, candidate))
+        say(in_words(question))
     say(f"candidate {candidate}, sheet {found.sheets[candidate]}: {points} of {of} points\n")
     return DONE
 
@@ -135,7 +135,7 @@ def kept(found: Record, candidate: str, lines: List[List[str]], force: bool) -> 
     found.written({MARKS: out.getvalue().encode()}, replaced=[MARKS])
 
 
-def in_words(question: Marked, found: Record, candidate: str) -> str:
+def in_words(question: Marked) -> str:
     """A question's marks; where it is contested, both answers beside each other and the working."""
     answer = question.answer
     text = f"{question.number}: {question.result}, {question.points} of {len(answer.boxes)}\n"

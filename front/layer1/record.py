@@ -43,7 +43,7 @@ class Record:
         """As sitting.txt has it."""
         lines = [TITLE, *(f"{name}: {self.heads[name]}" for name in HEADS)]
         lines += [f"sheet {candidate}: {number}" for candidate, number in self.sheets.items()]
-        lines += [f"made {candidate}: {revision}" for candidate, revision in self.made.items()]
+        lines += [f"made {candidate}: {self.made[candidate]}" for candidate in self.sheets if candidate in self.made]
         lines += [f"file {name}: {content}" for name, content in sorted(self.hashes.items())]
         text = "\n".join(lines) + "\n"
         return f"{text}{END}{digest(text.encode())}\n"
@@ -155,7 +155,7 @@ def revision() -> str:
     return "unknown"
 
 
-def same(record: Record) -> Tuple[List[str], List[str]]:
+def damaged(record: Record) -> Tuple[List[str], List[str]]:
     """Of the recorded files those that are missing and those that have changed."""
     missing, changed = [], []
     for name, content in sorted(record.hashes.items()):

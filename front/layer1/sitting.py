@@ -183,7 +183,7 @@ def run_make(given: argparse.Namespace) -> int:
     content = {name: data for each in sheets for name, data in each.content.items()}
     if given.candidate is None:
         content[making.ALL] = making.all_page(sheets)
-    found.made = {candidate: {**found.made, **revisions}[candidate] for candidate in found.candidates if candidate in {**found.made, **revisions}}
+    found.made.update(revisions)
     found.written(content)
     if given.pdf:
         make_pdf(found, [name for candidate in candidates for name in making.page_names(candidate)])
