@@ -39,7 +39,7 @@ table.question { margin-bottom: 1.5mm; }
 table.question td.number { font-size: 13pt; font-weight: bold; text-align: center; }
 td.asked { font-size: 9.5pt; }
 table.question td.box { border: 1.2pt solid black; text-align: center; }
-td.box small { text-align: left; height: 5.6mm; }
+td.box small { text-align: left; height: 6.6mm; }
 td.box span { font-weight: bold; font-size: 12pt; }
 td.points { text-align: right; }
 td.points small { text-align: left; height: 8mm; }

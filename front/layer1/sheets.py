@@ -11,7 +11,7 @@ from . import layout, paper, programs, record, windows
 from .answers import sheet_of
 from .asking import GREATEST, bits_of_words
 from .files import behind, opened, refuse_existing, say, shown, size_of, text_of, write_text
-from .modes import Mode, mode_of, number_of
+from .modes import MODES, Mode, mode_of, number_of
 from .outcomes import DONE, Failed, Refused
 from .words import Verbs
 
@@ -69,6 +69,13 @@ def worked_words() -> Sequence[str]:
         if "usage:" in str(failed):
             return []
         raise
+
+
+@functools.lru_cache(maxsize=None)
+def answers_bits() -> bool:
+    """Whether the program answers questions for coded bits; one of an older revision refuses the line."""
+    frame = bytes(MODES[1].input_bytes())
+    return not sheet_of(printed(["1", "1"], "0 P1 0 0\n\n", io.BytesIO(frame))).refused
 
 
 def run_sheet(given: argparse.Namespace) -> int:

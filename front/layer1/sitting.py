@@ -16,7 +16,7 @@ from .modes import MODES, mode_of, number_of
 from .outcomes import DONE, Failed, Misused, Refused
 from .questions import Run, Wanted, frames_of, list_for, refuse_missing
 from .record import Record
-from .sheets import number_of_sheet, worked_words
+from .sheets import answers_bits, number_of_sheet
 from .words import Parser, Verbs
 
 KINDS = {
@@ -97,7 +97,7 @@ def run_of(given: argparse.Namespace) -> Run:
 def wanted_of(given: argparse.Namespace, run: Run) -> Wanted:
     """How many questions of each kind; by default none of what the mode has not, nor of what the program does not answer."""
     missing = set() if run.matrices() else {"px", "fill"}
-    if given.bits is None and not worked_words():
+    if given.bits is None and not answers_bits():
         missing.add("bits")
         say("no questions for coded bits, since this program sheet answers cells alone\n")
     numbers = {}
