@@ -12,8 +12,9 @@ from pathlib import Path
 from typing import Dict, List, Set
 from unittest import mock
 
-from layer1 import drawing, marking, record
+from layer1 import drawing, marking, pdf, record
 from layer1.answers import BIT, PX, sheet_of
+from layer1.outcomes import Failed, Refused
 
 from . import papers
 from .bench import ROOT, Bench
@@ -204,6 +205,30 @@ class Sittings(unittest.TestCase):
         digest = record.digest((self.folder("eleven") / "02" / "frames").read_bytes())
         self.assertIn(f"02/frames: 82947 bytes, SHA-256 {digest}", lines)
         self.ends("layer1 sitting show eleven 1", 2, "no sheet of eleven has the number 1")
+
+    @unittest.skipUnless(shutil.which("chromium") and shutil.which("pdftotext"), "chromium and pdftotext are not installed")
+    def test_pdf(self) -> None:
+        """A PDF of each paper, recorded; every page has the name line, the candidate's number and the sheet's."""
+        shutil.copytree(self.folder("two"), self.folder("printed"))
+        self.addCleanup(shutil.rmtree, self.folder("printed"))
+        self.ends("layer1 sitting make printed 1 --pdf", 0, "1 sheet made")
+        number = record.opened(str(self.folder("printed"))).sheets["01"]
+        for name in ("papers/01.pdf", "examiner/01.pdf"):
+            pages = self.bench.run(f"pdftotext -layout printed/{name} -").stdout.decode().split("\f")[:-1]
+            self.assertGreater(len(pages), 1)
+            for page in pages:
+                self.assertRegex(page, rf"^\s*Name +Candidate +Sheet +Date +.*copy\n+ +01 +{number}\n")
+                self.assertRegex(page, r"Page \d+ of \d+\s*$")
+        before = tree(self.folder("printed"))
+        self.ends("layer1 sitting make printed 1 --pdf && layer1 sitting check printed", 0, "13 files are as recorded")
+        self.assertEqual(tree(self.folder("printed")), before)
+
+    def test_no_browser(self) -> None:
+        """Where nothing prints a PDF, that is said; what prints only a part of one has failed."""
+        with mock.patch("shutil.which", return_value=None), self.assertRaisesRegex(Refused, "none of them is installed"):
+            pdf.printed(Path("page.html"))
+        with mock.patch.object(pdf, "command", return_value=["true"]), self.assertRaisesRegex(Failed, "the PDF is not whole"):
+            pdf.printed(Path("page.html"))
 
     def test_words(self) -> None:
         """Words that cannot be meant."""
