@@ -1,5 +1,5 @@
-"""What the program sheet prints: a head, refused lines, answers, perhaps with workings, and an end, or why there is no sheet. The format of its lines stands here
-alone."""
+"""What the program sheet prints: a head, refused lines, answers, perhaps with workings, and an end, or why there is no sheet.
+The format of its lines stands here alone."""
 
 import re
 from dataclasses import dataclass, field, replace

@@ -1,4 +1,5 @@
-"""How an answer comes about, for the examiner: the working of its coded bit as the program prints it, and a small picture of the matrix with the place marked."""
+"""How an answer comes about, for the examiner: the working of its coded bit as the program prints it, and a small picture of the matrix with the place
+marked."""
 
 from typing import List
 

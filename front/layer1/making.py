@@ -1,4 +1,5 @@
-"""The sheet of a candidate, made from frames and questions: answers by the program sheet, the same from the second program where it is built, and both papers."""
+"""The sheet of a candidate, made from frames and questions: answers by the program sheet, the same from the second program where it is built, and both
+papers."""
 
 import io
 import os

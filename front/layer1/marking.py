@@ -1,4 +1,5 @@
-"""sitting mark: what a clerk typed from the boxes of a paper, held against the answers. Nothing is guessed: a line that does not fit is named, and nothing is marked."""
+"""sitting mark: what a clerk typed from the boxes of a paper, held against the answers. Nothing is guessed: a line that does not fit is named, and nothing
+is marked."""
 
 import argparse
 import csv

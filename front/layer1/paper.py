@@ -1,5 +1,5 @@
-"""A sheet for A4 paper, in black on white and with nothing from outside the page. A candidate's copy and an examiner's come from one layout: the same lines, but
-for the names of the copies, the text in the boxes, and the workings at the examiner's end."""
+"""A sheet for A4 paper, in black on white and with nothing from outside the page. A candidate's copy and an examiner's come from one layout: the same lines,
+but for the names of the copies, the text in the boxes, and the workings at the examiner's end."""
 
 from dataclasses import dataclass
 from html import escape
@@ -89,8 +89,8 @@ def copy_name(examiner: bool) -> str:
 
 def document(title: str, lines: List[str]) -> str:
     """A page with these lines."""
-    head = ["<!DOCTYPE html>", '<html lang="en">', "<head>", '<meta charset="utf-8">', f"<title>{title}</title>", "<style>", STYLE, "</style>", "</head>", "<body>"]
-    return "\n".join([*head, *lines, "</body>", "</html>"]) + "\n"
+    head = ["<!DOCTYPE html>", '<html lang="en">', "<head>", '<meta charset="utf-8">', f"<title>{title}</title>", "<style>", STYLE, "</style>", "</head>"]
+    return "\n".join([*head, "<body>", *lines, "</body>", "</html>"]) + "\n"
 
 
 def sheet_lines(paper: Paper, examiner: bool) -> List[str]:

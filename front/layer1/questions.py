@@ -1,4 +1,5 @@
-"""The questions of a candidate, drawn evenly over L1 frames, channels, blocks and partitions. Whose bit a cell shows is what the programs cells and sheet say."""
+"""The questions of a candidate, drawn evenly over L1 frames, channels, blocks and partitions. Whose bit a cell shows is what the programs cells and sheet
+say."""
 
 import re
 from dataclasses import dataclass

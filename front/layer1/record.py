@@ -1,4 +1,5 @@
-"""The record of a sitting, sitting.txt: what it is of, the number of each sheet, and size and SHA-256 of every file. Its last line is the SHA-256 of those above."""
+"""The record of a sitting, sitting.txt: what it is of, the number of each sheet, and size and SHA-256 of every file. Its last line is the SHA-256 of those
+above."""
 
 import hashlib
 import os

@@ -88,7 +88,8 @@ class Papers(unittest.TestCase):
         second = ROOT / "target" / "second" / "release" / "second"
         for mode in OLDER:
             with self.subTest(mode=mode, seed=SEED):
-                self.bench.run(f"{second} draw {SEED} {mode} 3 >drawn; {second} draw-cells {SEED} {mode} 3 | LC_ALL=C grep -aE '^[0-9]+ P(M|X[12])( [0-9]+)+$' | head -n 150 >all")
+                cells = "LC_ALL=C grep -aE '^[0-9]+ P(M|X[12])( [0-9]+)+$' | head -n 150"
+                self.bench.run(f"{second} draw {SEED} {mode} 3 >drawn; {second} draw-cells {SEED} {mode} 3 | {cells} >all")
                 found = self.run_front(f"sheet {mode} 3 all drawn --lines").splitlines()
                 good = [line for line in found[1:-1] if not line.startswith("REFUSED")]
                 self.assertGreaterEqual(len(good), 40)

@@ -89,7 +89,8 @@ class Sittings(unittest.TestCase):
                 handed, kept = ((self.folder(name) / part / f"{candidate}.html").read_text(encoding="utf-8") for part in ("papers", "examiner"))
                 wanted = lines_of(self.sheet(name, candidate))
                 self.assertEqual(papers.taken(kept), wanted)
-                self.assertEqual([re.sub(r"( _)+$", "", line) for line in papers.taken(handed)], [" ".join(line.split()[: len(line.split()) - line_boxes(line)]) for line in wanted])
+                asked = [" ".join(line.split()[: -line_boxes(line)]) for line in wanted]
+                self.assertEqual([re.sub(r"( _)+$", "", line) for line in papers.taken(handed)], asked)
                 self.assertEqual(papers.emptied(kept), papers.unnamed(handed))
                 number = record.opened(str(self.folder(name))).sheets[candidate]
                 for page in (handed, kept):
@@ -154,7 +155,8 @@ class Sittings(unittest.TestCase):
         self.ends("ulimit -f 32; layer1 sitting make broken", 3, "File too large")
         self.ends("LAYER1_PROGRAMS=failing layer1 sitting make broken", 3, "the output of sheet is not whole")
         self.differing()
-        self.ends("LAYER1_PROGRAMS=differing layer1 sitting make broken", 1, "candidate 01: the second program differs: 'MP1 1', where the program sheet has 'MP2 2")
+        said = "candidate 01: the second program differs: 'MP1 1', where the program sheet has 'MP2 2"
+        self.ends("LAYER1_PROGRAMS=differing layer1 sitting make broken", 1, said)
         self.assertEqual(tree(self.folder("broken")), drawn)
         self.ends("layer1 sitting mark broken 1 empty", 1, "the sheet of candidate 01 is not made yet")
         self.ends("layer1 sitting make broken 01", 0, "1 sheet made")
@@ -263,13 +265,15 @@ class Marks(unittest.TestCase):
     """Marking of a sitting in MP11."""
 
     bench: Bench
+    lines: List[str]
 
     @classmethod
     def setUpClass(cls) -> None:
         cls.bench = Bench()
         done = cls.bench.run(f"layer1 sitting new hall {MODES['eleven']} && layer1 sitting make hall")
         assert done.returncode == 0, done.stdout
-        cls.lines = [" ".join([line.split()[0], *line.split()[-line_boxes(line) :]]) for line in lines_of((cls.bench.folder / "hall/01/answers").read_text().splitlines())]
+        numbered = lines_of((cls.bench.folder / "hall/01/answers").read_text().splitlines())
+        cls.lines = [" ".join([line.split()[0], *line.split()[-line_boxes(line) :]]) for line in numbered]
 
     @classmethod
     def tearDownClass(cls) -> None:
@@ -292,8 +296,10 @@ class Marks(unittest.TestCase):
         total = sum(len(line.split()) - 1 for line in self.lines)
         self.assertIn(f"{total} of {total} points", self.mark(self.lines, 0, "--force"))
         self.assertEqual({row["result"] for row in self.marks()}, {"right", ""})
-        self.assertIn(f"{total} of {total} points", self.mark(list(reversed([line.lower().replace(" ", ",", 1).replace(" ", ", ") for line in self.lines])), 0))
-        self.assertIn(f"{total} of {total} points", self.mark(["No;1;2;3;4;5;6", *(line.replace(" ", ";") + ";" * (7 - len(line.split())) for line in self.lines)], 0))
+        commas = [line.lower().replace(" ", ",", 1).replace(" ", ", ") for line in reversed(self.lines)]
+        self.assertIn(f"{total} of {total} points", self.mark(commas, 0))
+        semicolons = [line.replace(" ", ";") + ";" * (7 - len(line.split())) for line in self.lines]
+        self.assertIn(f"{total} of {total} points", self.mark(["No;1;2;3;4;5;6", *semicolons], 0))
         wrong = [self.lines[0][:-1] + ("1" if self.lines[0][-1] == "0" else "0"), *self.lines[1:-1], str(len(self.lines))]
         self.assertIn("has other marks already; --force replaces them", self.mark(wrong, 1))
         said = self.mark(wrong, 0, "--force")
@@ -320,7 +326,7 @@ class Marks(unittest.TestCase):
         for change, said in (
             (lambda lines: [*lines, lines[0]], "line 16 is a second one for question 1"),
             (lambda lines: lines[1:], "there is no line for question 1; one without an answer is typed as its number alone"),
-            (lambda lines: [lines[0] + " 1", *lines[1:]], "line 1 has not one word for each box (channel, transfer frame, coded bit, value; _ for an empty one)"),
+            (lambda lines: [lines[0] + " 1", *lines[1:]], "line 1 has not one word for each box (channel, transfer frame, coded bit, value; _ for an"),
             (lambda lines: [lines[0].rpartition(" ")[0], *lines[1:]], "line 1 has not one word for each box"),
             (lambda lines: ["16 P1 0 1 1", *lines], "line 1 begins with no number of a question, 1 to 15: '16 P1 0 1 1'"),
             (lambda lines: ["P1 0 1 1", *lines], "line 1 begins with no number of a question"),

@@ -141,14 +141,16 @@ class Answers(unittest.TestCase):
 
     def test_workings(self) -> None:
         """A working belongs to the answer above it; each answer but FILL has one, if they were asked for."""
-        work = "WORK BIT 67040 GENERATOR 165 FRAME 1 0 1 1 0 0 1 SCRAMBLER 0 0 1 0 1 1 1 SUM 5 STEP 167602 K 523 BLOCK 10 PARTITION 18 ROW 25 COLUMN 30 CELL 249078"
+        work = "WORK BIT 67040 GENERATOR 165 FRAME 1 0 1 1 0 0 1 SCRAMBLER 0 0 1 0 1 1 1 SUM 5 STEP 167602 K 523"
+        work += " BLOCK 10 PARTITION 18 ROW 25 COLUMN 30 CELL 249078"
         lines = ["MP11 3 without P3 P4 work", "0 PM 345 678 P1 0 167602 1", work, "0 PX1 0 0 36 FILL", "END 2"]
         sheet = answers.sheet_of(lines)
         working = sheet.answers[0].working
         assert working is not None
         self.assertEqual((working.number, working.generator, working.bits[2:4], working.ones, working.row, working.cell), (67040, "165", (1, 1), 5, 25, 249078))
         self.assertTrue(sheet.worked and sheet.answers[1].fill)
-        for wrong in ([*lines[:2], *lines[3:]], [*lines[:3], work, *lines[3:]], [lines[0], work, *lines[1:]], [*lines[:4], work, lines[4]], ["MP11 3", *lines[1:]]):
+        twice, early, filled = [*lines[:3], work, *lines[3:]], [lines[0], work, *lines[1:]], [*lines[:4], work, lines[4]]
+        for wrong in ([*lines[:2], *lines[3:]], twice, early, filled, ["MP11 3", *lines[1:]]):
             with self.assertRaises(Failed):
                 answers.sheet_of(wrong)
 
