@@ -60,7 +60,7 @@ def plain(word: str) -> str:
 
 def typed(name: str, answers: Sequence[Answer]) -> Dict[int, List[str]]:
     """What stands in the boxes of each question."""
-    text = text_of(name, 1 << 20).encode("latin-1").decode("utf-8", "replace")
+    text = text_of(name, 1 << 20).encode("latin-1").decode("utf-8-sig", "replace")
     separator = ";" if ";" in text else "," if "," in text else None
     found: Dict[int, List[str]] = {}
     for number, line in enumerate(text.splitlines(), 1):

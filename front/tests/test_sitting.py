@@ -281,7 +281,7 @@ class Marks(unittest.TestCase):
 
     def mark(self, lines: List[str], status: int, words: str = "") -> str:
         """Marks lines for candidate 01."""
-        (self.bench.folder / "typed").write_text("".join(line + "\n" for line in lines))
+        (self.bench.folder / "typed").write_text("".join(line + "\n" for line in lines), encoding="utf-8")
         done = self.bench.run(f"layer1 sitting mark hall 1 typed {words}")
         self.assertEqual(done.returncode, status, done.stdout)
         return done.stdout.decode()
@@ -299,7 +299,7 @@ class Marks(unittest.TestCase):
         commas = [line.lower().replace(" ", ",", 1).replace(" ", ", ") for line in reversed(self.lines)]
         self.assertIn(f"{total} of {total} points", self.mark(commas, 0))
         semicolons = [line.replace(" ", ";") + ";" * (7 - len(line.split())) for line in self.lines]
-        self.assertIn(f"{total} of {total} points", self.mark(["No;1;2;3;4;5;6", *semicolons], 0))
+        self.assertIn(f"{total} of {total} points", self.mark(["\ufeffNo;1;2;3;4;5;6", *semicolons], 0))
         wrong = [self.lines[0][:-1] + ("1" if self.lines[0][-1] == "0" else "0"), *self.lines[1:-1], str(len(self.lines))]
         self.assertIn("has other marks already; --force replaces them", self.mark(wrong, 1))
         said = self.mark(wrong, 0, "--force")
