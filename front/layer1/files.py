@@ -211,8 +211,9 @@ def synced(folder: Path) -> None:
         os.close(handle)
 
 
-def write_all(folder: Path, content: Dict[str, bytes]) -> None:
-    """Writes files into a folder under their names: all of them are on the disk before the first gets its name, and none stays where one cannot be written."""
+def write_all(folder: Path, content: Dict[str, bytes], named: Optional[Path] = None) -> None:
+    """Writes files into a folder under their names: all of them are on the disk before the first gets its name, and none stays where one cannot be written.
+    The folder may be named by what it becomes."""
     temporary: Dict[str, Path] = {}
     new = []
     try:
@@ -235,7 +236,7 @@ def write_all(folder: Path, content: Dict[str, bytes]) -> None:
         for parent in {(folder / name).parent for name in content}:
             synced(parent)
     except OSError as error:
-        raise Failed(f"{folder} is not written: {reason(error)}") from None
+        raise Failed(f"{named or folder} is not written: {reason(error)}") from None
     finally:
         for path in [*temporary.values(), *new]:
             with contextlib.suppress(OSError):

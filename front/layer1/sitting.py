@@ -163,7 +163,7 @@ def whole_folder(folder: Path, content: Dict[str, bytes]) -> None:
         with tempfile.TemporaryDirectory(prefix=folder.name + ".", dir=folder.resolve().parent) as beside:
             new = Path(beside) / "new"
             new.mkdir()
-            write_all(new, content)
+            write_all(new, content, folder)
             new.chmod(0o777 & ~umask())
             if os.path.lexists(folder):
                 raise Misused(f"{folder} exists; a sitting is never drawn over another one")
