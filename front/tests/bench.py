@@ -69,9 +69,10 @@ class Bench:
             subprocess.run([ROOT / ".ci" / "second"], stdout=subprocess.DEVNULL, check=True)
         if not os.access(BUILT / "owners", os.X_OK):
             standins.put(self.programs, "owners", "owners")
+        (self.folder / "worked").mkdir()
         if not made("sheet", "1", "0", "work", given=b"\n").startswith(b"MP1"):
-            standins.put(self.programs, "sheet", "sheet")
-            standins.put(self.programs, "second", "second")
+            standins.put(self.folder / "worked", "sheet", "sheet")
+            standins.put(self.folder / "worked", "second", "second")
         for name in ("failing", "complaining"):
             (self.folder / name).mkdir()
             for program in ("owners", "sheet", "sender", "reader", "judge", "keys", "vector", "nearest", "restore", "allocate"):

@@ -1,7 +1,6 @@
-"""Stand-ins for programs that a revision does not have yet, for the tests alone: owners, by the program cells and by the equations of 10.2.6; sheet, with lines
-for bits and workings by the second program; programs that fail. Where target/bin has the program itself, it is used."""
+"""Stand-ins for programs that a revision does not have yet, for the tests alone: owners, by the program cells and by the equations of 10.2.6; sheet with
+workings, by the second program; programs that fail. Where target/bin has the program itself, it is used."""
 
-import hashlib
 import os
 import re
 import subprocess
@@ -117,35 +116,37 @@ def owners(words: List[str]) -> None:
         print(f"REFUSED {number}" if answer is None else " ".join([*words_of_line, answer]))
 
 
-class BothKinds:
-    """The program sheet with lines for coded bits and workings: cells by the program that is built, bits and workings by the second program."""
+class Worked:
+    """The program sheet with the word work: answers by the program that is built, workings by the second program."""
 
     def __init__(self, words: List[str], data: bytes) -> None:
-        self.work = words[-1] == "work"
-        self.words = [word for word in words if word != "work"]
-        self.mode, self.count = self.words[0], int(self.words[1])
-        questions, self.frames = (b"", data[1:]) if data[:1] == b"\n" else data.split(b"\n\n", 1)
-        self.lines = questions.decode("latin-1").splitlines()
+        self.words = words[:-1]
+        self.mode, self.count = words[0], int(words[1])
+        self.data = data
+        self.frames = data[1:] if data[:1] == b"\n" else data.split(b"\n\n", 1)[1]
 
-    def cells(self, lines: List[str]) -> Dict[str, str]:
-        """The answers to lines for cells, by line."""
-        given = "".join(line + "\n" for line in lines).encode("latin-1") + b"\n" + self.frames
-        done = subprocess.run([BUILT / "sheet", *self.words], input=given, stdout=subprocess.PIPE, stderr=subprocess.PIPE)
-        printed = done.stdout.decode().splitlines()
-        if done.stderr or not printed or not printed[0].startswith("MP"):
-            sys.stderr.buffer.write(done.stderr)
-            sys.stdout.buffer.write(done.stdout)
-            sys.exit(0)
-        return {line: answer for line in lines for answer in printed if answer.startswith(line + " ")}
+    def printed(self) -> str:
+        """The whole sheet."""
+        done = subprocess.run([BUILT / "sheet", *self.words], input=self.data, stdout=subprocess.PIPE, stderr=subprocess.PIPE)
+        lines = done.stdout.decode().splitlines()
+        sys.stderr.buffer.write(done.stderr)
+        if not lines or not lines[0].startswith("MP"):
+            return done.stdout.decode()
+        out = [f"{lines[0]} work"]
+        for line in lines[1:]:
+            coded = self.coded(line.split())
+            out += [line] + ([self.working(*coded)] if coded else [])
+        return "\n".join(out) + "\n"
 
-    def bits(self, lines: List[str]) -> Dict[str, List[str]]:
-        """For lines for bits the words of the cell."""
-        done = subprocess.run([SECOND, "owners", self.mode], input="".join(line + "\n" for line in lines).encode(), stdout=subprocess.PIPE)
-        found = {}
-        for line, answer in zip(lines, done.stdout.decode().splitlines()):
-            if answer.startswith(line + " ") and int(line.split()[0]) < self.count:
-                found[line] = answer.split()[4:]
-        return found
+    def coded(self, words: List[str]) -> Optional[Tuple[int, str, str, str]]:
+        """The coded bit of an answer: L1 frame, channel, transfer frame and bit."""
+        if words[0] in ("REFUSED", "END") or words[-1] == "FILL":
+            return None
+        if words[1] == "PM":
+            return int(words[0]), words[4], words[5], words[6]
+        if words[1].startswith("PX"):
+            return int(words[6]), words[5], words[7], words[8]
+        return int(words[0]), words[1], words[2], words[3]
 
     def working(self, frame: int, channel: str, tframe: str, bit: str) -> str:
         """The line of a working."""
@@ -168,52 +169,12 @@ class BothKinds:
         place = f"BLOCK {block} PARTITION {partition} ROW {row} COLUMN {column} CELL {one['cell']}"
         return f"WORK BIT {one['number']} GENERATOR {int(one['generator']):o} {seven} STEP {one['step']} K {one['k']} {place}"
 
-    def printed(self) -> List[str]:
-        """The whole sheet."""
-        asks_bit = {line: re.match(r"\d+ (P[134]|PIDS) ", line) is not None for line in self.lines}
-        places = self.bits([line for line in self.lines if asks_bit[line]])
-        shown = {line: f"{words[1]} {words[0]} {' '.join(words[2:])}" for line, words in places.items()}
-        cells = self.cells([shown.get(line, line) for line in self.lines if not asks_bit[line] or line in shown])
-        refused, answers = [], []
-        for number, line in enumerate(self.lines, 1):
-            answer = self.answer(line, places.get(line), cells.get(shown.get(line, line)), asks_bit[line])
-            if answer is None:
-                refused.append(f"REFUSED {number}")
-            else:
-                sent = int(places[line][1]) if asks_bit[line] else int(line.split()[0])
-                answers.append((sent if sent < self.count else self.count, answer))
-        head = f"MP{self.mode} {' '.join(self.words[1:])}{' work' if self.work else ''}"
-        body = [line for _, lines in sorted(answers, key=lambda each: each[0]) for line in lines]
-        return [head, *refused, *body, f"END {len(answers)}"]
-
-    def answer(self, line: str, place: Optional[List[str]], cell: Optional[str], asks_bit: bool) -> Optional[List[str]]:
-        """An answer, and its working where that is asked for."""
-        if (asks_bit and place is None) or (not asks_bit and cell is None):
-            return None
-        words = line.split()
-        if asks_bit:
-            assert place is not None
-            value = cell.split()[-1] if cell else "LATER"
-            out, coded = [f"{line} {' '.join(place)} {value}"], (int(words[0]), words[1], words[2], words[3])
-        else:
-            assert cell is not None
-            out, owner = [cell], cell.split()[len(words) :]
-            if owner == ["FILL"]:
-                return out
-            coded = (int(words[0] if words[1] == "PM" else owner[1]), owner[0], owner[-3], owner[-2])
-        return out + ([self.working(*coded)] if self.work else [])
-
 
 def sheet(words: List[str]) -> None:
-    """sheet MODE COUNT [without ..] [work]; what the program that is built can answer goes to it as it is."""
+    """sheet MODE COUNT [without ..] [work]; what is asked for without workings goes to the program that is built."""
     data = sys.stdin.buffer.read()
-    if words[-1:] == ["work"] or re.search(rb"(?m)^\d+ (P[134]|PIDS) ", data.split(b"\n\n", 1)[0]):
-        kept = Path(sys.argv[0]).parent / f"kept-{hashlib.sha256(' '.join(words).encode() + data).hexdigest()}"
-        text = kept.read_text() if kept.exists() else "\n".join(BothKinds(words, data).printed()) + "\n"
-        sys.stdout.write(text)
-        beside = kept.with_name(f"{kept.name}.{os.getpid()}")
-        beside.write_text(text)
-        beside.rename(kept)
+    if words[-1:] == ["work"]:
+        sys.stdout.write(Worked(words, data).printed())
         return
     done = subprocess.run([BUILT / "sheet", *words], input=data, stdout=subprocess.PIPE, stderr=subprocess.PIPE)
     sys.stderr.buffer.write(done.stderr)
@@ -221,7 +182,7 @@ def sheet(words: List[str]) -> None:
 
 
 def second(words: List[str]) -> None:
-    """The second program where it has no such lines: its sheet is the stand-in's, the rest its own."""
+    """The second program where it has no workings on a sheet: its sheet is the stand-in's, the rest its own."""
     if words[0] == "sheet":
         sheet(words[1:])
     else:

@@ -65,7 +65,7 @@ class Sittings(unittest.TestCase):
         for name in MODES:
             self.assertEqual(set(tree(self.folder(name))), wanted)
             self.assertEqual(set(record.opened(str(self.folder(name))).hashes), wanted - {"sitting.txt"})
-        self.assertEqual([path.name for path in self.bench.folder.iterdir() if "." in path.name], [])
+        self.assertEqual([path.name for path in self.bench.folder.iterdir() if path.name.startswith(("eleven.", "two."))], [])
 
     def test_questions(self) -> None:
         """As many of each kind as asked for; L1 frames spread; none twice; line, answer and paper have one number."""
@@ -99,13 +99,27 @@ class Sittings(unittest.TestCase):
         self.assertIn("MP2, 2 L1 frames, without P3. Software ", (self.folder("two") / "papers" / "01.html").read_text(encoding="utf-8"))
 
     def test_workings(self) -> None:
-        """The examiner's copy has the working of each answer but FILL, and a picture for each."""
-        found = sheet_of(self.sheet("eleven", "01"))
-        page = (self.folder("eleven") / "examiner" / "01.html").read_text(encoding="utf-8")
+        """With a program that prints workings: the examiner's copy has that of each answer but FILL, a picture for each, and a mark shows it."""
+        words = "export LAYER1_PROGRAMS=worked; layer1 sitting"
+        self.ends(f"{words} new deep {MODES['eleven']} && layer1 sitting make deep && layer1 sitting check deep", 0, "2 of 2 sheets made again are the same")
+        self.addCleanup(shutil.rmtree, self.folder("deep"))
+        lines = self.sheet("deep", "01")
+        found = sheet_of(lines)
+        self.assertTrue(found.worked)
+        self.assertEqual(lines_of(lines), lines_of(self.sheet("eleven", "01")))
+        page = (self.folder("deep") / "examiner" / "01.html").read_text(encoding="utf-8")
+        handed = (self.folder("deep") / "papers" / "01.html").read_text(encoding="utf-8")
+        self.assertEqual(handed, (self.folder("eleven") / "papers" / "01.html").read_text(encoding="utf-8"))
+        self.assertEqual(papers.taken(page), lines_of(lines))
+        self.assertEqual(papers.emptied(page), papers.unnamed(handed))
         self.assertEqual(page.count("<svg "), len(found.answers))
         for answer in found.answers:
             if answer.working is not None:
                 self.assertIn(f"bit j = {answer.working.number}, generator {answer.working.generator}", page)
+        typed = "".join(f"{n} {'_ ' * (line_boxes(line) - 1)}X\n" for n, line in enumerate(lines_of(lines), 1))
+        (self.bench.folder / "deep.typed").write_text(typed)
+        self.addCleanup(os.unlink, self.bench.folder / "deep.typed")
+        self.ends(f"{words} mark deep 1 deep.typed", 0, "    working   bit ")
 
     def test_again(self) -> None:
         """A second drawing in the same place is refused; made again, nothing changes; the same seed draws the same; check finds nothing."""
@@ -306,7 +320,7 @@ class Marks(unittest.TestCase):
         first = self.lines[0].split()
         self.assertIn(f"1: wrong, {len(first) - 2} of {len(first) - 1}\n", said)
         self.assertIn(f"    answer    {first[1]}", said)
-        self.assertIn("    working   bit ", said)
+        self.assertIn("    sheet     0 " if "WORK" not in (self.bench.folder / "hall/01/answers").read_text() else "    working   bit ", said)
         self.assertIn(f"{len(self.lines)}: empty, 0 of ", said)
         rows = self.marks()
         self.assertEqual((rows[0]["result"], rows[0]["boxes"].split()[-1], rows[-2]["result"], rows[-1]["number"]), ("wrong", "wrong", "empty", "total"))

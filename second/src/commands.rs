@@ -358,7 +358,7 @@ fn send_behind(
     Ok(())
 }
 
-/// House matter: the sheet of an input, a list of cells and the L1 frames behind it.
+/// House matter: the sheet of an input, a list and the L1 frames behind it.
 fn sheet_text(mode: u64, count: u64, without: Without, input: &[u8]) -> Result<String, Stop> {
     if ![1, 2, 3, 11].contains(&mode) {
         return Err(Stop::NoSheet(NoSheet::Mode));
@@ -387,7 +387,7 @@ fn sheet_text(mode: u64, count: u64, without: Without, input: &[u8]) -> Result<S
         };
         text += &sheet.answers(frame, &matrices);
     }
-    Ok(text + &sheet.end())
+    Ok(text + &sheet.end(count))
 }
 
 /// House matter: prints the sheet of an input, or why there is none.

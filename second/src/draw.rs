@@ -286,7 +286,26 @@ fn difference(draw: &mut Draw, bits: usize) -> Vec<bool> {
 }
 
 /// Lines of a cell list at the edge of what can be answered, and of each sort that cannot.
-const EDGES: [&[u8]; 46] = [
+const EDGES: [&[u8]; 65] = [
+    b"0 P1 0 365439",
+    b"0 P1 0 365440",
+    b"0 P1 1 0",
+    b"0 PIDS 15 199",
+    b"0 PIDS 15 200",
+    b"0 PIDS 16 0",
+    b"0 P3 7 4607",
+    b"0 P3 7 4608",
+    b"0 P3 7 9215",
+    b"0 P3 7 9216",
+    b"0 P3 8 0",
+    b"0 P4 7 9215",
+    b"0 P4 7 9216",
+    b"0 P4 8 0",
+    b"00 P3 007 0042",
+    b"0 P1 0",
+    b"0 P1 0 0 0",
+    b"0 P2 0 0",
+    b"0 P5 0 0",
     b"0 PM 511 719",
     b"0 PM 512 0",
     b"0 PM 0 720",
@@ -335,18 +354,20 @@ const EDGES: [&[u8]; 46] = [
     b"\xFF PM 0 0",
 ];
 
-/// Drawn cells: a list with its empty line, cells of every matrix and every L1 frame between the
-/// edges.
+/// Drawn cells: a list with its empty line, cells of every matrix and bits of every channel, of
+/// every L1 frame, between the edges.
 pub fn cell_list(seed: u64, mode: &Mode, count: u64) -> Vec<u8> {
     let mut draw = Draw::new(seed);
-    let beyond = [count, count.saturating_add(1)].map(|frame| format!("{frame} PM 0 0"));
+    let beyond = [("PM", count), ("P3", count), ("PM", count.saturating_add(1))]
+        .map(|(name, frame)| format!("{frame} {name} 0 0"));
     let beyond = beyond.iter().map(|line| line.as_bytes());
     let edges: Vec<&[u8]> = EDGES.into_iter().chain(beyond).collect();
     let first = draw.index(edges.len());
     let mut list = Vec::new();
     for n in 0.. {
-        let line = match n % 4 {
-            0 => edges[(first + n / 4) % edges.len()].to_vec(),
+        let line = match n % 5 {
+            0 => edges[(first + n / 5) % edges.len()].to_vec(),
+            1 | 2 => drawn_bit(&mut draw, mode, count).into_bytes(),
             _ => drawn_cell(&mut draw, mode, count).into_bytes(),
         };
         if list.len() + line.len() + 2 > LIST_BYTES {
@@ -379,6 +400,32 @@ fn drawn_cell(draw: &mut Draw, mode: &Mode, count: u64) -> String {
             let (name, row) = sent[chosen];
             let (pair, line, column) = (draw.below(8), draw.below(64), draw.index(row.width()));
             format!("{frame} {name} {pair} {line} {column}")
+        }
+    }
+}
+
+/// Drawn cells: the line of a coded bit of one of the mode's channels, half of P3's and P4's of the
+/// last two L1 frames, since they may be sent after the run.
+fn drawn_bit(draw: &mut Draw, mode: &Mode, count: u64) -> String {
+    let late = draw.coin();
+    let frame = match late && count > 2 {
+        true => count - 2 + draw.below(2),
+        false => draw.below(count.max(1)),
+    };
+    let px = [("P3", mode.p3.row), ("P4", mode.p4.row)];
+    let sent: Vec<_> = px
+        .iter()
+        .filter_map(|&(name, row)| Some((name, row?)))
+        .collect();
+    match draw.index(2 + sent.len()).checked_sub(2) {
+        None if draw.coin() => format!("{frame} P1 0 {}", draw.index(U_BITS)),
+        None => {
+            let bit = draw.index(ALL_PIDS_CODED_BITS);
+            format!("{frame} PIDS {} {}", bit / 200, bit % 200)
+        }
+        Some(chosen) => {
+            let (name, row) = sent[chosen];
+            format!("{frame} {name} {} {}", draw.below(8), draw.index(row.frame_bits))
         }
     }
 }

@@ -1,9 +1,11 @@
-//! The sheet: whose bit stands in each listed cell of a run's L1 frames, and the bit.
+//! The sheet: whose bit stands in each listed cell of a run's L1 frames, in which cell each listed
+//! bit of its transfer frames is sent, and the bit.
 
 use std::fmt;
 
 use crate::cells::{decimal, find, Channel};
 use crate::interleaving::{PxRow, PM_COLUMNS, PM_ROWS};
+use crate::locating::{locate, NAMES};
 use crate::modes::{Extended, Mode, Without};
 use crate::packing::unpack;
 use crate::run::Refusal;
@@ -90,52 +92,82 @@ pub fn head(mode: &Mode, count: u64, without: Without) -> String {
     format!("MP{} {count}{channels}\n", mode.number)
 }
 
-/// A cell that the list asks for.
+/// What a line asks for.
+enum What {
+    /// A cell by the place of its matrix in MATRICES and its number there, row by row, the eight
+    /// matrices of PX end to end.
+    Cell { matrix: usize, cell: usize },
+    /// A coded bit of P1 or PIDS by its cell of PM.
+    InPm { cell: usize },
+    /// A coded bit of P3 (0) or P4 (1) by its number among its L1 frame's.
+    InPx { px: usize, number: usize },
+}
+
+/// A line that can be answered.
 struct Asked {
     frame: u64,
-    /// The place of its matrix in MATRICES.
-    matrix: usize,
-    /// Its number in that matrix (the eight of PX end to end), row by row.
-    cell: usize,
-    /// Its line of the list, the numbers without leading zeros.
+    what: What,
+    /// The line with its numbers without leading zeros.
     line: String,
 }
 
 impl Asked {
-    /// House matter: the cell of a line; none if the line cannot be answered.
+    /// House matter: what a line asks for; none if it cannot be answered.
     fn of_line(mode: &Mode, count: u64, line: &[u8]) -> Option<Asked> {
         let words: Vec<&[u8]> = line.split(|&byte| byte == b' ').collect();
         let [frame, name, numbers @ ..] = &words[..] else {
             return None;
         };
         let frame = decimal(frame)? as u64;
-        let matrix = MATRICES
-            .iter()
-            .position(|known| known.as_bytes() == *name)?;
+        let name = std::str::from_utf8(name).ok()?;
         let numbers: Vec<usize> = numbers
             .iter()
             .map(|word| decimal(word))
             .collect::<Option<_>>()?;
-        let limits = limits(mode, matrix)?;
-        let within = numbers.iter().zip(&limits).all(|(n, limit)| n < limit);
-        if frame >= count || numbers.len() != limits.len() || !within {
+        let what = match NAMES.iter().position(|known| *known == name) {
+            Some(channel) => bit_asked(mode, channel, &numbers)?,
+            None => cell_asked(mode, name, &numbers)?,
+        };
+        if frame >= count {
             return None;
         }
-        let cell = numbers
-            .iter()
-            .zip(&limits)
-            .fold(0, |cell, (n, limit)| cell * limit + n);
-        let mut line = format!("{frame} {}", MATRICES[matrix]);
+        let mut line = format!("{frame} {name}");
         for number in numbers {
             line += &format!(" {number}");
         }
-        Some(Asked {
-            frame,
-            matrix,
-            cell,
-            line,
-        })
+        Some(Asked { frame, what, line })
     }
+}
+
+/// A cell by the name of its matrix and its numbers.
+fn cell_asked(mode: &Mode, name: &str, numbers: &[usize]) -> Option<What> {
+    let matrix = MATRICES.iter().position(|known| *known == name)?;
+    let limits = limits(mode, matrix)?;
+    let within = numbers.iter().zip(&limits).all(|(n, limit)| n < limit);
+    if numbers.len() != limits.len() || !within {
+        return None;
+    }
+    let cell = numbers
+        .iter()
+        .zip(&limits)
+        .fold(0, |cell, (n, limit)| cell * limit + n);
+    Some(What::Cell { matrix, cell })
+}
+
+/// A coded bit by its channel's place in NAMES, its transfer frame and its number there.
+fn bit_asked(mode: &Mode, channel: usize, numbers: &[usize]) -> Option<What> {
+    let &[frame, bit] = numbers else {
+        return None;
+    };
+    if channel < 2 {
+        let cell = locate(channel as u64 + 1, frame, bit).ok()?;
+        return Some(What::InPm { cell });
+    }
+    let px = channel - 2;
+    let row = [&mode.p3, &mode.p4][px].row?;
+    let inside = frame < 8 && bit < row.frame_bits;
+    let number = frame * row.frame_bits + bit;
+    inside.then_some(What::InPx { px, number })
 }
 
 /// Sections 10.2.2 and 10.4.2: what the numbers of a cell are below: row and column in PM; block
@@ -183,7 +215,11 @@ pub struct Sheet {
     asked: Vec<Asked>,
     refused: Vec<usize>,
     tagged: [Option<Tagged>; 2],
+    answered: usize,
 }
+
+/// The tags in PX1 and in PX2 of an L1 frame.
+type Tags = [Vec<Tag>; 2];
 
 impl Sheet {
     /// House matter: the sheet of a list, without its empty line.
@@ -192,6 +228,7 @@ impl Sheet {
             asked: Vec::new(),
             refused: Vec::new(),
             tagged: [&mode.p3, &mode.p4].map(Tagged::fresh),
+            answered: 0,
         };
         let lines = list.split_inclusive(|&byte| byte == b'\n');
         for (n, line) in lines.enumerate() {
@@ -209,28 +246,98 @@ impl Sheet {
         self.refused.iter().map(line).collect()
     }
 
-    /// House matter: the last line, with the number of answers.
-    pub fn end(&self) -> String {
-        format!("END {}\n", self.asked.len())
+    /// Section 10.4.2: the tags in the matrices of the next L1 frame.
+    fn next_tags(&mut self, frame: u64) -> Tags {
+        self.tagged.each_mut().map(|tagged| match tagged {
+            Some(tagged) => tagged.next(frame),
+            None => Vec::new(),
+        })
     }
 
     /// House matter: the answers for the next L1 frame, of which the matrices are given.
     pub fn answers(&mut self, frame: u64, matrices: &[Vec<u8>; 4]) -> String {
         let matrices = matrices.each_ref().map(|matrix| unpack(matrix));
-        let tags = self.tagged.each_mut().map(|tagged| match tagged {
-            Some(tagged) => tagged.next(frame),
-            None => Vec::new(),
-        });
+        let tags = self.next_tags(frame);
         let mut answers = String::new();
-        for asked in self.asked.iter().filter(|asked| asked.frame == frame) {
-            let value = u8::from(matrices[asked.matrix][asked.cell]);
-            answers += &asked.line;
-            answers += &match asked.matrix {
-                0 => pm_answer(asked.cell, value),
-                px => self.px_answer(px - 1, tags[px - 1][asked.cell], value),
-            };
+        let mut left = Vec::new();
+        for asked in std::mem::take(&mut self.asked) {
+            match self.answer(frame, &matrices, &tags, &asked) {
+                Some(answer) => {
+                    answers += &format!("{}{answer}", asked.line);
+                    self.answered += 1;
+                }
+                None => left.push(asked),
+            }
         }
+        self.asked = left;
         answers
+    }
+
+    /// House matter: what is said behind a line in an L1 frame; none if it is answered in another.
+    fn answer(
+        &self,
+        frame: u64,
+        matrices: &[Vec<bool>; 4],
+        tags: &Tags,
+        asked: &Asked,
+    ) -> Option<String> {
+        let value = |matrix: usize, cell: usize| u8::from(matrices[matrix][cell]);
+        match asked.what {
+            What::InPx { px, number } => {
+                let place = self.place(px, frame, tags, asked.frame, number)?;
+                let cell = tag_of(tags, px, asked.frame, number)?;
+                Some(format!("{place} {}\n", value(px + 1, cell)))
+            }
+            _ if asked.frame != frame => None,
+            What::InPm { cell } => {
+                let (row, column) = (cell / PM_COLUMNS, cell % PM_COLUMNS);
+                Some(format!(" PM {frame} {row} {column} {}\n", value(0, cell)))
+            }
+            What::Cell { matrix: 0, cell } => Some(pm_answer(cell, value(0, cell))),
+            What::Cell { matrix, cell } => {
+                let value = value(matrix, cell);
+                Some(self.px_answer(matrix - 1, tags[matrix - 1][cell], value))
+            }
+        }
+    }
+
+    /// Section 10.4.2: the cell of PX1 (0) or PX2 (1) of an L1 frame that shows this coded bit of
+    /// that L1 frame, by searching its tags.
+    fn place(
+        &self,
+        px: usize,
+        frame: u64,
+        tags: &Tags,
+        from: u64,
+        number: usize,
+    ) -> Option<String> {
+        let cell = tag_of(tags, px, from, number)?;
+        let width = self.tagged[px].as_ref()?.row.width();
+        let (line, column) = (cell / width, cell % width);
+        let (pair, row) = (line / 64, line % 64);
+        Some(format!(" {} {frame} {pair} {row} {column}", MATRICES[px + 1]))
+    }
+
+    /// House matter: what is left, each in an L1 frame after the run's last, and the last line
+    /// with the number of answers.
+    pub fn end(&mut self, count: u64) -> String {
+        let after = [count, count + 1].map(|frame| (frame, self.next_tags(frame)));
+        let mut text = String::new();
+        for asked in std::mem::take(&mut self.asked) {
+            let What::InPx { px, number } = asked.what else {
+                unreachable!("every other line asks for something of an L1 frame of the run")
+            };
+            let place = |(frame, tags): &(u64, Tags)| {
+                self.place(px, *frame, tags, asked.frame, number)
+            };
+            let place = after
+                .iter()
+                .find_map(place)
+                .expect("a bit is sent at most two L1 frames later");
+            text += &format!("{}{place} LATER\n", asked.line);
+            self.answered += 1;
+        }
+        text + &format!("END {}\n", self.answered)
     }
 
     /// Section 10.4.2: whose bit a cell of PX1 (0) or PX2 (1) shows, and the bit.
@@ -253,4 +360,9 @@ fn pm_answer(cell: usize, value: u8) -> String {
         _ => "P1",
     };
     format!(" {channel} {} {} {value}\n", found.frame, found.bit)
+}
+
+/// The cell of PX1 (0) or PX2 (1) with this tag.
+fn tag_of(tags: &Tags, px: usize, from: u64, number: usize) -> Option<usize> {
+    tags[px].iter().position(|tag| *tag == Some((from, number)))
 }

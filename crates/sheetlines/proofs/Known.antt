@@ -6,8 +6,7 @@ use mathlib.Core.List.{List}
 use Rattle.bits.specs.Tests.{same}
 use Rattle.operands.specs.Operands.{operandOf}
 use Rattle.operands.specs.declared.Operand.{Operand}
-use Rattle.sheetlines.specs.Questions.{asking, namedPM, namedPX1, namedPX2, pmQuestion, pxQuestion, plainQuestion, rest, word}
-use Rattle.sheetlines.specs.declared.questions.Question.the-variants.{Wrong}
+use Rattle.sheetlines.specs.Questions.{asking, named, namedPX1, namedPX2, pxQuestion, plainQuestion, rest, twoQuestion, word}
 
 pub read-as : {text cut : List ℕ} {read answer : Operand} → cut ≡ text → read ≡ operandOf cut → read ≡ answer → operandOf text ≡ answer
 read-as e f g = sym (ap operandOf e) ∙ sym f ∙ g
@@ -18,22 +17,16 @@ pub words-cut : (line : List ℕ) {frame tail matrix place : List ℕ} → frame
 unfolding plainQuestion
 words-cut line f t m p = rw (f, m, p, t)
 
--- by the matrix's name
-module _ (frame matrix place : List ℕ) where
-  pub asks-pm : same matrix namedPM ≡ true → pmQuestion frame place ≡ asking frame matrix place
+-- by the name
+module _ (frame name place : List ℕ) where
+  pub asks-px1 : same name namedPX1 ≡ true → pxQuestion 3 frame place ≡ asking frame name place
   unfolding asking
-  asks-pm e = rw e
+  asks-px1 e = rw e
 
-  pub asks-px1 : same matrix namedPM ≡ false → same matrix namedPX1 ≡ true → pxQuestion 3 frame place ≡ asking frame matrix place
+  pub asks-px2 : same name namedPX1 ≡ false → same name namedPX2 ≡ true → pxQuestion 4 frame place ≡ asking frame name place
   unfolding asking
-  asks-px1 e f = rw (e, f)
+  asks-px2 e f = rw (e, f)
 
-  pub asks-px2 : same matrix namedPM ≡ false → same matrix namedPX1 ≡ false → same matrix namedPX2 ≡ true
-      → pxQuestion 4 frame place ≡ asking frame matrix place
+  pub asks-two : same name namedPX1 ≡ false → same name namedPX2 ≡ false → (n : ℕ) → n ≡ named name → twoQuestion n frame place ≡ asking frame name place
   unfolding asking
-  asks-px2 e f g = rw (e, f, g)
-
-  pub asks-nothing : same matrix namedPM ≡ false → same matrix namedPX1 ≡ false → same matrix namedPX2 ≡ false
-      → Wrong ≡ asking frame matrix place
-  unfolding asking
-  asks-nothing e f g = rw (e, f, g)
+  asks-two e f n g = rw (e, f, g)

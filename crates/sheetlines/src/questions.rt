@@ -1,12 +1,12 @@
-// What a line of the cell list asks for.
+// What a line of the list asks for.
 use operands::Operand;
 use text::plain_line;
 use text::rest;
 use text::word;
 ghost use mathlib.Core.Path.{_≡_};
-ghost use Rattle.sheetlines.specs.Questions.{plainQuestion, pmQuestion, pxQuestion, questionOf};
+ghost use Rattle.sheetlines.specs.Questions.{named, plainQuestion, pxQuestion, questionOf, two as «two-of», twoQuestion};
 
-// A cell of an L1 frame: of PM, or of PX1 (channel 3) or PX2 (channel 4) with the block pair.
+// A cell of an L1 frame: of PM, or of PX1 (channel 3) or PX2 (channel 4) with the block pair. Or a coded bit of channel 1 (P1), 2 (PIDS), 3 (P3) or 4 (P4), by the L1 frame with which its transfer frame was handed over.
 pub enum Question {
     Pm {
         frame: u64,
@@ -20,27 +20,73 @@ pub enum Question {
         row: usize,
         column: usize,
     },
+    Bit {
+        frame: u64,
+        channel: u8,
+        tframe: usize,
+        bit: usize,
+    },
     Wrong,
 }
 
-// A cell of PM: its row and its column.
-fn pm_question(frame: &[u8], place: &[u8]) -> Question
-    ensures { λ r. ⌜ r ≡ pmQuestion (now (frame .entry)) (now (place .entry)) ⌝ }
+// The number of a name: 0 of PM, 1 to 4 of P1, PIDS, P3 and P4, 5 of any other.
+fn name_number(name: &[u8]) -> u8
+    ensures { λ r. ⌜ r ≡ named (now (name .entry)) ⌝ }
+{
+    if bits::same(name, b"PM") {
+        return 0;
+    }
+    if bits::same(name, b"P1") {
+        return 1;
+    }
+    if bits::same(name, b"PIDS") {
+        return 2;
+    }
+    if bits::same(name, b"P3") {
+        return 3;
+    }
+    if bits::same(name, b"P4") {
+        return 4;
+    }
+    5
+}
+
+// A cell of PM by its row and its column, or a coded bit by its transfer frame and its number in it.
+fn two(name: u8, frame: u64, first: u64, second: u64) -> Question
+    ensures { λ r. ⌜ r ≡ «two-of» name frame first second ⌝ }
+{
+    if name == 0 {
+        return Question::Pm {
+            frame,
+            row: first as usize,
+            column: second as usize,
+        };
+    }
+    if name < 5 {
+        return Question::Bit {
+            frame,
+            channel: name,
+            tframe: first as usize,
+            bit: second as usize,
+        };
+    }
+    Question::Wrong
+}
+
+// The same, with the numbers as they stand in the line.
+fn two_question(name: u8, frame: &[u8], place: &[u8]) -> Question
+    ensures { λ r. ⌜ r ≡ twoQuestion name (now (frame .entry)) (now (place .entry)) ⌝ }
 {
     let Operand::Number(frame) = operands::decimal(frame) else {
         return Question::Wrong;
     };
-    let Operand::Number(row) = operands::decimal(word(place)) else {
+    let Operand::Number(first) = operands::decimal(word(place)) else {
         return Question::Wrong;
     };
-    let Operand::Number(column) = operands::decimal(rest(place)) else {
+    let Operand::Number(second) = operands::decimal(rest(place)) else {
         return Question::Wrong;
     };
-    Question::Pm {
-        frame,
-        row: row as usize,
-        column: column as usize,
-    }
+    two(name, frame, first, second)
 }
 
 // A cell of PX1 or PX2: its block pair, its row and its column.
@@ -75,18 +121,15 @@ fn asked_plain(line: &[u8]) -> Question
 {
     let frame = word(line);
     let tail = rest(line);
-    let matrix = word(tail);
+    let name = word(tail);
     let place = rest(tail);
-    if bits::same(matrix, b"PM") {
-        return pm_question(frame, place);
-    }
-    if bits::same(matrix, b"PX1") {
+    if bits::same(name, b"PX1") {
         return px_question(3, frame, place);
     }
-    if bits::same(matrix, b"PX2") {
+    if bits::same(name, b"PX2") {
         return px_question(4, frame, place);
     }
-    Question::Wrong
+    two_question(name_number(name), frame, place)
 }
 
 // What a line asks for.

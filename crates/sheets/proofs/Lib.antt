@@ -1,12 +1,8 @@
 pub mod Older
 mod Empty
 mod Cleared
-mod Turning
+pub mod Turning
 mod Totals
-mod Loop
-mod Texts
-pub mod Values
-mod Sequence
-pub mod Ideal
-pub mod Apart
-pub mod Sendable
+pub mod Same
+pub mod Loop
+pub mod Texts

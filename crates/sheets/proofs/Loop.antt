@@ -23,13 +23,13 @@ use Rattle.calls.specs.Called.{startGave}
 use Rattle.calls.specs.declared.states.Outcome.{Outcome}
 use Rattle.layout.specs.Inputs.{framesIn, handed}
 use Rattle.text.specs.Lines.{lines}
-use Rattle.sheettext.specs.Texts.{ending, valueIn}
+use Rattle.sheettext.specs.Texts.{ending, valueIn, valued}
 use Rattle.sheettext.specs.Lists.{answered, answers, asking}
 use Rattle.text.proofs.Walk.{lines-length}
 use Rattle.sheets.specs.declared.turns.Turn.{Turn}
 use Rattle.sheets.specs.Inputs.{frameSize, older}
 use Rattle.sheets.specs.Run.{blank, lents, sent}
-use Rattle.sheets.specs.Sheet.{noFrame, told}
+use Rattle.sheets.specs.Sheet.{noFrame, told, unsent}
 use Rattle.sheets.specs.Turned.{Turned}
 use Rattle.sheets.proofs.Older.{older-covered}
 use Rattle.sheets.proofs.Totals.{total, total-le, total-on}
@@ -54,7 +54,7 @@ first mode n3 n4 s m bytes = sendStep s m (handed (framesIn mode n3 n4 (take (fr
 module _ (mode count n3 n4 : ℕ) (ls : List (List ℕ)) (k t : ℕ) (text : List ℕ) (s : State) (m : Memory) (bytes : List ℕ) where
   told-on : numberOf (first mode n3 n4 s m bytes .answer) ≡ 0
       → told mode count ls t text (calls sendStep s m (lents mode n3 n4 (suc k) bytes))
-      ≡ told mode count ls (suc t) (text ++ answers (valueIn (first mode n3 n4 s m bytes .lent .signal .matrices)) mode count t ls)
+      ≡ told mode count ls (suc t) (text ++ answers (valued count (valueIn (first mode n3 n4 s m bytes .lent .signal .matrices))) mode count t ls)
       (calls sendStep (first mode n3 n4 s m bytes .state) (first mode n3 n4 s m bytes .memory) (lents mode n3 n4 k (drop (frameSize mode n3 n4) bytes)))
   unfolding lents calls told
   told-on e = on-success (first mode n3 n4 s m bytes .answer) _ _ e
@@ -65,7 +65,7 @@ module _ (mode count n3 n4 : ℕ) (ls : List (List ℕ)) (k t : ℕ) (text : Lis
   told-stops ne = not-success (first mode n3 n4 s m bytes .answer) _ _ (λ z. ne (ap numberOf z))
 
 told-ends : (mode count n3 n4 : ℕ) (ls : List (List ℕ)) (t : ℕ) (text : List ℕ) (s : State) (m : Memory) (bytes : List ℕ)
-    → told mode count ls t text (calls sendStep s m (lents mode n3 n4 0 bytes)) ≡ text ++ ending (answered mode count ls)
+    → told mode count ls t text (calls sendStep s m (lents mode n3 n4 0 bytes)) ≡ text ++ (unsent mode count ls ++ ending (answered mode count ls))
 unfolding lents calls told
 told-ends mode count n3 n4 ls t text s m bytes = refl
 
@@ -76,7 +76,7 @@ pub record Going (mode count n3 n4 : ℕ) (list bytes text : List ℕ) (at : ℕ
   pub inside : from ≤ length bytes
   pub size : length (drop from bytes) ≡ (count - t) * frameSize mode n3 n4
   pub mode-is : s .mode ≡ mode
-  pub room : end + 200 * total (count - t) t (lines list) ≤ at + 200 * length list
+  pub room : end + 200 * total mode count (suc (count - t)) t (lines list) ≤ at + 200 * length list
   pub left : told mode count (lines list) 0 text (sent mode count n3 n4 bytes)
       ≡ told mode count (lines list) t (take end out) (calls sendStep s m (lents mode n3 n4 (count - t) (drop from bytes)))
 
@@ -94,7 +94,7 @@ module _ (mode count n3 n4 : ℕ) (list bytes : List ℕ) (at : ℕ) (out : List
         inside = omega arith;
         size = w ∙ ap (λ (k : ℕ). k * frameSize mode n3 n4) (sym none);
         mode-is = ap (λ (b : Started). b .state .mode) (q ∙ ok);
-        room = omega (arith, total-le (lines list) (count - 0) 0, lines-length list);
+        room = omega (arith, total-le mode count (lines list) (suc (count - 0)) 0, lines-length list);
         left = ap (λ (b : Started). told mode count (lines list) 0 (take at out) (calls sendStep (b .state) (b .memory) (lents mode n3 n4 count bytes))) (sym q)
             ∙ ap (λ (k : ℕ). told mode count (lines list) 0 (take at out) (calls sendStep (r .state) m (lents mode n3 n4 k bytes))) (sym none);
       }
@@ -118,10 +118,10 @@ module _ {mode count n3 n4 : ℕ} {list bytes text : List ℕ} {at : ℕ} {out :
   pub part-positive : (n to : ℕ) → n ≡ frameSize mode n3 n4 → to ≡ from + n → 0 < length (take (to - from) (drop from bytes))
   part-positive n to e f = omega (arith, part-length n to e f, size-positive mode n3 n4)
 
-  room-split : total (count - t) t (lines list) ≡ asking t (lines list) + total (count - (t + 1)) (suc t) (lines list)
-  room-split = ap (λ (k : ℕ). total k t (lines list)) more ∙ total-on (count - (t + 1)) t (lines list)
+  room-split : total mode count (suc (count - t)) t (lines list) ≡ asking mode count t (lines list) + total mode count (suc (count - (t + 1))) (suc t) (lines list)
+  room-split = total-on mode count (count - t) t (lines list) ∙ ap (λ (k : ℕ). asking mode count t (lines list) + total mode count k (suc t) (lines list)) more
 
-  pub room-for : end + 200 * asking t (lines list) ≤ at + 200 * length list
+  pub room-for : end + 200 * asking mode count t (lines list) ≤ at + 200 * length list
   room-for = omega (arith, room-split, w .room)
 
   abbrev G : Result
@@ -155,8 +155,8 @@ module _ {mode count n3 n4 : ℕ} {list bytes text : List ℕ} {at : ℕ} {out :
         let place : from + frameSize mode n3 n4 ≡ to = omega arith in
         let rest : drop (frameSize mode n3 n4) (drop from bytes) ≡ drop to bytes =
         drop-drop (frameSize mode n3 n4) from bytes ∙ ap (λ (k : ℕ). drop k bytes) place in
-        let text-is : take end out ++ answers (valueIn (G .lent .signal .matrices)) mode count t (lines list) ≡ take (r .end) new =
-        sym (p .holds ∙ ap (λ (x : Result). take end out ++ answers (valueIn (x .lent .signal .matrices)) mode count t (lines list)) same-frame) in
+        let text-is : take end out ++ answers (valued count (valueIn (G .lent .signal .matrices))) mode count t (lines list) ≡ take (r .end) new =
+        sym (p .holds ∙ ap (λ (x : Result). take end out ++ answers (valued count (valueIn (x .lent .signal .matrices))) mode count t (lines list)) same-frame) in
         let state-is : G .state ≡ r .state = sym (e .state ∙ ap (λ (x : Result). x .state) same-frame) in
         let memory-is : G .memory ≡ after = sym (e .memory ∙ ap (λ (x : Result). x .memory) same-frame) in
         record {
@@ -164,16 +164,23 @@ module _ {mode count n3 n4 : ℕ} {list bytes text : List ℕ} {at : ℕ} {out :
           inside = omega (arith, frame-within);
           size = ap length (sym rest) ∙ length-drop (frameSize mode n3 n4) (drop from bytes) ∙ omega (arith, product, w .size);
           mode-is = sym (ap (λ (x : State). x .mode) state-is) ∙ mode-kept s m _ ∙ w .mode-is;
-          room = subst (λ (u : ℕ). r .end + 200 * total (count - (t + 1)) u (lines list) ≤ at + 200 * length list) one (omega (arith, room-split, w .room, p .within));
+          room = subst (λ (u : ℕ). r .end + 200 * total mode count (suc (count - (t + 1))) u (lines list) ≤ at + 200 * length list) one (omega (arith, room-split, w .room, p .within));
           left = opened ∙ told-on mode count n3 n4 (lines list) (count - (t + 1)) t (take end out) s m (drop from bytes) ok
               ∙ (λ i. told mode count (lines list) (one i) (text-is i) (calls sendStep (state-is i) (memory-is i) (lents mode n3 n4 (count - (t + 1)) (rest i))));
         }
 
-pub going-ends : {mode count n3 n4 : ℕ} {list bytes text : List ℕ} {at : ℕ} {out : List ℕ} {s : State} {m : Memory} {end from t : ℕ}
-    → Going mode count n3 n4 list bytes text at out s m end from t → count ≤ t
-    → take end out ++ ending (answered mode count (lines list)) ≡ told mode count (lines list) 0 text (sent mode count n3 n4 bytes)
-going-ends {mode} {count} {n3} {n4} {list} {bytes} {text} {at} {out} {s} {m} {end} {from} {t} w h =
-    let none : count - t ≡ 0 = omega arith in
-    sym (w .left
-    ∙ ap (λ (k : ℕ). told mode count (lines list) t (take end out) (calls sendStep s m (lents mode n3 n4 k (drop from bytes)))) none
-    ∙ told-ends mode count n3 n4 (lines list) t (take end out) s m (drop from bytes))
+module _ {mode count n3 n4 : ℕ} {list bytes text : List ℕ} {at : ℕ} {out : List ℕ} {s : State} {m : Memory} {end from t : ℕ}
+    (w : Going mode count n3 n4 list bytes text at out s m end from t) (h : count ≤ t) where
+  pub room-last : end + 200 * asking mode count count (lines list) ≤ at + 200 * length list
+  room-last =
+      let same : t ≡ count = omega (arith, w .turns) in
+      subst (λ (u : ℕ). end + 200 * asking mode count u (lines list) ≤ at + 200 * length list) same
+      (omega (arith, total-on mode count (count - t) t (lines list), w .room))
+
+  pub going-ends : take end out ++ (unsent mode count (lines list) ++ ending (answered mode count (lines list)))
+      ≡ told mode count (lines list) 0 text (sent mode count n3 n4 bytes)
+  going-ends =
+      let none : count - t ≡ 0 = omega arith in
+      sym (w .left
+      ∙ ap (λ (k : ℕ). told mode count (lines list) t (take end out) (calls sendStep s m (lents mode n3 n4 k (drop from bytes)))) none
+      ∙ told-ends mode count n3 n4 (lines list) t (take end out) s m (drop from bytes))

@@ -1,15 +1,14 @@
--- A line asks for a cell of one L1 frame, so that a sheet has no more answers than its list has lines. Assumes nothing.
+-- A line stands among the answers of one L1 frame, so that a sheet has no more answers than its list has lines. Assumes nothing.
 use mathlib.Core.Path.{_≡_, refl, ap}
 use mathlib.Core.Bool.{Bool, true, false, cond}
 use mathlib.Core.List.{List, [], _∷_}
 use Prim.Native.Nat.{ℕ, zero, suc, _+_, _<_, _≤_}
 use native.Mathlib.Omega.{arith}
+use lib.Dec.{eqb}
 use lib.ListN.{length}
 use borrow.Author.Tests.{eqb-true, ne-eqb}
-use Rattle.sheetlines.specs.Entries.{asksOf}
+use Rattle.sheetlines.specs.Entries.{entryOf, turnOf}
 use Rattle.sheetlines.specs.Questions.{questionOf}
-use Rattle.sheetlines.specs.declared.questions.Question.{Question}
-use Rattle.sheetlines.specs.declared.questions.Question.the-variants.{Pm, Px, Wrong}
 use Rattle.sheettext.specs.Lists.{asking}
 
 -- how many of n numbers from t on pass a test
@@ -41,32 +40,34 @@ module _ (b : ℕ → Bool) (unique : (s t : ℕ) → s < t → b s ≡ true →
           omega arith
       go false e h = let f : one (b t) ≡ 0 = ap one e in omega arith
 
-asks-once : (q : Question) (s t : ℕ) → s < t → asksOf s q ≡ true → asksOf t q ≡ false
-unfolding asksOf
-asks-once (Pm asked row column) s t h e = let f = eqb-true asked s e in ne-eqb asked t (λ z. absurd (omega arith))
-asks-once (Px asked channel pair row column) s t h e = let f = eqb-true asked s e in ne-eqb asked t (λ z. absurd (omega arith))
-asks-once Wrong s t h e = refl
+one-number : (n s t : ℕ) → s < t → eqb n s ≡ true → eqb n t ≡ false
+one-number n s t h e = let f = eqb-true n s e in ne-eqb n t (λ z. absurd (omega arith))
 
--- the lines that ask for a cell of n L1 frames from number t on
-unfoldable pub total : (n t : ℕ) → List (List ℕ) → ℕ
-total zero t ls = 0
-total (suc n) t ls = asking t ls + total n (suc t) ls
+module _ (mode count : ℕ) where
+  -- the L1 frame among whose answers a line stands
+  abbrev turn : List ℕ → ℕ
+  turn line = turnOf count (entryOf mode count (questionOf line))
 
-total-none : (n t : ℕ) → total n t [] ≡ 0
-unfolding total asking
-total-none zero t = refl
-total-none (suc n) t = let h = total-none n (suc t) in omega arith
+  -- the lines that stand among the answers of n L1 frames from number t on
+  unfoldable pub total : (n t : ℕ) → List (List ℕ) → ℕ
+  total zero t ls = 0
+  total (suc n) t ls = asking mode count t ls + total n (suc t) ls
 
-total-more : (line : List ℕ) (ls : List (List ℕ)) (n t : ℕ) → total n t (line ∷ ls) ≡ single one (λ s. asksOf s (questionOf line)) n t + total n t ls
-unfolding total asking single one
-total-more line ls zero t = omega arith
-total-more line ls (suc n) t = let h = total-more line ls n (suc t) in omega arith
+  total-none : (n t : ℕ) → total n t [] ≡ 0
+  unfolding total asking
+  total-none zero t = refl
+  total-none (suc n) t = let h = total-none n (suc t) in omega arith
 
-pub total-le : (ls : List (List ℕ)) (n t : ℕ) → total n t ls ≤ length ls
-total-le [] n t = omega (arith, total-none n t)
-total-le (line ∷ ls) n t =
-    omega (arith, total-more line ls n t, total-le ls n t, at-most-one (λ s. asksOf s (questionOf line)) (asks-once (questionOf line)) n t)
+  total-more : (line : List ℕ) (ls : List (List ℕ)) (n t : ℕ) → total n t (line ∷ ls) ≡ single one (λ s. eqb (turn line) s) n t + total n t ls
+  unfolding total asking single one
+  total-more line ls zero t = omega arith
+  total-more line ls (suc n) t = let h = total-more line ls n (suc t) in omega arith
 
-pub total-on : (n t : ℕ) (ls : List (List ℕ)) → total (suc n) t ls ≡ asking t ls + total n (suc t) ls
-unfolding total
-total-on n t ls = refl
+  pub total-le : (ls : List (List ℕ)) (n t : ℕ) → total n t ls ≤ length ls
+  total-le [] n t = omega (arith, total-none n t)
+  total-le (line ∷ ls) n t =
+      omega (arith, total-more line ls n t, total-le ls n t, at-most-one (λ s. eqb (turn line) s) (one-number (turn line)) n t)
+
+  pub total-on : (n t : ℕ) (ls : List (List ℕ)) → total (suc n) t ls ≡ asking mode count t ls + total n (suc t) ls
+  unfolding total
+  total-on n t ls = refl

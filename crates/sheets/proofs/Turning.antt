@@ -17,7 +17,7 @@ use Rattle.layout.specs.Layout.{cut}
 use Rattle.text.specs.Lines.{lines}
 use Rattle.text.specs.Put.{Put}
 use Rattle.text.proofs.Stored.{put-text}
-use Rattle.sheettext.specs.Texts.{valueIn}
+use Rattle.sheettext.specs.Texts.{valueIn, valued}
 use Rattle.sheettext.specs.Lists.{answers, asking}
 use Rattle.sheets.specs.declared.turns.Turn.{Turn}
 use Rattle.sheets.specs.Turned.{Gave, Turned}
@@ -52,7 +52,7 @@ module _ (g : Result) (r : Outcome) (m : Memory) (x : Matrices) (e : Gave g r m 
         text = λ z. absurd (ne (is ∙ z));
       }
 
-  pub turned-up : (new : List ℕ) (end : ℕ) → Put old new at end (200 * asking t (lines list)) (answers (valueIn x) mode count t (lines list))
+  pub turned-up : (new : List ℕ) (end : ℕ) → Put old new at end (200 * asking mode count t (lines list)) (answers (valued count (valueIn x)) mode count t (lines list))
       → Turned g mode count t list old new at (record { answer = r .answer; state = r .state; end = end }) m
   turned-up new end p =
       record {
@@ -60,7 +60,7 @@ module _ (g : Result) (r : Outcome) (m : Memory) (x : Matrices) (e : Gave g r m 
         state = e .state;
         memory = e .memory;
         size = p .size;
-        text = λ f. put-text (ap (λ (y : Matrices). answers (valueIn y) mode count t (lines list)) (e .matrices)) p;
+        text = λ f. put-text (ap (λ (y : Matrices). answers (valued count (valueIn y)) mode count t (lines list)) (e .matrices)) p;
       }
 
 pub turned-as : (s : State) (m : Memory) {after : Memory} {l k : Lent} {mode count t : ℕ} {list old new : List ℕ} {at : ℕ} {r : Turn} → l ≡ k

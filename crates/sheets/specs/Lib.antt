@@ -2,5 +2,4 @@ pub mod Inputs
 pub mod Run
 pub mod Sheet
 pub mod Call
-pub mod Ideal
 pub mod Turned

@@ -10,7 +10,7 @@ use Rattle.runs.specs.Answers.{numberOf, onSuccess, placeOf}
 use Rattle.runs.specs.Runs.{Call}
 use Rattle.text.specs.Letters.{ascii}
 use Rattle.text.specs.Lines.{lines}
-use Rattle.sheettext.specs.Texts.{ending, head, last, valueIn, word}
+use Rattle.sheettext.specs.Texts.{ending, head, last, valueIn, valued, word}
 use Rattle.sheettext.specs.Lists.{answered, answers, refusals}
 use Rattle.sheets.specs.Inputs.{behind, carried, emptyLine, frameSize, listIn, named, older}
 use Rattle.sheets.specs.Run.{sent}
@@ -43,12 +43,17 @@ noLong want = ascii "NO SHEET LONG " ++ last want
 unfoldable pub noFrame : ℕ → Answer → List ℕ
 noFrame t answer = ascii "NO SHEET FRAME " ++ (word t ++ (ascii "NUMBER " ++ (word (numberOf answer) ++ (ascii "PLACE " ++ last (placeOf answer)))))
 
--- behind the text so far, the answers from L1 frame t on, with the bits that stand in the matrices sent, and the last line; one that is refused leaves no sheet
+-- the answers that say LATER, whose cells are sent after the last L1 frame: no value is asked for
+unfoldable pub unsent : (mode count : ℕ) (list : List (List ℕ)) → List ℕ
+unsent mode count list = answers (valued count (λ e. 0)) mode count count list
+
+-- behind the text so far, the answers from L1 frame t on, with the bits that stand in the matrices sent, those that say LATER, and the last line; an L1 frame
+-- that is refused leaves no sheet
 unfoldable pub told : (mode count : ℕ) (list : List (List ℕ)) (t : ℕ) (text : List ℕ) → List Call → List ℕ
-told mode count list t text [] = text ++ ending (answered mode count list)
+told mode count list t text [] = text ++ (unsent mode count list ++ ending (answered mode count list))
 told mode count list t text (c ∷ cs) =
     onSuccess (c .result .answer)
-    (told mode count list (suc t) (text ++ answers (valueIn (c .result .lent .signal .matrices)) mode count t list) cs)
+    (told mode count list (suc t) (text ++ answers (valued count (valueIn (c .result .lent .signal .matrices))) mode count t list) cs)
     (noFrame t (c .result .answer))
 
 -- for a list, and the bytes behind it

@@ -8,7 +8,7 @@ use Rattle.runs.specs.Lent.{Matrices, Memory, Result}
 use Rattle.calls.specs.declared.states.Outcome.{Outcome}
 use Rattle.text.specs.Lines.{lines}
 use Rattle.text.specs.Put.{Put}
-use Rattle.sheettext.specs.Texts.{valueIn}
+use Rattle.sheettext.specs.Texts.{valueIn, valued}
 use Rattle.sheettext.specs.Lists.{answers, asking}
 use Rattle.sheets.specs.declared.turns.Turn.{Turn}
 
@@ -25,7 +25,8 @@ pub record Turned (g : Result) (mode count t : ℕ) (list : List ℕ) (old new :
   pub state : r .state ≡ g .state
   pub memory : m ≡ g .memory
   pub size : length new ≡ length old
-  pub text : numberOf (r .answer) ≡ 0 → Put old new at (r .end) (200 * asking t (lines list)) (answers (valueIn (g .lent .signal .matrices)) mode count t (lines list))
+  pub text : numberOf (r .answer) ≡ 0 → Put old new at (r .end) (200 * asking mode count t (lines list))
+      (answers (valued count (valueIn (g .lent .signal .matrices))) mode count t (lines list))
 
 -- a buffer begins with a text of n bytes
 pub record Begins (out : List ℕ) (n : ℕ) (text : List ℕ) : Type 0 where

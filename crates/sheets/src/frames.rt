@@ -4,6 +4,7 @@ use crate::refusals::put_no_frame;
 use crate::turns::take_turn;
 ghost use mathlib.Core.Path.{_≡_};
 ghost use mathlib.Core.Bool.{true};
+ghost use mathlib.Core.List.{_++_};
 ghost use Prim.Native.Nat.{_+_, _*_, _≤_, _<_};
 ghost use lib.ListN.{length, take};
 ghost use Rattle.runs.specs.Lengths.{senderLen};
@@ -12,21 +13,24 @@ ghost use Rattle.calls.specs.Called.{memory};
 ghost use Rattle.text.specs.Lines.{lines};
 ghost use Rattle.text.specs.Put.{Put};
 ghost use Rattle.sheettext.specs.Texts.{ending};
-ghost use Rattle.sheettext.specs.Lists.{answered};
+ghost use Rattle.sheettext.specs.Lists.{answered, asking};
 ghost use Rattle.sheets.specs.Inputs.{frameSize, older};
 ghost use Rattle.sheets.specs.Run.{sent};
-ghost use Rattle.sheets.specs.Sheet.{told};
+ghost use Rattle.sheets.specs.Sheet.{told, unsent};
 
-// Puts the last line.
+// Puts the answers that say LATER, and the last line.
 fn put_last(out: &mut [u8], at: usize, mode: u8, count: u64, list: &[u8]) -> usize
-    requires { ⌜ (at + 25 ≤ length (now out)) × (length (now list) < 4096) ⌝ }
-    ensures { λ r. ⌜ Put (now (out .entry)) (now (out .exit)) at r 25 (ending (answered mode count (lines (now (list .entry))))) ⌝ }
+    requires { ⌜ (count ≤ 64) × (at + 200 * asking mode count count (lines (now list)) + 225 ≤ length (now out)) × (length (now list) < 4096) ⌝ }
+    ensures { λ r. ⌜ Put (now (out .entry)) (now (out .exit)) at r (200 * asking mode count count (lines (now (list .entry))) + 25)
+        (unsent mode count (lines (now (list .entry))) ++ ending (answered mode count (lines (now (list .entry))))) ⌝ }
 {
+    let none = [0u8; 0];
+    let m = sheettext::put_answers(out, at, mode, count, count, list, &none, &none, &none);
     let n = sheettext::count_answers(mode, count, list);
-    sheettext::put_end(out, at, n)
+    sheettext::put_end(out, m, n)
 }
 
-// Sends the L1 frames from a fresh start, puts the answers of each, and the last line; where one is refused, that alone.
+// Sends the L1 frames from a fresh start, puts the answers of each, those that say LATER, and the last line; where one is refused, that alone.
 fn put_frames(
     mode: u8,
     count: u64,

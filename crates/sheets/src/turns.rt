@@ -87,7 +87,7 @@ fn send_and_put(
     out: &mut [u8],
     at: usize,
 ) -> Turn
-    requires { ⌜ (0 < length (now bytes)) × (at + 200 * asking t (lines (now list)) + 200 ≤ length (now out)) × (length (now list) < 2 ^ 32) ⌝ }
+    requires { ⌜ (0 < length (now bytes)) × (at + 200 * asking mode count t (lines (now list)) + 200 ≤ length (now out)) × (length (now list) < 2 ^ 32) × (count ≤ 64) ⌝ }
     ensures { λ r. ⌜ Turned (sendStep state (memory (now (memory3 .entry)) (now (memory4 .entry)) (now (delay .entry))) (handed (framesIn (state .mode) n3 n4 (now (bytes .entry))) (signal (now (pm .entry)) (now (px1 .entry)) (now (px2 .entry)) (replicate controlLen 0))))
         mode count t (now (list .entry)) (now (out .entry)) (now (out .exit)) at r (memory (now (memory3 .exit)) (now (memory4 .exit)) (now (delay .exit))) ⌝ }
 {
@@ -125,7 +125,7 @@ pub fn take_turn(
     out: &mut [u8],
     at: usize,
 ) -> Turn
-    requires { ⌜ (state .mode ≡ mode) × (older mode ≡ true) × (0 < length (now bytes)) × (at + 200 * asking t (lines (now list)) + 200 ≤ length (now out)) × (length (now list) < 2 ^ 32) ⌝ }
+    requires { ⌜ (state .mode ≡ mode) × (older mode ≡ true) × (0 < length (now bytes)) × (at + 200 * asking mode count t (lines (now list)) + 200 ≤ length (now out)) × (length (now list) < 2 ^ 32) × (count ≤ 64) ⌝ }
     ensures { λ r. ⌜ Turned (sendStep state (memory (now (memory3 .entry)) (now (memory4 .entry)) (now (delay .entry))) (handed (framesIn mode n3 n4 (now (bytes .entry))) (blank mode)))
         mode count t (now (list .entry)) (now (out .entry)) (now (out .exit)) at r (memory (now (memory3 .exit)) (now (memory4 .exit)) (now (delay .exit))) ⌝ }
 {

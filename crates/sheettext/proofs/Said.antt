@@ -4,37 +4,76 @@ use mathlib.Core.Bool.{Bool, true, false, cond}
 use mathlib.Core.List.{List, [], _∷_, _++_}
 use Prim.Native.Nat.{ℕ, _+_, _*_, _≤_}
 use native.Mathlib.Omega.{arith}
+use lib.Dec.{eqb}
+use borrow.Author.Tests.{eq-eqb, ne-eqb}
+use Rattle.text.specs.Letters.{ascii}
 use Rattle.text.specs.Refused.{refused}
 use Rattle.text.specs.Put.{Put}
 use Rattle.text.proofs.Stored.{put-text, put-most}
-use Rattle.sheetlines.specs.Entries.{asksOf, entryOf}
+use Rattle.sheetlines.specs.Entries.{entryOf, turnOf}
 use Rattle.sheetlines.specs.Questions.{questionOf}
 use Rattle.sheetlines.specs.declared.questions.Question.{Question}
 use Rattle.sheetlines.specs.declared.entries.Entry.{Entry}
-use Rattle.sheettext.specs.Texts.{answer, entryText, isRefused}
-use Rattle.sheettext.specs.Lists.{answered, answers, asking, asks, refusal, refusals}
+use Rattle.sheettext.specs.Texts.{answer, bitText, isRefused, last, names, valueText, valued}
+use Rattle.sheettext.specs.Lists.{answered, answers, asking, asks, ownerLine, refusal, refusals}
 use Rattle.text.proofs.Left.{put-nothing}
 
 -- ---- a line
 
-module _ (value : Entry → ℕ) (mode count t : ℕ) (line : List ℕ) (q : Question) (is : q ≡ questionOf line) (a : List ℕ) (at : ℕ) where
-  answer-as : answer value mode count t q ≡ answer value mode count t (questionOf line)
-  answer-as = ap (answer value mode count t) is
+module _ (behind : Entry → List ℕ) (mode count t : ℕ) (line : List ℕ) (q : Question) (is : q ≡ questionOf line) (e : Entry) (e-is : e ≡ entryOf mode count q)
+    (n : ℕ) (n-is : n ≡ turnOf count e) (a : List ℕ) (at : ℕ) where
+  entry-is : e ≡ entryOf mode count (questionOf line)
+  entry-is = e-is ∙ ap (entryOf mode count) is
 
-  pub not-asked : (b : Bool) → b ≡ asksOf t q → b ≡ false → Put a a at at (200 * asks t (questionOf line)) (answer value mode count t (questionOf line))
-  unfolding answer
-  not-asked b e f = put-nothing a at _ _ (sym answer-as ∙ rw (sym e ∙ f))
+  turn-is : turnOf count (entryOf mode count (questionOf line)) ≡ n
+  turn-is = ap (turnOf count) (sym entry-is) ∙ sym n-is
 
-  pub is-asked : (b : Bool) → b ≡ asksOf t q → b ≡ true → (entry : Entry) → entry ≡ entryOf mode count q → (v : ℕ) → v ≡ value entry
-      → (z : List ℕ) (end : ℕ) → Put a z at end 200 (entryText q entry v)
-      → Put a z at end (200 * asks t (questionOf line)) (answer value mode count t (questionOf line))
+  pub not-asked : (n ≡ t → ⊥) → Put a a at at (200 * asks mode count t (questionOf line)) (answer behind mode count t (questionOf line))
   unfolding answer
-  is-asked b e f entry n v w z end p =
-      let yes : asksOf t q ≡ true = sym e ∙ f in
-      let told : entryText q entry v ≡ answer value mode count t (questionOf line) =
-      ap₂ (entryText q) n (w ∙ ap value n) ∙ sym (ap (λ (b : Bool). cond b (entryText q (entryOf mode count q) (value (entryOf mode count q))) []) yes) ∙ answer-as in
-      let one : asks t (questionOf line) ≡ 1 = ap (asks t) (sym is) ∙ ap (λ (b : Bool). cond b 1 0) yes in
+  not-asked ne = put-nothing a at _ _ (rw (turn-is, ne-eqb _ _ ne))
+
+  pub is-asked : n ≡ t → (z : List ℕ) (end m : ℕ) → m ≤ 200 → Put a z at end m (names q e ++ behind e)
+      → Put a z at end (200 * asks mode count t (questionOf line)) (answer behind mode count t (questionOf line))
+  unfolding answer
+  is-asked same z end m fits p =
+      let test : eqb (turnOf count (entryOf mode count (questionOf line))) t ≡ true = eq-eqb _ _ (turn-is ∙ same) in
+      let told : names q e ++ behind e ≡ answer behind mode count t (questionOf line) =
+      ap₂ (λ (r : Question) (f : Entry). names r f ++ behind f) is entry-is
+      ∙ sym (ap (λ (b : Bool). cond b (names (questionOf line) (entryOf mode count (questionOf line)) ++ behind (entryOf mode count (questionOf line))) []) test) in
+      let one : asks mode count t (questionOf line) ≡ 1 = ap (λ (b : Bool). cond b 1 0) test in
       put-most (omega arith) (put-text told p)
+
+-- the value that the code read
+pub value-known : (count : ℕ) (e : Entry) (value : Entry → ℕ) {v : ℕ} → v ≡ value e → valueText count e v ≡ valued count value e
+value-known count e value f = ap (valueText count e) f
+
+module _ (sent : Bool) (value : ℕ) where
+  pub bit-later : sent ≡ false → ascii " LATER\n" ≡ bitText sent value
+  unfolding bitText
+  bit-later e = sym (rw e)
+
+  pub bit-now : sent ≡ true → ascii " " ++ last value ≡ bitText sent value
+  unfolding bitText
+  bit-now e = sym (rw e)
+
+-- without values
+module _ (mode number : ℕ) (line : List ℕ) (q : Question) (is : q ≡ questionOf line) (e : Entry) (e-is : e ≡ entryOf mode 4294967296 q)
+    (b : Bool) (b-is : b ≡ isRefused e) (a z : List ℕ) (at end : ℕ) where
+  owner-is : e ≡ entryOf mode 4294967296 (questionOf line)
+  owner-is = e-is ∙ ap (entryOf mode 4294967296) is
+
+  test-is : isRefused (entryOf mode 4294967296 (questionOf line)) ≡ b
+  test-is = ap isRefused (sym owner-is) ∙ sym b-is
+
+  pub owner-refused : b ≡ true → Put a z at end 92 (refused number) → Put a z at end 200 (ownerLine mode number line)
+  unfolding ownerLine
+  owner-refused f p = put-most (omega arith) (put-text (sym (rw (test-is ∙ f))) p)
+
+  pub owner-said : b ≡ false → (m : ℕ) → m ≤ 200 → Put a z at end m (names q e ++ ascii "\n") → Put a z at end 200 (ownerLine mode number line)
+  unfolding ownerLine
+  owner-said f m fits p =
+      put-most fits
+      (put-text (ap₂ (λ (r : Question) (x : Entry). names r x ++ ascii "\n") is owner-is ∙ sym (rw (test-is ∙ f))) p)
 
 module _ (mode count number : ℕ) (line a : List ℕ) (at : ℕ) (b : Bool) (is : b ≡ isRefused (entryOf mode count (questionOf line))) where
   pub said-refused : b ≡ true → (z : List ℕ) (end : ℕ) → Put a z at end 92 (refused number) → Put a z at end 92 (refusal mode count number line)
@@ -48,13 +87,14 @@ module _ (mode count number : ℕ) (line a : List ℕ) (at : ℕ) (b : Bool) (is
 -- ---- the lines from one on
 
 module _ (line : List ℕ) (ls rest : List (List ℕ)) (e : ls ≡ line ∷ rest) where
-  pub answers-on : (value : Entry → ℕ) (mode count t : ℕ) → answers value mode count t ls ≡ answer value mode count t (questionOf line) ++ answers value mode count t rest
+  pub answers-on : (behind : Entry → List ℕ) (mode count t : ℕ)
+      → answers behind mode count t ls ≡ answer behind mode count t (questionOf line) ++ answers behind mode count t rest
   unfolding answers
-  answers-on value mode count t = ap (answers value mode count t) e
+  answers-on behind mode count t = ap (answers behind mode count t) e
 
-  pub asking-on : (t : ℕ) → asking t ls ≡ asks t (questionOf line) + asking t rest
+  pub asking-on : (mode count t : ℕ) → asking mode count t ls ≡ asks mode count t (questionOf line) + asking mode count t rest
   unfolding asking
-  asking-on t = ap (asking t) e
+  asking-on mode count t = ap (asking mode count t) e
 
   pub refusals-on : (mode count number : ℕ) → refusals mode count number ls ≡ refusal mode count number line ++ refusals mode count (number + 1) rest
   unfolding refusals
@@ -65,9 +105,9 @@ module _ (line : List ℕ) (ls rest : List (List ℕ)) (e : ls ≡ line ∷ rest
   answered-on mode count = ap (answered mode count) e
 
 module _ (ls : List (List ℕ)) (e : ls ≡ []) where
-  pub answers-none : (value : Entry → ℕ) (mode count t : ℕ) → answers value mode count t ls ≡ []
+  pub answers-none : (behind : Entry → List ℕ) (mode count t : ℕ) → answers behind mode count t ls ≡ []
   unfolding answers
-  answers-none value mode count t = ap (answers value mode count t) e
+  answers-none behind mode count t = ap (answers behind mode count t) e
 
   pub refusals-none : (mode count number : ℕ) → refusals mode count number ls ≡ []
   unfolding refusals

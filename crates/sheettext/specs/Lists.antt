@@ -1,18 +1,20 @@
--- House matter: what a sheet says of a list of cells, line by line.
+-- House matter: what a sheet says of a list, line by line.
 use Prim.Native.Nat.{ℕ, _+_}
 use mathlib.Core.Bool.{cond}
 use mathlib.Core.List.{List, [], _∷_, _++_}
+use lib.Dec.{eqb}
+use Rattle.text.specs.Letters.{ascii}
 use Rattle.text.specs.Refused.{refused}
-use Rattle.sheetlines.specs.Entries.{asksOf, entryOf}
+use Rattle.sheetlines.specs.Entries.{entryOf, turnOf}
 use Rattle.sheetlines.specs.Questions.{questionOf}
 use Rattle.sheetlines.specs.declared.questions.Question.{Question}
 use Rattle.sheetlines.specs.declared.entries.Entry.{Entry}
-use Rattle.sheettext.specs.Texts.{answer, isRefused}
+use Rattle.sheettext.specs.Texts.{answer, isRefused, names}
 
 -- the answers of L1 frame t, in the order of the list
-unfoldable pub answers : (value : Entry → ℕ) (mode count t : ℕ) → List (List ℕ) → List ℕ
-answers value mode count t [] = []
-answers value mode count t (line ∷ rest) = answer value mode count t (questionOf line) ++ answers value mode count t rest
+unfoldable pub answers : (behind : Entry → List ℕ) (mode count t : ℕ) → List (List ℕ) → List ℕ
+answers behind mode count t [] = []
+answers behind mode count t (line ∷ rest) = answer behind mode count t (questionOf line) ++ answers behind mode count t rest
 
 -- the refused lines by number, the first of these lines having this one
 unfoldable pub refusal : (mode count number : ℕ) → (line : List ℕ) → List ℕ
@@ -27,10 +29,17 @@ unfoldable pub answered : (mode count : ℕ) → List (List ℕ) → ℕ
 answered mode count [] = 0
 answered mode count (line ∷ rest) = cond (isRefused (entryOf mode count (questionOf line))) 0 1 + answered mode count rest
 
--- how many lines ask for a cell of L1 frame t
-abbrev pub asks : (t : ℕ) → Question → ℕ
-asks t q = cond (asksOf t q) 1 0
+-- how many lines stand among the answers of L1 frame t
+abbrev pub asks : (mode count t : ℕ) → Question → ℕ
+asks mode count t q = cond (eqb (turnOf count (entryOf mode count q)) t) 1 0
 
-unfoldable pub asking : (t : ℕ) → List (List ℕ) → ℕ
-asking t [] = 0
-asking t (line ∷ rest) = asks t (questionOf line) + asking t rest
+unfoldable pub asking : (mode count t : ℕ) → List (List ℕ) → ℕ
+asking mode count t [] = 0
+asking mode count t (line ∷ rest) = asks mode count t (questionOf line) + asking mode count t rest
+
+-- what is said of a line where no transfer frames are at hand, but L1 frames without end (2^32, 200 years): the names alone, or that it is refused
+unfoldable pub ownerLine : (mode number : ℕ) (line : List ℕ) → List ℕ
+ownerLine mode number line =
+    let q = questionOf line in
+    let e = entryOf mode 4294967296 q in
+    cond (isRefused e) (refused number) (names q e ++ ascii "\n")

@@ -2,16 +2,18 @@
 use Prim.Native.Nat.{ℕ}
 use mathlib.Core.Bool.{Bool, true, false, cond, _||_}
 use mathlib.Core.List.{List, [], _++_}
-use lib.Dec.{eqb}
+use lib.Dec.{eqb, ltb}
 use Rattle.bits.specs.Bits.{bitAt}
 use Rattle.runs.specs.Lent.{Matrices}
 use Rattle.text.specs.Letters.{ascii}
 use Rattle.text.specs.Numbers.{decimal}
-use Rattle.sheetlines.specs.Entries.{asksOf, entryOf}
+use Rattle.sheetlines.specs.Entries.{entryOf, turnOf}
 use Rattle.sheetlines.specs.declared.questions.Question.{Question}
-use Rattle.sheetlines.specs.declared.questions.Question.the-variants.{Pm, Px, Wrong}
+use Rattle.sheetlines.specs.declared.questions.Question.the-variants.{Bit, Pm, Px, Wrong}
+use Rattle.sheetlines.specs.declared.entries.Cell.{Cell}
+use Rattle.sheetlines.specs.declared.entries.CodedBit.{CodedBit}
 use Rattle.sheetlines.specs.declared.entries.Entry.{Entry}
-use Rattle.sheetlines.specs.declared.entries.Entry.the-variants.{P1, Pids, Extended, Fill, Refused}
+use Rattle.sheetlines.specs.declared.entries.Entry.the-variants.{Stands, Fill, Refused}
 
 -- a number and a space; a number that ends its line
 abbrev pub word : ℕ → List ℕ
@@ -35,47 +37,81 @@ head mode count without3 without4 = ascii "MP" ++ (word mode ++ counted count wi
 unfoldable pub ending : ℕ → List ℕ
 ending n = ascii "END " ++ last n
 
--- PX1 and PX2, P3 and P4
+-- ---- the names of an answer
+
+-- the matrix in which a channel is sent, and the channel: 1 is P1, 2 PIDS, 3 P3, 4 P4
 unfoldable pub matrixName : (channel : ℕ) → List ℕ
-matrixName channel = cond (eqb channel 3) (ascii "PX1 ") (ascii "PX2 ")
+matrixName channel = cond (ltb channel 3) (ascii "PM ") (cond (eqb channel 3) (ascii "PX1 ") (ascii "PX2 "))
 
 unfoldable pub channelName : (channel : ℕ) → List ℕ
-channelName channel = cond (eqb channel 3) (ascii "P3 ") (ascii "P4 ")
+channelName channel = cond (eqb channel 1) (ascii "P1 ") (cond (eqb channel 2) (ascii "PIDS ") (cond (eqb channel 3) (ascii "P3 ") (ascii "P4 ")))
 
--- the cell that a line asks for: FRAME PM ROW COL, or FRAME PX1 PAIR ROW COL
-unfoldable pub cell : Question → List ℕ
-cell (Pm frame row column) = word frame ++ (ascii "PM " ++ (word row ++ word column))
-cell (Px frame channel pair row column) = word frame ++ (matrixName channel ++ (word pair ++ (word row ++ word column)))
-cell Wrong = []
+-- what a line asks for: FRAME PM ROW COL, FRAME PX1 PAIR ROW COL, or FRAME CHANNEL TFRAME BIT
+unfoldable pub asked : Question → List ℕ
+asked (Pm frame row column) = word frame ++ (ascii "PM " ++ (word row ++ word column))
+asked (Px frame channel pair row column) = word frame ++ (matrixName channel ++ (word pair ++ (word row ++ word column)))
+asked (Bit frame channel tframe bit) = word frame ++ (channelName channel ++ (word tframe ++ word bit))
+asked Wrong = []
 
--- TFRAME BIT VALUE
-unfoldable pub coded : (frame bit value : ℕ) → List ℕ
-coded frame bit value = word frame ++ (word bit ++ last value)
+-- a number that P3 and P4 have, and P1 and PIDS have not
+unfoldable pub ofPX : (channel n : ℕ) → List ℕ
+ofPX channel n = cond (ltb channel 3) [] (word n)
 
--- what stands in it: P1, PIDS, P3 or P4 with the coded bit and its value; FILL. Of what is refused nothing is said here
-unfoldable pub entryText : Question → Entry → (value : ℕ) → List ℕ
-entryText q (P1 bit at) value = cell q ++ (ascii "P1 " ++ coded 0 bit value)
-entryText q (Pids frame bit at) value = cell q ++ (ascii "PIDS " ++ coded frame bit value)
-entryText q (Extended channel from frame bit at) value = cell q ++ (channelName channel ++ (word from ++ coded frame bit value))
-entryText q Fill value = cell q ++ ascii "FILL\n"
-entryText q Refused value = []
+-- whose bit stands in a cell: P1 TFRAME BIT, PIDS TFRAME BIT, or P3 FROM TFRAME BIT
+unfoldable pub owner : CodedBit → List ℕ
+owner coded = channelName (coded .channel) ++ (ofPX (coded .channel) (coded .from) ++ (word (coded .frame) ++ decimal (coded .bit)))
 
--- the bit that stands in the cell, in the matrices of an L1 frame; P3 is in PX1 and P4 in PX2
+-- in which cell a bit of the channel stands: PM SENT ROW COL, or PX1 SENT PAIR ROW COL
+unfoldable pub place : (channel : ℕ) → Cell → List ℕ
+place channel cell =
+    matrixName channel ++ (word (cell .sent) ++ (ofPX channel (cell .pair) ++ (word (cell .row) ++ decimal (cell .column))))
+
+-- to a bit the answer is the cell, to a cell the bit
+unfoldable pub found : Question → CodedBit → Cell → List ℕ
+found (Pm frame row column) coded cell = owner coded
+found (Px frame channel pair row column) coded cell = owner coded
+found (Bit frame channel tframe bit) coded cell = place (coded .channel) cell
+found Wrong coded cell = []
+
+-- the names of an answer: what is asked and what is found, or FILL. Of what is refused nothing is said here
+unfoldable pub names : Question → Entry → List ℕ
+names q (Stands coded cell) = asked q ++ found q coded cell
+names q (Fill sent) = asked q ++ ascii "FILL"
+names q Refused = []
+
+-- ---- what stands behind them
+
+-- the value of a bit that is sent, or LATER
+unfoldable pub bitText : (sent : Bool) (value : ℕ) → List ℕ
+bitText sent value = cond sent (ascii " " ++ last value) (ascii " LATER\n")
+
+-- in a run of `count` L1 frames; behind FILL nothing
+unfoldable pub valueText : (count : ℕ) → Entry → (value : ℕ) → List ℕ
+valueText count (Stands coded cell) value = bitText (ltb (cell .sent) count) value
+valueText count (Fill sent) value = ascii "\n"
+valueText count Refused value = []
+
+abbrev pub valued : (count : ℕ) (value : Entry → ℕ) → Entry → List ℕ
+valued count value e = valueText count e (value e)
+
+-- the bit that stands in the cell, in the matrices of an L1 frame: P1 and PIDS are in PM, P3 in PX1 and P4 in PX2
 unfoldable pub valueIn : Matrices → Entry → ℕ
-valueIn x (P1 bit at) = bitAt (x .pm) at
-valueIn x (Pids frame bit at) = bitAt (x .pm) at
-valueIn x (Extended channel from frame bit at) = cond (eqb channel 3) (bitAt (x .px1) at) (bitAt (x .px2) at)
-valueIn x Fill = 0
+valueIn x (Stands coded cell) =
+    cond (ltb (coded .channel) 3) (bitAt (x .pm) (cell .number))
+    (cond (eqb (coded .channel) 3) (bitAt (x .px1) (cell .number)) (bitAt (x .px2) (cell .number)))
+valueIn x (Fill sent) = 0
 valueIn x Refused = 0
 
--- what is said of a question among the answers of L1 frame t, where the values are these: nothing, where it asks for another
-unfoldable pub answer : (value : Entry → ℕ) (mode count t : ℕ) → Question → List ℕ
-answer value mode count t q = cond (asksOf t q) (entryText q (entryOf mode count q) (value (entryOf mode count q))) []
+-- ---- answers
+
+-- what is said of a question among the answers of L1 frame t, where this text stands behind the names: nothing, where it is answered in another
+unfoldable pub answer : (behind : Entry → List ℕ) (mode count t : ℕ) → Question → List ℕ
+answer behind mode count t q =
+    let e = entryOf mode count q in
+    cond (eqb (turnOf count e) t) (names q e ++ behind e) []
 
 -- whether nothing can be answered
 unfoldable pub isRefused : Entry → Bool
-isRefused (P1 bit at) = false
-isRefused (Pids frame bit at) = false
-isRefused (Extended channel from frame bit at) = false
-isRefused Fill = false
+isRefused (Stands coded cell) = false
+isRefused (Fill sent) = false
 isRefused Refused = true

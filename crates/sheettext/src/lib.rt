@@ -7,4 +7,5 @@ pub use ends::put_end;
 pub use ends::put_head;
 pub use lists::count_answers;
 pub use lists::put_answers;
+pub use lists::put_owner_line;
 pub use lists::put_refusals;

@@ -1,6 +1,7 @@
-// What a sheet says of a list of cells.
+// What a sheet says of a list.
 use crate::lines::is_refused;
-use crate::lines::put_entry;
+use crate::lines::put_names;
+use crate::lines::put_value;
 use crate::lines::value_of;
 ghost use mathlib.Core.Path.{_≡_};
 ghost use mathlib.Core.Bool.{cond};
@@ -12,8 +13,8 @@ ghost use Rattle.text.specs.Lines.{lines};
 ghost use Rattle.text.specs.Put.{Put};
 ghost use Rattle.sheetlines.specs.Entries.{entryOf};
 ghost use Rattle.sheetlines.specs.Questions.{questionOf};
-ghost use Rattle.sheettext.specs.Texts.{answer, isRefused, valueIn};
-ghost use Rattle.sheettext.specs.Lists.{answered, answers, asking, asks, refusal, refusals};
+ghost use Rattle.sheettext.specs.Texts.{answer, isRefused, valueIn, valued};
+ghost use Rattle.sheettext.specs.Lists.{answered, answers, asking, asks, ownerLine, refusal, refusals};
 
 // Puts what is said of a line among the answers of L1 frame t.
 fn put_answer(
@@ -28,19 +29,21 @@ fn put_answer(
     px1: &[u8],
     px2: &[u8],
 ) -> usize
-    requires { ⌜ (now table ≡ ks) × (at + 200 ≤ length (now out)) ⌝ }
-    ensures { λ r. ⌜ Put (now (out .entry)) (now (out .exit)) at r (200 * asks t (questionOf (now (line .entry)))) (answer (valueIn (matrices (now (pm .entry)) (now (px1 .entry)) (now (px2 .entry)))) mode count t (questionOf (now (line .entry)))) ⌝ }
+    requires { ⌜ (now table ≡ ks) × (count ≤ 4294967296) × (at + 200 ≤ length (now out)) ⌝ }
+    ensures { λ r. ⌜ Put (now (out .entry)) (now (out .exit)) at r (200 * asks mode count t (questionOf (now (line .entry))))
+        (answer (valued count (valueIn (matrices (now (pm .entry)) (now (px1 .entry)) (now (px2 .entry))))) mode count t (questionOf (now (line .entry)))) ⌝ }
 {
     let question = sheetlines::asked(line);
-    if !sheetlines::asks_of(t, question) {
+    let entry = sheetlines::entry_for(table, mode, count, question);
+    if sheetlines::turn_of(count, entry) != t {
         return at;
     }
-    let entry = sheetlines::entry_for(table, mode, count, question);
     let value = value_of(entry, pm, px1, px2);
-    put_entry(out, at, question, entry, value)
+    let m = put_names(out, at, question, entry);
+    put_value(out, m, count, entry, value)
 }
 
-// Puts the answers of L1 frame t, whose matrices these are.
+// Puts the answers of L1 frame t, whose matrices these are; of the last one's number and one more, those that say LATER.
 pub fn put_answers(
     out: &mut [u8],
     at: usize,
@@ -52,8 +55,9 @@ pub fn put_answers(
     px1: &[u8],
     px2: &[u8],
 ) -> usize
-    requires { ⌜ (at + 200 * asking t (lines (now list)) + 200 ≤ length (now out)) × (length (now list) < 2 ^ 32) ⌝ }
-    ensures { λ r. ⌜ Put (now (out .entry)) (now (out .exit)) at r (200 * asking t (lines (now (list .entry)))) (answers (valueIn (matrices (now (pm .entry)) (now (px1 .entry)) (now (px2 .entry)))) mode count t (lines (now (list .entry)))) ⌝ }
+    requires { ⌜ (count ≤ 4294967296) × (at + 200 * asking mode count t (lines (now list)) + 200 ≤ length (now out)) × (length (now list) < 2 ^ 32) ⌝ }
+    ensures { λ r. ⌜ Put (now (out .entry)) (now (out .exit)) at r (200 * asking mode count t (lines (now (list .entry))))
+        (answers (valued count (valueIn (matrices (now (pm .entry)) (now (px1 .entry)) (now (px2 .entry))))) mode count t (lines (now (list .entry)))) ⌝ }
 {
     let table = pm::index_table();
     let mut end = at;
@@ -79,7 +83,7 @@ pub fn put_answers(
 
 // Whether a line is refused.
 fn line_refused(table: &[u16; 1152], mode: u8, count: u64, line: &[u8]) -> bool
-    requires { ⌜ now table ≡ ks ⌝ }
+    requires { ⌜ (now table ≡ ks) × (count ≤ 4294967296) ⌝ }
     ensures { λ r. ⌜ r ≡ isRefused (entryOf mode count (questionOf (now (line .entry)))) ⌝ }
 {
     let question = sheetlines::asked(line);
@@ -96,7 +100,7 @@ fn put_refusal(
     number: u64,
     line: &[u8],
 ) -> usize
-    requires { ⌜ (now table ≡ ks) × (at + 92 ≤ length (now out)) ⌝ }
+    requires { ⌜ (now table ≡ ks) × (count ≤ 4294967296) × (at + 92 ≤ length (now out)) ⌝ }
     ensures { λ r. ⌜ Put (now (out .entry)) (now (out .exit)) at r 92 (refusal mode count number (now (line .entry))) ⌝ }
 {
     if line_refused(table, mode, count, line) {
@@ -107,7 +111,7 @@ fn put_refusal(
 
 // Puts the refused lines of a list.
 pub fn put_refusals(out: &mut [u8], at: usize, mode: u8, count: u64, list: &[u8]) -> usize
-    requires { ⌜ (at + 92 * length (now list) + 92 ≤ length (now out)) × (length (now list) < 2 ^ 32) ⌝ }
+    requires { ⌜ (count ≤ 4294967296) × (at + 92 * length (now list) + 92 ≤ length (now out)) × (length (now list) < 2 ^ 32) ⌝ }
     ensures { λ r. ⌜ Put (now (out .entry)) (now (out .exit)) at r (92 * length (now (list .entry)) + 92) (refusals mode count 1 (lines (now (list .entry)))) ⌝ }
 {
     let table = pm::index_table();
@@ -125,7 +129,7 @@ pub fn put_refusals(out: &mut [u8], at: usize, mode: u8, count: u64, list: &[u8]
 
 // How many lines of a list are answered.
 pub fn count_answers(mode: u8, count: u64, list: &[u8]) -> u64
-    requires { ⌜ length (now list) < 2 ^ 32 ⌝ }
+    requires { ⌜ (count ≤ 4294967296) × (length (now list) < 2 ^ 32) ⌝ }
     ensures { λ r. ⌜ r ≡ answered mode count (lines (now (list .entry))) ⌝ }
 {
     let table = pm::index_table();
@@ -145,4 +149,25 @@ fn one_more(n: u64, refused: bool) -> u64
     ensures { λ r. ⌜ r ≡ n + cond refused 0 1 ⌝ }
 {
     if refused { n } else { n + 1 }
+}
+
+// Puts whose bit stands in the cell that a line asks for, or in which cell the bit stands, without its value; or that the line is refused, by its number.
+pub fn put_owner_line(
+    table: &[u16; 1152],
+    out: &mut [u8],
+    at: usize,
+    mode: u8,
+    number: u64,
+    line: &[u8],
+) -> usize
+    requires { ⌜ (now table ≡ ks) × (at + 200 ≤ length (now out)) ⌝ }
+    ensures { λ r. ⌜ Put (now (out .entry)) (now (out .exit)) at r 200 (ownerLine mode number (now (line .entry))) ⌝ }
+{
+    let question = sheetlines::asked(line);
+    let entry = sheetlines::entry_for(table, mode, 4294967296, question);
+    if is_refused(entry) {
+        return text::refuse(out, at, number);
+    }
+    let m = put_names(out, at, question, entry);
+    text::put(out, m, b"\n")
 }

@@ -48,11 +48,6 @@ pub put-behind : (text : List ℕ) {a b t u : List ℕ} {at end most : ℕ} → 
 put-behind text {a} {b} {t} {u} {at} e p =
     ap (λ (l : List ℕ). text ++ l) (p .holds ∙ ap (λ (l : List ℕ). take at a ++ l) e) ∙ sym (append-assoc text (take at a) u)
 
--- a number and the byte that ends it
-pub put-field : {a b t : List ℕ} {at middle most : ℕ} (n end : ℕ) → t ≡ decimal n → most ≤ 20 → middle < length b → Put a b at middle most t
-    → Put a (set b middle end) at (middle + 1) 21 (decimal n ++ (end ∷ []))
-put-field {a} {b} {t} {at} {middle} n end e h l p = put-most (omega arith) (put-then (put-text e p) (put-byte middle end l))
-
 pub put-refused : {a b c : List ℕ} {at m end : ℕ} (number : ℕ) → Put a b at m 8 (ascii "REFUSED ") → Put b c m end 21 (decimal number ++ ascii "\n")
     → Put a c at end 92 (refused number)
 unfolding refused

@@ -8,5 +8,6 @@ pub use cuts::plain_line;
 pub use cuts::rest;
 pub use cuts::word;
 pub use putting::field;
+pub use putting::number;
 pub use putting::put;
 pub use putting::refuse;

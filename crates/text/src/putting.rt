@@ -19,14 +19,22 @@ pub fn put(out: &mut [u8], at: usize, text: &[u8]) -> usize
     at + i
 }
 
+// Puts a number in decimal.
+pub fn number(out: &mut [u8], at: usize, n: u64) -> usize
+    requires { ⌜ at + 20 ≤ length (now out) ⌝ }
+    ensures { λ r. ⌜ Put (now (out .entry)) (now (out .exit)) at r 20 (decimal n) ⌝ }
+{
+    let mut text = [0u8; 20];
+    let k = io::decimal(n, &mut text);
+    put(out, at, &text[..k])
+}
+
 // Puts a number in decimal, and the byte that ends it.
 pub fn field(out: &mut [u8], at: usize, n: u64, end: u8) -> usize
     requires { ⌜ at + 21 ≤ length (now out) ⌝ }
     ensures { λ r. ⌜ Put (now (out .entry)) (now (out .exit)) at r 21 (decimal n ++ (end ∷ [])) ⌝ }
 {
-    let mut text = [0u8; 20];
-    let k = io::decimal(n, &mut text);
-    let m = put(out, at, &text[..k]);
+    let m = number(out, at, n);
     out[m] = end;
     m + 1
 }

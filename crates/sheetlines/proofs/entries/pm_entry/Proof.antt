@@ -1,7 +1,7 @@
 -- `pm_entry` meets its contract: the match is the definition's, and a cell that is found is one of PM. Assumes nothing.
 use mathlib.Core.Path.{sym, _∙_}
-use borrow.Author.Needs.{needs}
 use Rattle.sheetlines.proofs.Ranges.{p1-in-range, pids-in-range}
+use borrow.Author.Needs.{needs}
 use Rattle.sheetlines.proofs.entries.pm_entry.Statement.{statement}
 use Rattle.sheetlines.proofs.entries.pm_entry.Tie as tie
 
@@ -11,23 +11,23 @@ find-by-requires c κs = search needs
 enum-known-bit : tie.Need-enum-known-bit
 enum-known-bit c = search needs
 
-pm-cell-requires : tie.Need-pm-cell-requires
-pm-cell-requires c κs = p1-in-range _ _ _ (sym (c .before .before .before .find-by .ensures .0) ∙ c .before .bit .given .1)
+in-pm-requires : tie.Need-in-pm-requires
+in-pm-requires c κs = p1-in-range _ _ _ (sym (c .before .before .before .find-by .ensures .0) ∙ c .before .bit .given .1)
 
 enum-known-frame : tie.Need-enum-known-frame
 enum-known-frame c = search needs
 
-pm-cell-requires-2 : tie.Need-pm-cell-requires-2
-pm-cell-requires-2 c κs = pids-in-range _ _ _ _ (sym (c .before .before .before .find-by .ensures .0) ∙ c .before .frame .given .1)
+in-pm-requires-2 : tie.Need-in-pm-requires-2
+in-pm-requires-2 c κs = pids-in-range _ _ _ _ (sym (c .before .before .before .find-by .ensures .0) ∙ c .before .frame .given .1)
 
 enum-told : tie.Need-enum-told
 enum-told c = search needs
 
 returns : tie.Need-returns
-returns c = rw (c .pm-cell .ensures, sym (c .before .before .before .before .find-by .ensures .0) ∙ c .before .before .bit .given .1)
+returns c = rw (sym (c .before .before .before .before .find-by .ensures .0) ∙ c .before .before .bit .given .1) (c .in-pm .ensures)
 
 returns-2 : tie.Need-returns-2
-returns-2 c = rw (c .pm-cell2 .ensures, sym (c .before .before .before .before .find-by .ensures .0) ∙ c .before .before .frame .given .1)
+returns-2 c = rw (sym (c .before .before .before .before .find-by .ensures .0) ∙ c .before .before .frame .given .1) (c .in-pm2 .ensures)
 
 returns-3 : tie.Need-returns-3
 returns-3 c = rw (sym (c .before .before .find-by .ensures .0) ∙ c .enum-told .given .1)
@@ -38,9 +38,9 @@ pm-entry-spec =
     (tie.spec
     find-by-requires
     enum-known-bit
-    pm-cell-requires
+    in-pm-requires
     enum-known-frame
-    pm-cell-requires-2
+    in-pm-requires-2
     enum-told
     returns
     returns-2

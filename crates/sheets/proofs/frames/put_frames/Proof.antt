@@ -7,7 +7,7 @@ use denote.Ref.{now}
 use lib.ListN.{length, take}
 use Rattle.calls.specs.Called.{memory}
 use Rattle.sheets.specs.Inputs.{frameSize}
-use Rattle.sheets.proofs.Loop.{Going, frame-within, going-begins, going-ends, going-on, going-stops, part-positive, room-for}
+use Rattle.sheets.proofs.Loop.{Going, frame-within, going-begins, going-ends, going-on, going-stops, part-positive, room-for, room-last}
 use Rattle.sheets.proofs.Texts.{put-first}
 use Rattle.sheets.proofs.frames.put_frames.Statement.{statement}
 use Rattle.sheets.proofs.frames.put_frames.Tie as tie
@@ -60,6 +60,7 @@ take-turn-requires c κs = (
   part-positive (c .before .before .before .before .before .before .loop .inv .5) (c .before .before .before .before .before .loop-test .taken) _ _ (c .before .before .before .before .before .before .loop .inv .0) refl,
   omega (arith, room-for (c .before .before .before .before .before .before .loop .inv .5) (c .before .before .before .before .before .loop-test .taken), c .before .before .before .before .before .before .before .before .before .before .before .before .before .before .before .before .before .before .before .before .before .before .before .before .before .pre .5, c .before .before .before .before .before .before .before .before .before .before .before .before .before .before .before .before .before .before .before .before .before .before .before .before .before .pre .6, c .before .before .before .before .before .before .loop .inv .4),
   omega (arith, c .before .before .before .before .before .before .before .before .before .before .before .before .before .before .before .before .before .before .before .before .before .before .before .before .before .pre .5),
+  c .before .before .before .before .before .before .before .before .before .before .before .before .before .before .before .before .before .before .before .before .before .before .before .before .before .pre .3,
 )
 
 number-requires : tie.Need-number-requires Inv-loop μ-loop
@@ -108,8 +109,11 @@ loop-again c = (
 )
 
 put-last-requires : tie.Need-put-last-requires Inv-loop μ-loop
-put-last-requires c κs =
-    (omega (arith, c .before .before .loop .inv .5 .room, c .before .before .before .before .before .before .before .before .before .before .before .before .before .before .before .before .before .before .before .before .before .pre .5, c .before .before .before .before .before .before .before .before .before .before .before .before .before .before .before .before .before .before .before .before .before .pre .6, c .before .before .loop .inv .4), c .before .before .before .before .before .before .before .before .before .before .before .before .before .before .before .before .before .before .before .before .before .pre .5)
+put-last-requires c κs = (
+  c .before .before .before .before .before .before .before .before .before .before .before .before .before .before .before .before .before .before .before .before .before .pre .3,
+  omega (arith, room-last (c .before .before .loop .inv .5) (c .before .loop-test .left), c .before .before .before .before .before .before .before .before .before .before .before .before .before .before .before .before .before .before .before .before .before .pre .5, c .before .before .before .before .before .before .before .before .before .before .before .before .before .before .before .before .before .before .before .before .before .pre .6, c .before .before .loop .inv .4),
+  c .before .before .before .before .before .before .before .before .before .before .before .before .before .before .before .before .before .before .before .before .before .pre .5,
+)
 
 same-length-5 : tie.Need-same-length-5 Inv-loop μ-loop
 same-length-5 c = search needs
@@ -125,7 +129,7 @@ same-length-8 c = search needs
 
 returns-2 : tie.Need-returns-2 Inv-loop μ-loop
 returns-2 c = (
-  omega (arith, c .before .before .put-last .ensures .within, c .before .before .put-last .ensures .size, c .before .before .before .before .before .loop .inv .5 .room, c .before .before .before .before .before .before .before .before .before .before .before .before .before .before .before .before .before .before .before .before .before .before .before .before .pre .5, c .before .before .before .before .before .before .before .before .before .before .before .before .before .before .before .before .before .before .before .before .before .before .before .before .pre .6, c .before .before .before .before .before .loop .inv .4),
+  omega (arith, c .before .before .put-last .ensures .within, c .before .before .put-last .ensures .size, room-last (c .before .before .before .before .before .loop .inv .5) (c .before .before .before .before .loop-test .left), c .before .before .before .before .before .before .before .before .before .before .before .before .before .before .before .before .before .before .before .before .before .before .before .before .pre .5, c .before .before .before .before .before .before .before .before .before .before .before .before .before .before .before .before .before .before .before .before .before .before .before .before .pre .6, c .before .before .before .before .before .loop .inv .4),
   c .before .before .put-last .ensures .holds ∙ going-ends (c .before .before .before .before .before .loop .inv .5) (c .before .before .before .before .loop-test .left),
 )
 

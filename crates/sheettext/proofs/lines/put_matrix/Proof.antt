@@ -1,7 +1,8 @@
 -- `put_matrix` meets its contract. Assumes nothing.
 use mathlib.Core.Path.{sym}
-use borrow.Author.Tests.{eq-eqb, ne-eqb}
-use Rattle.text.proofs.Stored.{put-text}
+use native.Mathlib.Omega.{arith}
+use borrow.Author.Tests.{eq-eqb, le-ltb, lt-ltb, ne-eqb}
+use Rattle.text.proofs.Stored.{put-most, put-text}
 use Rattle.sheettext.specs.Texts.{matrixName}
 use borrow.Author.Needs.{needs}
 use Rattle.sheettext.proofs.lines.put_matrix.Statement.{statement}
@@ -18,7 +19,7 @@ same-length c = search needs
 
 returns : tie.Need-returns
 unfolding matrixName
-returns c = put-text (sym (rw (eq-eqb _ _ (c .before .before .before .before .before .if1 .taken)))) (c .before .before .put .ensures)
+returns c = put-most (omega arith) (put-text (sym (rw (lt-ltb _ _ (c .before .before .before .before .before .if1 .taken)))) (c .before .before .put .ensures))
 
 slice-aggregate-put-2 : tie.Need-slice-aggregate-put-2
 slice-aggregate-put-2 c = search needs
@@ -31,7 +32,20 @@ same-length-2 c = search needs
 
 returns-2 : tie.Need-returns-2
 unfolding matrixName
-returns-2 c = put-text (sym (rw (ne-eqb _ _ (c .before .before .before .before .before .if1 .left)))) (c .before .before .put2 .ensures)
+returns-2 c = put-text (sym (rw (le-ltb _ _ (c .before .before .before .before .before .before .if1 .left), eq-eqb _ _ (c .before .before .before .before .before .if2 .taken)))) (c .before .before .put2 .ensures)
+
+slice-aggregate-put-3 : tie.Need-slice-aggregate-put-3
+slice-aggregate-put-3 c = search needs
+
+put-requires-3 : tie.Need-put-requires-3
+put-requires-3 c κs = search needs
+
+same-length-3 : tie.Need-same-length-3
+same-length-3 c = search needs
+
+returns-3 : tie.Need-returns-3
+unfolding matrixName
+returns-3 c = put-text (sym (rw (le-ltb _ _ (c .before .before .before .before .before .before .if1 .left), ne-eqb _ _ (c .before .before .before .before .before .if2 .left)))) (c .before .before .put3 .ensures)
 
 pub put-matrix-spec : {M : Type 1} → statement M
 put-matrix-spec =
@@ -44,4 +58,8 @@ put-matrix-spec =
     slice-aggregate-put-2
     put-requires-2
     same-length-2
-    returns-2)
+    returns-2
+    slice-aggregate-put-3
+    put-requires-3
+    same-length-3
+    returns-3)

@@ -1,5 +1,5 @@
 -- `value_of` meets its contract: the match is the definition's. Assumes nothing.
-use borrow.Author.Tests.{eq-eqb, ne-eqb}
+use borrow.Author.Tests.{eq-eqb, le-ltb, lt-ltb, ne-eqb}
 use Rattle.sheettext.specs.Texts.{valueIn}
 use borrow.Author.Needs.{needs}
 use Rattle.sheettext.proofs.lines.value_of.Statement.{statement}
@@ -11,24 +11,19 @@ enum-known-entry c = search needs
 bit-at-requires : tie.Need-bit-at-requires
 bit-at-requires c κs = search needs
 
-enum-known-entry-2 : tie.Need-enum-known-entry-2
-enum-known-entry-2 c = search needs
+returns : tie.Need-returns
+unfolding valueIn
+returns c = rw (c .before .before .before .before .entry .given .1, lt-ltb _ _ (c .before .if1 .taken)) (c .bit-at .ensures)
 
 bit-at-requires-2 : tie.Need-bit-at-requires-2
 bit-at-requires-2 c κs = search needs
 
-enum-known-entry-3 : tie.Need-enum-known-entry-3
-enum-known-entry-3 c = search needs
+returns-2 : tie.Need-returns-2
+unfolding valueIn
+returns-2 c = rw (c .before .before .before .before .before .before .entry .given .1, le-ltb _ _ (c .before .before .before .if1 .left), eq-eqb _ _ (c .before .if2 .taken)) (c .bit-at2 .ensures)
 
 bit-at-requires-3 : tie.Need-bit-at-requires-3
 bit-at-requires-3 c κs = search needs
-
-returns : tie.Need-returns
-unfolding valueIn
-returns c = rw (c .before .before .before .entry3 .given .1, eq-eqb _ _ (c .before .if1 .taken)) (c .bit-at3 .ensures)
-
-bit-at-requires-4 : tie.Need-bit-at-requires-4
-bit-at-requires-4 c κs = search needs
 
 enum-told : tie.Need-enum-told
 enum-told c = search needs
@@ -36,25 +31,17 @@ enum-told c = search needs
 enum-told-2 : tie.Need-enum-told-2
 enum-told-2 c = search needs
 
-returns-2 : tie.Need-returns-2
-unfolding valueIn
-returns-2 c = rw (c .before .before .entry .given .1) (c .bit-at .ensures)
-
 returns-3 : tie.Need-returns-3
 unfolding valueIn
-returns-3 c = rw (c .before .before .entry2 .given .1) (c .bit-at2 .ensures)
+returns-3 c = rw (c .before .before .before .before .before .before .entry .given .1, le-ltb _ _ (c .before .before .before .if1 .left), ne-eqb _ _ (c .before .if2 .left)) (c .bit-at3 .ensures)
 
 returns-4 : tie.Need-returns-4
 unfolding valueIn
-returns-4 c = rw (c .before .before .before .entry3 .given .1, ne-eqb _ _ (c .before .if1 .left)) (c .bit-at4 .ensures)
+returns-4 c = rw (c .enum-told .given .1)
 
 returns-5 : tie.Need-returns-5
 unfolding valueIn
-returns-5 c = rw (c .enum-told .given .1)
-
-returns-6 : tie.Need-returns-6
-unfolding valueIn
-returns-6 c = rw (c .enum-told2 .given .1)
+returns-5 c = rw (c .enum-told2 .given .1)
 
 pub value-of-spec : {M : Type 1} → statement M
 value-of-spec =
@@ -62,16 +49,12 @@ value-of-spec =
     (tie.spec
     enum-known-entry
     bit-at-requires
-    enum-known-entry-2
-    bit-at-requires-2
-    enum-known-entry-3
-    bit-at-requires-3
     returns
-    bit-at-requires-4
+    bit-at-requires-2
+    returns-2
+    bit-at-requires-3
     enum-told
     enum-told-2
-    returns-2
     returns-3
     returns-4
-    returns-5
-    returns-6)
+    returns-5)

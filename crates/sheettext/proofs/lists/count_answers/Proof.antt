@@ -40,15 +40,15 @@ part-line-refused-end c =
     omega (arith, c .before .line-end .ensures, end-within newline (now (c .before .before .before .before .before .before .args .list)) (c .before .before .before .loop .i) (omega (arith, c .before .before .loop-test .taken)))
 
 line-refused-requires : tie.Need-line-refused-requires Inv-loop μ-loop
-line-refused-requires c κs = c .before .before .before .before .before .index-table .ensures
+line-refused-requires c κs = (c .before .before .before .before .before .index-table .ensures, c .before .before .before .before .before .before .before .pre .0)
 
 one-more-requires : tie.Need-one-more-requires Inv-loop μ-loop
 one-more-requires c κs =
-    omega (arith, c .before .before .before .before .before .before .before .before .pre, c .before .before .before .before .before .loop .inv .1, c .before .before .before .before .loop-test .taken)
+    omega (arith, c .before .before .before .before .before .before .before .before .pre .1, c .before .before .before .before .before .loop .inv .1, c .before .before .before .before .loop-test .taken)
 
 add-i : tie.Need-add-i Inv-loop μ-loop
 add-i c =
-    omega (arith, c .before .before .before .before .before .before .before .before .before .pre, c .before .before .before .before .line-end .ensures, end-within newline (now (c .before .before .before .before .before .before .before .before .before .args .list)) (c .before .before .before .before .before .before .loop .i) (omega (arith, c .before .before .before .before .before .loop-test .taken)))
+    omega (arith, c .before .before .before .before .before .before .before .before .before .pre .1, c .before .before .before .before .line-end .ensures, end-within newline (now (c .before .before .before .before .before .before .before .before .before .args .list)) (c .before .before .before .before .before .before .loop .i) (omega (arith, c .before .before .before .before .before .loop-test .taken)))
 
 loop-less : tie.Need-loop-less Inv-loop μ-loop
 loop-less c = omega (arith, c .before .before .before .before .line-end .ensures, c .before .before .before .before .before .loop-test .taken)

@@ -9,7 +9,7 @@ use Rattle.calls.specs.Called.{matrices}
 use Rattle.text.specs.Lines.{lines}
 use Rattle.text.specs.Lines.{newline}
 use Rattle.text.proofs.Ends.{end-within}
-use Rattle.sheettext.specs.Texts.{valueIn}
+use Rattle.sheettext.specs.Texts.{valueIn, valued}
 use Rattle.sheettext.specs.Lists.{answers, asking}
 use Rattle.text.proofs.Walk.{walk-on, walk-end}
 use Rattle.text.proofs.Left.{Left, left-begins, left-on, left-done}
@@ -19,8 +19,8 @@ use Rattle.sheettext.proofs.lists.put_answers.Tie as tie
 
 abbrev Inv-loop : tie.InvT-loop
 Inv-loop out₀ at mode count t list pm px1 px2 table end₀ i₀ out end i =
-    (i ≤ length list + 1) × (end + 200 * asking t (lines (drop i list)) ≤ at + 200 * asking t (lines list))
-    × Left out₀ out at end (answers (valueIn (matrices pm px1 px2)) mode count t (lines list)) (answers (valueIn (matrices pm px1 px2)) mode count t (lines (drop i list)))
+    (i ≤ length list + 1) × (end + 200 * asking mode count t (lines (drop i list)) ≤ at + 200 * asking mode count t (lines list))
+    × Left out₀ out at end (answers (valued count (valueIn (matrices pm px1 px2))) mode count t (lines list)) (answers (valued count (valueIn (matrices pm px1 px2))) mode count t (lines (drop i list)))
 
 abbrev μ-loop : tie.MeasureT-loop
 μ-loop out₀ at mode count t list pm px1 px2 table end₀ i₀ out end i = length list + 1 - i
@@ -46,11 +46,11 @@ part-put-answer-end c =
 
 put-answer-requires : tie.Need-put-answer-requires Inv-loop μ-loop
 put-answer-requires c κs =
-    (c .before .before .before .before .before .before .index-table .ensures, omega (arith, c .before .before .before .before .before .before .before .before .before .before .before .before .pre .0, c .before .before .before .before .before .loop .inv .1, c .before .before .before .before .before .loop .inv .2 .size))
+    (c .before .before .before .before .before .before .index-table .ensures, c .before .before .before .before .before .before .before .before .before .before .before .before .pre .0, omega (arith, c .before .before .before .before .before .before .before .before .before .before .before .before .pre .1, c .before .before .before .before .before .loop .inv .1, c .before .before .before .before .before .loop .inv .2 .size))
 
 add-i : tie.Need-add-i Inv-loop μ-loop
 add-i c =
-    omega (arith, c .before .before .before .before .before .before .before .before .before .before .before .before .before .before .before .pre .1, c .before .before .before .before .before .before .line-end .ensures, end-within newline (now (c .before .before .before .before .before .before .before .before .before .before .before .before .before .before .before .args .list)) (c .before .before .before .before .before .before .before .before .loop .i) (omega (arith, c .before .before .before .before .before .before .before .loop-test .taken)))
+    omega (arith, c .before .before .before .before .before .before .before .before .before .before .before .before .before .before .before .pre .2, c .before .before .before .before .before .before .line-end .ensures, end-within newline (now (c .before .before .before .before .before .before .before .before .before .before .before .before .before .before .before .args .list)) (c .before .before .before .before .before .before .before .before .loop .i) (omega (arith, c .before .before .before .before .before .before .before .loop-test .taken)))
 
 loop-less : tie.Need-loop-less Inv-loop μ-loop
 loop-less c =
@@ -60,7 +60,7 @@ loop-again : tie.Need-loop-again Inv-loop μ-loop
 loop-again c =
     let next = walk-on (now (c .before .before .before .before .before .before .before .before .before .before .before .before .before .before .before .args .list)) (c .before .before .before .before .before .before .before .before .loop .i) _ (c .before .before .before .before .before .before .before .loop-test .taken) (c .before .before .before .before .before .before .line-end .ensures) in (
       omega (arith, c .before .before .before .before .before .before .line-end .ensures, end-within newline (now (c .before .before .before .before .before .before .before .before .before .before .before .before .before .before .before .args .list)) (c .before .before .before .before .before .before .before .before .loop .i) (omega (arith, c .before .before .before .before .before .before .before .loop-test .taken))),
-      omega (arith, c .before .before .before .before .before .before .before .before .loop .inv .1, c .before .before .put-answer .ensures .within, asking-on _ _ _ next (c .before .before .before .before .before .before .before .before .before .before .before .before .before .before .before .args .t)),
+      omega (arith, c .before .before .before .before .before .before .before .before .loop .inv .1, c .before .before .put-answer .ensures .within, asking-on _ _ _ next (c .before .before .before .before .before .before .before .before .before .before .before .before .before .before .before .args .mode) (c .before .before .before .before .before .before .before .before .before .before .before .before .before .before .before .args .count) (c .before .before .before .before .before .before .before .before .before .before .before .before .before .before .before .args .t)),
       left-on (c .before .before .before .before .before .before .before .before .loop .inv .2) (answers-on _ _ _ next _ _ _ _) (c .before .before .put-answer .ensures),
     )
 

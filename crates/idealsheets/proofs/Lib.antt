@@ -1,0 +1,5 @@
+mod Sequence
+pub mod Values
+pub mod Ideal
+pub mod Apart
+pub mod Sendable
