@@ -106,7 +106,7 @@ def sheet_lines(paper: Paper, examiner: bool) -> List[str]:
     out += bytes_rows(paper)
     if examiner:
         for number, lines in enumerate(workings(sheet, paper.frames), 1):
-            title = ["<h2>Workings</h2>"] if number == 1 else []
+            title = [f"<h2>{'Workings' if sheet.worked else 'Bytes and places of the answers'}</h2>"] if number == 1 else []
             out += ['<tr class="working"><td>', *title, *lines, "</td></tr>"]
     return [*out, "</tbody>", "</table>"]
 
