@@ -1,7 +1,8 @@
 # `make` lists what can be made. Times are of a machine with two processors.
-.PHONY: help sheet sheet-html spectrum programs library install quick test bench clean
+.PHONY: help sitting sheet sheet-html spectrum programs library install quick test bench clean
 
 help:
+	@echo "make sitting     papers, answers and marks: a small sitting of two candidates under target/sitting; the first time it proves what it needs"
 	@echo "make sheet       the main job on a sample; the first time it proves what the program needs, about seven minutes"
 	@echo "make sheet-html  the same for paper: target/sheets/candidate.html and examiner.html"
 	@echo "make spectrum    one symbol of the sample as a picture: target/sheets/spectrum.svg"
@@ -13,11 +14,18 @@ help:
 	@echo "make bench       sender, reader, cells, nearest and restore beside the second program; five minutes"
 	@echo "make clean       removes target/, with all that was proved"
 
+sitting:
+	@mkdir -p target
+	@rm -rf target/sitting
+	@./layer1 sitting new target/sitting --mode 11 --frames 3 --candidates 2
+	@./layer1 sitting make target/sitting
+	@./layer1 sitting check target/sitting
+
 sheet:
-	@sheets/print
+	@./layer1 sheet 11 3 sheets/sample/cells sheets/sample/frames
 
 sheet-html:
-	@sheets/html
+	@./layer1 sheet 11 3 sheets/sample/cells sheets/sample/frames --html target/sheets --force
 
 # Symbol 100 of the sample's last L1 frame, its upper sideband at half the scale of the lower.
 spectrum:

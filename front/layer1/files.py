@@ -7,7 +7,7 @@ import stat
 import sys
 import tempfile
 from pathlib import Path
-from typing import IO, Iterator, Optional
+from typing import IO, Dict, Iterator, Optional
 
 from .outcomes import Failed, Misused, Refused
 
@@ -209,3 +209,35 @@ def synced(folder: Path) -> None:
         os.fsync(handle)
     finally:
         os.close(handle)
+
+
+def write_all(folder: Path, content: Dict[str, bytes], named: Optional[Path] = None) -> None:
+    """Writes files into a folder under their names: all of them are on the disk before the first gets its name, and none stays where one cannot be written.
+    The folder may be named by what it becomes."""
+    temporary: Dict[str, Path] = {}
+    new = []
+    try:
+        for name, data in content.items():
+            path = folder / name
+            path.parent.mkdir(parents=True, exist_ok=True)
+            handle, copy = tempfile.mkstemp(prefix=path.name + ".", dir=path.parent)
+            temporary[name] = Path(copy)
+            with os.fdopen(handle, "wb") as file:
+                file.write(data)
+                file.flush()
+                os.fchmod(file.fileno(), 0o666 & ~umask())
+                os.fsync(file.fileno())
+        for name in content:
+            if not os.path.lexists(folder / name):
+                new.append(folder / name)
+            os.replace(temporary[name], folder / name)
+            del temporary[name]
+        new.clear()
+        for parent in {(folder / name).parent for name in content}:
+            synced(parent)
+    except OSError as error:
+        raise Failed(f"{named or folder} is not written: {reason(error)}") from None
+    finally:
+        for path in [*temporary.values(), *new]:
+            with contextlib.suppress(OSError):
+                path.unlink()

@@ -7,3 +7,6 @@ ROOT = Path(__file__).resolve().parents[2]
 
 BUILT = ROOT / "target" / "bin"
 """The proved programs."""
+
+SECOND = ROOT / "target" / "second" / "release" / "second"
+"""The second program, where it is built."""

@@ -12,7 +12,7 @@ from typing import IO, Dict, Iterator, Optional, Sequence, Union
 from . import answers, causes
 from .files import behind, reason, size_of
 from .outcomes import Ended, Failed, Refused
-from .paths import BUILT, ROOT
+from .paths import BUILT, ROOT, SECOND
 from .progress import Progress
 
 FOLDER_VARIABLE = "LAYER1_PROGRAMS"
@@ -36,6 +36,13 @@ def program(name: str) -> Path:
             return place / name
     build(name)
     return BUILT / name
+
+
+def second() -> Optional[Path]:
+    """The second program, where it is built."""
+    folder = os.environ.get(FOLDER_VARIABLE)
+    places = ([Path(folder) / "second"] if folder else []) + [SECOND]
+    return next((place for place in places if os.access(place, os.X_OK)), None)
 
 
 def source_of(name: str) -> Path:

@@ -1,15 +1,17 @@
 """The verbs sheet and work: answers to a list of questions about L1 frames, by the program sheet."""
 
 import argparse
+import functools
 import hashlib
+import io
 from pathlib import Path
 from typing import IO, List, Sequence
 
-from . import layout, paper, programs
+from . import layout, paper, programs, record, windows
 from .answers import sheet_of
 from .asking import GREATEST, bits_of_words
 from .files import behind, opened, refuse_existing, say, shown, size_of, text_of, write_text
-from .modes import Mode, mode_of, number_of
+from .modes import MODES, Mode, mode_of, number_of
 from .outcomes import DONE, Failed, Refused
 from .words import Verbs
 
@@ -58,6 +60,24 @@ def printed(words: Sequence[str], questions: str, frames: IO[bytes]) -> List[str
     return text.splitlines()
 
 
+@functools.lru_cache(maxsize=None)
+def worked_words() -> Sequence[str]:
+    """The word that asks for workings, where the program takes it; one of an older revision says how it is used."""
+    try:
+        return ["work"] if printed(["1", "0", "work"], "\n", io.BytesIO()) == ["MP1 0 work", "END 0"] else []
+    except Failed as failed:
+        if "usage:" in str(failed):
+            return []
+        raise
+
+
+@functools.lru_cache(maxsize=None)
+def answers_bits() -> bool:
+    """Whether the program answers questions for coded bits; one of an older revision refuses the line."""
+    frame = bytes(MODES[1].input_bytes())
+    return not sheet_of(printed(["1", "1"], "0 P1 0 0\n\n", io.BytesIO(frame))).refused
+
+
 def run_sheet(given: argparse.Namespace) -> int:
     """The verb sheet."""
     mode, count = mode_of(given.mode), number_of(given.count, "COUNT", 10**9)
@@ -68,28 +88,28 @@ def run_sheet(given: argparse.Namespace) -> int:
     words = [str(mode.number), str(count), *(["without", *without] if without else [])]
     questions = list_of(given.questions)
     with opened(given.frames) as frames:
-        lines = printed(words, questions, frames)
+        lines = printed([*words, *(worked_words() if names else [])], questions, frames)
         sheet = sheet_of(lines)
         if (sheet.mode, sheet.count, sheet.without) != (mode.number, count, " ".join(without)):
             raise Failed(f"the output of sheet is that of {lines[0]!r}")
         if given.html is None:
             say("\n".join(lines) + "\n" if given.lines else layout.text(sheet))
             return DONE
-        number = number_of_sheet(words, questions, frames)
+        frames.seek(0)
+        data = windows.Frames(mode, tuple(without), frames.read())
+    on_paper = paper.Paper(sheet, number_of_sheet(words, questions, data.data), "", record.revision(), data, questions[:-1])
+    pages = [paper.page(on_paper, copy == "examiner") for copy in COPIES]
     Path(given.html).mkdir(parents=True, exist_ok=True)
-    for name, copy in zip(names, COPIES):
-        write_text(name, paper.page(sheet, number, copy == "examiner"), given.force)
+    for name, page in zip(names, pages):
+        write_text(name, page, given.force)
         say(f"{name}\n")
     return DONE
 
 
-def number_of_sheet(words: Sequence[str], questions: str, frames: IO[bytes]) -> str:
-    """A sheet's own number, made from mode, questions and frames: nothing of the answers can be computed from it."""
-    digest = hashlib.sha256(" ".join(words).encode() + b"\n" + questions.encode("latin-1"))
-    frames.seek(0)
-    for block in iter(lambda: frames.read(1 << 20), b""):
-        digest.update(block)
-    return str(int.from_bytes(digest.digest()[:4], "big"))
+def number_of_sheet(words: Sequence[str], questions: str, frames: bytes) -> str:
+    """A sheet's own number, of ten digits, made from mode, questions and frames: nothing of the answers can be computed from it."""
+    digest = hashlib.sha256(" ".join(words).encode() + b"\n" + questions.encode("latin-1") + frames).digest()
+    return f"{int.from_bytes(digest[:4], 'big'):010d}"
 
 
 def run_work(given: argparse.Namespace) -> int:

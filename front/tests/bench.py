@@ -1,6 +1,7 @@
 """A folder with what the tests hand to the command: frames, dumps and damaged ones, all made from the sample, so that stored answers stay as they are."""
 
 import os
+import shutil
 import subprocess
 import tempfile
 from pathlib import Path
@@ -46,7 +47,7 @@ def damaged(dump: bytes) -> bytes:
 
 def made(name: str, *words: str, given: bytes = b"") -> bytes:
     """What a program writes."""
-    return subprocess.run([BUILT / name, *words], input=given, stdout=subprocess.PIPE, check=True).stdout
+    return subprocess.run([BUILT / name, *words], input=given, stdout=subprocess.PIPE, stderr=subprocess.PIPE, check=True).stdout
 
 
 class Bench:
@@ -63,9 +64,13 @@ class Bench:
         self.environment = {**os.environ, "PATH": f"{ROOT}:{os.environ.get('PATH', '')}", "LAYER1_PROGRAMS": str(self.programs), "COLUMNS": "100"}
 
     def place_programs(self) -> None:
-        """Stand-ins for programs that print an older format, and for programs that fail."""
-        if not made("sheet", "1", "0", given=b"\n").startswith(b"MP1"):
-            standins.put(self.programs, "sheet", "sheet")
+        """The second program, where it can be built; stand-ins for programs that print an older format."""
+        if shutil.which("cargo"):
+            subprocess.run([ROOT / ".ci" / "second"], stdout=subprocess.DEVNULL, check=True)
+        (self.folder / "worked").mkdir()
+        if not made("sheet", "1", "0", "work", given=b"\n").startswith(b"MP1"):
+            standins.put(self.folder / "worked", "sheet", "sheet")
+            standins.put(self.folder / "worked", "second", "second")
         for name in ("failing", "complaining"):
             (self.folder / name).mkdir()
             for program in ("owners", "sheet", "sender", "reader", "judge", "keys", "vector", "nearest", "restore", "allocate"):

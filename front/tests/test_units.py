@@ -10,7 +10,7 @@ from fractions import Fraction
 from pathlib import Path
 from unittest import mock
 
-from layer1 import answers, causes, dumps, files, hints, layout, paper, picture, programs, progress, scales, sequences
+from layer1 import answers, causes, dumps, files, hints, layout, picture, programs, progress, scales, sequences
 from layer1.modes import MODES
 from layer1.outcomes import Failed, Misused, Refused
 from layer1.owners import taken
@@ -117,7 +117,7 @@ class Answers(unittest.TestCase):
     def test_whole(self) -> None:
         """A sheet without its head, its end or one of its lines is none."""
         lines = ["MP1 1", "0 PM 192 360 P1 0 0 1", "END 1"]
-        self.assertEqual(len(answers.sheet_of(lines).pm), 1)
+        self.assertEqual(len(answers.sheet_of(lines).answers), 1)
         for part in ([], lines[:1], lines[:2], lines[1:], [lines[0], lines[2]], ["MP1 1", "0 PM 1 2", "END 1"], [*lines, lines[1]]):
             with self.assertRaises(Failed):
                 answers.sheet_of(part)
@@ -139,26 +139,40 @@ class Answers(unittest.TestCase):
         with self.assertRaises(Failed):
             answers.sheet_of(["NO SHEET whatever"])
 
+    def test_workings(self) -> None:
+        """A working belongs to the answer above it; each answer but FILL has one, if they were asked for."""
+        work = "WORK BIT 67040 GENERATOR 165 FRAME 1 0 1 1 0 0 1 SCRAMBLER 0 0 1 0 1 1 1 SUM 5 STEP 167602 K 523"
+        work += " BLOCK 10 PARTITION 18 ROW 25 COLUMN 30 CELL 249078"
+        lines = ["MP11 3 without P3 P4 work", "0 PM 345 678 P1 0 167602 1", work, "0 PX1 0 0 36 FILL", "END 2"]
+        sheet = answers.sheet_of(lines)
+        working = sheet.answers[0].working
+        assert working is not None
+        self.assertEqual((working.number, working.generator, working.bits[2:4], working.ones, working.row, working.cell), (67040, "165", (1, 1), 5, 25, 249078))
+        self.assertTrue(sheet.worked and sheet.answers[1].fill)
+        twice, early, filled = [*lines[:3], work, *lines[3:]], [lines[0], work, *lines[1:]], [*lines[:4], work, lines[4]]
+        for wrong in ([*lines[:2], *lines[3:]], twice, early, filled, ["MP11 3", *lines[1:]]):
+            with self.assertRaises(Failed):
+                answers.sheet_of(wrong)
+
+    def test_places(self) -> None:
+        """The cell and the coded bit of an answer, whichever of them was asked for."""
+        for line, coded, place in (
+            ("0 PM 345 678 P1 0 167602 1", (0, "P1", 0, 167602), (0, "PM", None, 345, 678)),
+            ("1 PX2 2 31 105 P4 0 7 8797 1", (0, "P4", 7, 8797), (1, "PX2", 2, 31, 105)),
+            ("0 PIDS 3 199 PM 0 117 208 0", (0, "PIDS", 3, 199), (0, "PM", None, 117, 208)),
+            ("2 P4 6 7543 PX2 3 7 63 143 LATER", (2, "P4", 6, 7543), (3, "PX2", 7, 63, 143)),
+        ):
+            answer = answers.answer_of(line)
+            assert answer is not None and answer.coded is not None
+            self.assertEqual((answer.coded, answer.place), (answers.Coded(*coded), answers.Place(*place)))
+
     def test_text(self) -> None:
-        """The sample as it is stored; the three kinds are numbered through."""
+        """The sample as it is stored; an answer has its number among all."""
         sheet = answers.sheet_of((SAMPLE / "expected").read_text().splitlines())
         self.assertEqual(layout.text(sheet), (SAMPLE / "printed").read_text())
         text = layout.text(self.sheet())
         self.assertIn("without P3", text)
         self.assertRegex(text, r"\n 16 .* LATER\n")
-
-    def test_paper(self) -> None:
-        """Both copies have the same boxes; the candidate's are empty."""
-        examiner, candidate = (paper.page(self.sheet(), "77", copy) for copy in (True, False))
-        boxes = re.compile(r'<td class="answer[^>]*>([^<]*)</td>')
-        self.assertTrue(all(boxes.findall(examiner)))
-        self.assertFalse(any(boxes.findall(candidate)))
-        self.assertEqual(len(boxes.findall(examiner)), len(boxes.findall(candidate)))
-        self.assertIn("refused and are on neither copy: 7.", examiner)
-        self.assertNotIn("refused", candidate)
-        rows = re.compile(r"<tr><td.*")
-        emptied = [boxes.sub(lambda box: box[0].replace(f">{box[1]}<", "><"), row) for row in rows.findall(examiner)[1:]]
-        self.assertEqual(emptied, rows.findall(candidate)[1:])
 
     def test_owner_lines(self) -> None:
         """Lines of owners; others are none."""
