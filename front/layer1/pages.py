@@ -16,6 +16,9 @@ NAME = "bench.html"
 PARTS = Path(__file__).resolve().parent / "page"
 """The page's own files; the first has a place for each of the others."""
 
+PLACED = ("page.css", "lookup.js", "picture.js", "answers.js", "opened.js", "paper.js", "measure.js", "page.js")
+"""The others, in their order."""
+
 ASKED = ("owners", "cells")
 """The programs whose answers are in the page."""
 
@@ -59,7 +62,7 @@ def refuse_other(folder: Path) -> None:
 def page() -> str:
     """The page, put together."""
     made_of = [fingerprint(name) for name in ASKED]
-    parts = {name: (PARTS / name).read_text(encoding="utf-8") for name in ("page.css", "lookup.js", "page.js")}
+    parts = {name: (PARTS / name).read_text(encoding="utf-8") for name in PLACED}
     parts["tables.json"] = json.dumps(tables.tables(), separators=(",", ":")).replace("<", "\\u003c")
     parts["revision"] = html.escape(revision())
     parts["programs"] = html.escape(", ".join(made_of))

@@ -1,4 +1,5 @@
-// What the page looks up: the tables that the programs printed, the bits of a dump, the workings of a file. No drawing and no document here, so that node runs it too.
+// What the page looks up: the tables that the programs printed, the bits of a dump, the workings of a file.
+// No drawing and no document here, so that node runs it too.
 "use strict";
 var Lookup = (function () {
     const DIGITS = "ABCDEFGHIJKLMNOPQRSTUVWXYZabcdefghijklmnopqrstuvwxyz0123456789+/";
@@ -13,7 +14,9 @@ var Lookup = (function () {
         }
         const cells = new Uint32Array(text.length / 4);
         for (let n = 0, at = 0; n < cells.length; n++, at += 4) {
-            cells[n] = values[text.charCodeAt(at)] << 18 | values[text.charCodeAt(at + 1)] << 12 | values[text.charCodeAt(at + 2)] << 6 | values[text.charCodeAt(at + 3)];
+            for (let digit = at; digit < at + 4; digit++) {
+                cells[n] = cells[n] << 6 | values[text.charCodeAt(digit)];
+            }
         }
         return cells;
     }
@@ -238,7 +241,7 @@ var Lookup = (function () {
     }
 
     return {
-        FRAMES: FRAMES, opened: opened, matrixOf: matrixOf, tableOf: tableOf, cellAt: cellAt, placeOf: placeOf, ownerOf: ownerOf, cellOf: cellOf, channelsOf: channelsOf,
-        numberIn: numberIn, dumpOf: dumpOf, bitIn: bitIn, framesOf: framesOf, bytesOf: bytesOf, nameOf: nameOf, workingsOf: workingsOf,
+        FRAMES: FRAMES, opened: opened, matrixOf: matrixOf, tableOf: tableOf, cellAt: cellAt, placeOf: placeOf, ownerOf: ownerOf, cellOf: cellOf,
+        channelsOf: channelsOf, numberIn: numberIn, dumpOf: dumpOf, bitIn: bitIn, framesOf: framesOf, bytesOf: bytesOf, nameOf: nameOf, workingsOf: workingsOf,
     };
 })();
