@@ -74,10 +74,11 @@ class Kept:
 def tables() -> Dict[str, Any]:
     """All that the page looks up; PX1 and PX2 are asked for first, since PM is there in every revision."""
     kept = Kept()
-    modes = [{"number": mode.number, "name": mode.name, "frames": mode.frames, "matrices": extended(mode, kept)} for mode in covered()]
+    found = {mode.number: extended(mode, kept) for mode in covered()}
     main = {"columns": covered()[0].columns("PM"), "paired": False, "tables": [kept.place_of(main_matrix(covered()[0]))]}
-    for mode in modes:
-        mode["matrices"] = {"PM": main, **mode["matrices"]}
+    modes = [
+        {"number": mode.number, "name": mode.name, "frames": mode.frames, "matrices": {"PM": main, **found[mode.number]}} for mode in covered()
+    ]
     return {"modes": modes, "tables": kept.tables, **layout()}
 
 

@@ -1,4 +1,5 @@
-"""The bench page: its lookups under node, by the script as it stands in the page, against what the programs and the second program print for every cell and bit."""
+"""The bench page: its lookups under node, by the script as it stands in the page, against what the programs and the second program print for every
+cell and bit; and the page itself in Chromium."""
 
 import os
 import random
@@ -135,6 +136,28 @@ class Made(unittest.TestCase):
             self.assertEqual(self.looked_up("workings", path, []), wanted)
 
 
+    @unittest.skipUnless(shutil.which("chromium"), "chromium is not installed")
+    def test_chromium(self) -> None:
+        """The page itself, opened from a file at a cell: it says of the cell what the front command says."""
+        draw = random.Random(SEED)
+        pair, row, column = draw.randrange(8), draw.randrange(64), draw.randrange(72)
+        for mode, frame, cell in ((1, 0, "PM 345 678"), (2, 3, f"PX1 {pair} {row} {column}"), (11, 0, "PX2 0 0 36"), (11, 2, f"PX2 {pair} {row} {2 * column}")):
+            words = self.bench.run(f"layer1 whose {cell} --mode {mode} --frame {frame} --lines").stdout.decode().split()[1 + len(cell.split()) :]
+            text = self.opened(f"{mode}/{frame}/{cell.replace(' ', '/')}")
+            channel, tframe, bit = words[0], words[-2:-1], words[-1]
+            self.assertIn("Fill" if words == [FILL] else f"{channel} coded bit {bit} transfer frame {tframe[0]}", text, f"seed {SEED}")
+            if len(words) == 4:
+                self.assertIn(f"of L1 frame {words[1]},", text)
+
+    def opened(self, address: str) -> str:
+        """The words of the answer in Chromium."""
+        profile = self.bench.folder / "profile"
+        words = ["chromium", "--headless", "--no-sandbox", "--disable-gpu", f"--user-data-dir={profile}", "--dump-dom", f"{self.page.as_uri()}#{address}"]
+        text = subprocess.run(words, stdout=subprocess.PIPE, stderr=subprocess.DEVNULL, check=True, timeout=120).stdout.decode()
+        answer = text[text.index('<div id="answer"') : text.index('<div class="asks"')]
+        return " ".join(re.sub(r"<[^>]*>", " ", answer).split())
+
+
 class Packed(unittest.TestCase):
     """What goes into the page, and what does not."""
 
@@ -149,7 +172,8 @@ class Packed(unittest.TestCase):
         """An L1 frame that shows other bits than a later one of its parity, or fill where there is none, makes no page."""
         kept = tables.asked
         self.addCleanup(setattr, tables, "asked", kept)
-        for first, later in ((Bit(0, "P3", 0, 1), Bit(2, "P3", 0, 2)), (FILL, Bit(2, "P3", 0, 2)), (Bit(0, "P3", 0, 1), FILL), (Bit(0, "P3", 0, 1), Bit(1, "P3", 0, 1))):
+        one, two = Bit(0, "P3", 0, 1), Bit(2, "P3", 0, 2)
+        for first, later in ((one, two), (FILL, two), (one, FILL), (one, Bit(1, "P3", 0, 1))):
             tables.asked = lambda mode, matrix, frame, pair=(first, later): [pair[frame // 2]]  # type: ignore[assignment, misc]
             with self.assertRaises(Failed):
                 tables.half(tables.covered()[1], "PX1", 0)

@@ -4,7 +4,7 @@ const pack = JSON.parse(document.getElementById("tables").textContent);
 const book = Lookup.opened(pack);
 
 // What is shown: a cell of a matrix in an L1 frame; how large a cell is, and where the matrix begins in the picture.
-const state = { mode: book.modes[book.modes.length - 1], matrix: null, frame: 0, cell: 0, scale: 1, x: 0, y: 0, whole: true, ready: 0 };
+const state = { mode: book.modes[book.modes.length - 1], matrix: null, frame: 0, cell: 0, scale: 1, x: 0, y: 0, whole: true, ready: 0, timer: 0 };
 
 // An element by its id.
 function at(id) {
@@ -47,6 +47,7 @@ function mark(cell, near, middle) {
     say("");
     answer();
     scroll(near, middle);
+    toAddress();
 }
 
 // Changes mode, matrix or L1 frame; the marked cell stays where the matrix has it.
@@ -69,6 +70,7 @@ function show(mode, matrix, frame) {
         whole();
     }
     redraw();
+    toAddress();
 }
 
 // The mode's matrices, channels and the parity of the L1 frame in the fields.
@@ -201,7 +203,37 @@ function watchForms() {
     dark.addEventListener ? dark.addEventListener("change", turned) : dark.addListener(turned);
 }
 
-// Begins with the whole PM of the last mode.
+// Shows the cell that the page's address names behind #, if it names one: MODE/FRAME/MATRIX/ROW/COLUMN, in PX1 and PX2 MODE/FRAME/MATRIX/PAIR/ROW/COLUMN.
+function fromAddress() {
+    const words = location.hash.slice(1).split("/");
+    const mode = book.modes.filter(known => String(known.number) === words[0])[0];
+    const matrix = mode ? Lookup.matrixOf(mode, words[2]) : null;
+    const numbers = words.slice(3).concat(words[1]).map(word => Lookup.numberIn(word || "", Lookup.FRAMES));
+    if (matrix && numbers.length === (matrix.paired ? 4 : 3) && numbers.indexOf(null) < 0) {
+        const frame = numbers.pop();
+        const cell = Lookup.cellAt(pack, matrix, matrix.paired ? numbers.shift() : 0, numbers[0], numbers[1]);
+        if (cell !== null) {
+            show(mode, matrix, frame);
+            mark(cell, true, true);
+        }
+    }
+}
+
+// Writes the marked cell behind the page's address, so that it is shown again when the page is; late, since browsers refuse to do so often.
+function toAddress() {
+    clearTimeout(state.timer);
+    state.timer = setTimeout(() => {
+        const place = Lookup.placeOf(pack, state.matrix, state.cell);
+        const words = [state.mode.number, state.frame, state.matrix.name].concat(state.matrix.paired ? place.pair : [], place.row, place.column);
+        try {
+            history.replaceState(null, "", "#" + words.join("/"));
+        } catch (refused) {
+            state.timer = 0;
+        }
+    }, 500);
+}
+
+// Begins with the whole PM of the last mode, or with the cell of the address.
 function begin() {
     const names = [];
     book.modes.forEach(mode => mode.matrices.forEach(matrix => names.indexOf(matrix.name) < 0 && names.push(matrix.name)));
@@ -217,6 +249,8 @@ function begin() {
     show(state.mode, state.mode.matrices[0], 0);
     resized();
     whole();
+    fromAddress();
+    window.addEventListener("hashchange", fromAddress);
     state.ready = performance.now();
 }
 
