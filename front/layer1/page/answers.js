@@ -18,7 +18,7 @@ function answer() {
     const box = at("answer");
     box.textContent = "";
     box.appendChild(made("p", "asked", cellInWords(place)));
-    box.appendChild(made("div", "told", [made("div", "", ownerInWords(owner)), valueBox()]));
+    box.appendChild(made("div", "told", [made("div", "", ownerInWords(owner)), valueBox(owner)]));
     box.appendChild(position(place));
     explain(owner);
     fillIn(place, owner);
@@ -38,15 +38,28 @@ function ownerInWords(owner) {
     return state.matrix.paired ? [bit, from, made("p", "more", handed(owner))] : [bit, from];
 }
 
-// The value in the cell, or nothing.
-function valueBox() {
+// The value in the cell out of the dump, or else out of the working; or nothing.
+function valueBox(owner) {
     const bytes = frameBytes();
+    const working = workingOf(owner);
+    const framed = (value, words) => made("div", "value", [made("b", "", value), made("span", "", words)]);
     if (bytes) {
-        const value = String(Lookup.bitIn(pack, state.mode, state.matrix, bytes, state.cell));
-        return made("div", "value", [made("b", "", value), made("span", "", "in dump")]);
+        return framed(String(Lookup.bitIn(pack, state.mode, state.matrix, bytes, state.cell)), "in dump");
+    }
+    if (working && working.value !== "LATER") {
+        return framed(working.value, "working");
     }
     const absent = files.dump && files.dump.mode === state.mode.number && state.frame >= files.dump.count;
-    return absent ? made("div", "value", [made("span", "", "not in the dump")]) : made("div");
+    return absent ? framed("", "not in the dump") : made("div");
+}
+
+// The working of a coded bit, where a file has it.
+function workingOf(owner) {
+    const known = files.workings;
+    if (owner.fill || !known || known.mode !== null && known.mode !== state.mode.number) {
+        return null;
+    }
+    return known.by[Lookup.nameOf(owner.from, owner.channel, owner.tframe, owner.bit)] || null;
 }
 
 // Block, row, partition and column; in PX1 and PX2 of the L1 block too.
@@ -77,12 +90,11 @@ function askFrom() {
     at("since").hidden = !channel || !Lookup.matrixOf(state.mode, channel.matrix).paired;
 }
 
-// The working of a coded bit, where a file has it; and where the transfer frame stands in a file of frames.
+// Shows the working of a coded bit, and where the transfer frame stands in a file of frames.
 function explain(owner) {
     const box = at("working");
     box.textContent = "";
-    const found = owner.fill || !files.workings || (files.workings.mode || state.mode.number) !== state.mode.number ? null
-        : files.workings.by[Lookup.nameOf(owner.from, owner.channel, owner.tframe, owner.bit)];
+    const found = workingOf(owner);
     const inFrames = owner.fill ? null : framesPlace(owner);
     if (found) {
         showWorking(box, found);
