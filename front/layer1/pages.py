@@ -16,7 +16,7 @@ NAME = "bench.html"
 PARTS = Path(__file__).resolve().parent / "page"
 """The page's own files; the first has a place for each of the others."""
 
-PLACED = ("page.css", "lookup.js", "picture.js", "answers.js", "opened.js", "paper.js", "measure.js", "page.js")
+PLACED = ("page.css", "lookup.js", "picture.js", "pointing.js", "answers.js", "opened.js", "paper.js", "measure.js", "page.js")
 """The others, in their order."""
 
 ASKED = ("owners", "cells")
