@@ -97,6 +97,8 @@ class Made(unittest.TestCase):
             self.same(self.printed(second, "owners", str(mode), lines=lines), given)
             if os.access(BUILT / "owners", os.X_OK):
                 self.same(self.printed(BUILT / "owners", str(mode), lines=lines), given)
+                last = px_questions(mode, [2**32 - 1]) + [f"{2**32} PM 0 0"]
+                self.same(self.printed(BUILT / "owners", str(mode), lines=last), self.looked_up("owners", mode, last))
 
     def odd_questions(self, draw: random.Random, mode: int) -> List[str]:
         """Cells of PM and bits in drawn L1 frames, and what no mode has."""
