@@ -1,11 +1,12 @@
 # `make` lists what can be made. Times are of a machine with two processors.
-.PHONY: help sitting sheet sheet-html spectrum programs library install quick test bench clean
+.PHONY: help sitting sheet sheet-html spectrum page programs library install quick test bench clean
 
 help:
 	@echo "make sitting     papers, answers and marks: a small sitting of two candidates under target/sitting; the first time it proves what it needs"
 	@echo "make sheet       the main job on a sample; the first time it proves what the program needs, about seven minutes"
 	@echo "make sheet-html  the same for paper: target/sheets/candidate.html and examiner.html"
 	@echo "make spectrum    one symbol of the sample as a picture: target/sheets/spectrum.svg"
+	@echo "make page        the bench page, one file for a tablet: target/page/bench.html; half a minute on built programs"
 	@echo "make programs    proves and builds every program under target/bin; from nothing about ten minutes, then what has changed"
 	@echo "make library     the C library, target/staticlib/liblayer1.a, for include/layer1.h; about two minutes on built programs"
 	@echo "make install     the front command layer1, the programs, header, archive and a pkg-config file under PREFIX, as make install PREFIX=/usr/local"
@@ -32,6 +33,10 @@ spectrum:
 	@mkdir -p target/sheets
 	@./layer1 send 11 3 sheets/sample/frames -o target/sheets/sample.dump --force
 	@./layer1 vector target/sheets/sample.dump 100 1 0.5 --frame 2 --picture target/sheets/spectrum.svg --force
+
+# Whose bit stands in each cell, to tap on; written anew each time.
+page:
+	@./layer1 page target/page --force
 
 programs:
 	@.ci/programs

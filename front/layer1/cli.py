@@ -3,7 +3,7 @@
 import sys
 from typing import List, Optional
 
-from . import asking, comparing, files, lines, looking, sending, sheets, sitting, subcarriers
+from . import asking, comparing, files, lines, looking, pages, sending, sheets, sitting, subcarriers
 from .outcomes import DONE, FAILED, Ended, Failed
 from .words import Parser
 
@@ -14,7 +14,7 @@ def parser() -> Parser:
     """All verbs."""
     top = Parser(prog="layer1", description=DESCRIPTION, allow_abbrev=False)
     verbs = top.add_subparsers(metavar="VERB", parser_class=Parser)
-    for module in (asking, looking, comparing, sending, lines, subcarriers, sheets, sitting):
+    for module in (asking, looking, comparing, sending, lines, subcarriers, sheets, sitting, pages):
         module.arrange(verbs)
     return top
 

@@ -4,7 +4,6 @@ above."""
 import hashlib
 import os
 import re
-import subprocess
 from dataclasses import dataclass, field
 from pathlib import Path
 from typing import Dict, Iterable, List, Tuple
@@ -12,7 +11,6 @@ from typing import Dict, Iterable, List, Tuple
 from . import files
 from .modes import mode_of
 from .outcomes import Failed, Misused, Refused
-from .paths import ROOT
 from .questions import Run
 
 NAME = "sitting.txt"
@@ -138,22 +136,6 @@ def by_sheet(record: Record, word: str) -> str:
     if len(found) != 1:
         raise Misused(f"{'no' if not found else 'more than one'} sheet of {record.folder} has the number {word}")
     return found[0]
-
-
-def revision() -> str:
-    """The revision of the software: what `make install` has put down, or what git says of the clone."""
-    put = ROOT / "revision"
-    if put.is_file():
-        return put.read_text(encoding="utf-8").strip()
-    if (ROOT / ".git").exists():
-        words = ["git", "-C", str(ROOT), "describe", "--tags", "--always", "--dirty", "--abbrev=12"]
-        try:
-            done = subprocess.run(words, stdin=subprocess.DEVNULL, stdout=subprocess.PIPE, stderr=subprocess.DEVNULL)
-        except OSError:
-            return "unknown"
-        if done.returncode == 0:
-            return done.stdout.decode().strip()
-    return "unknown"
 
 
 def damaged(record: Record) -> Tuple[List[str], List[str]]:

@@ -7,12 +7,13 @@ import io
 from pathlib import Path
 from typing import IO, List, Sequence
 
-from . import layout, paper, programs, record, windows
+from . import layout, paper, programs, windows
 from .answers import sheet_of
 from .asking import GREATEST, bits_of_words
 from .files import behind, opened, refuse_existing, say, shown, size_of, text_of, write_text
 from .modes import MODES, Mode, mode_of, number_of
 from .outcomes import DONE, Failed, Refused
+from .revision import revision
 from .words import Verbs
 
 COPIES = ("candidate", "examiner")
@@ -97,7 +98,7 @@ def run_sheet(given: argparse.Namespace) -> int:
             return DONE
         frames.seek(0)
         data = windows.Frames(mode, tuple(without), frames.read())
-    on_paper = paper.Paper(sheet, number_of_sheet(words, questions, data.data), "", record.revision(), data, questions[:-1])
+    on_paper = paper.Paper(sheet, number_of_sheet(words, questions, data.data), "", revision(), data, questions[:-1])
     pages = [paper.page(on_paper, copy == "examiner") for copy in COPIES]
     Path(given.html).mkdir(parents=True, exist_ok=True)
     for name, page in zip(names, pages):

@@ -16,6 +16,7 @@ from .modes import MODES, mode_of, number_of
 from .outcomes import DONE, Failed, Misused, Refused
 from .questions import Run, Wanted, frames_of, list_for, refuse_missing
 from .record import Record
+from .revision import revision
 from .sheets import answers_bits, number_of_sheet
 from .words import Parser, Verbs
 
@@ -122,7 +123,7 @@ def run_new(given: argparse.Namespace) -> int:
         raise Misused(f"{folder} exists; a sitting is never drawn over another one")
     seed = secrets.token_hex(32) if given.seed is None else str(number_of(given.seed, "--seed", 10**18))
     heads = {"mode": run.mode.name, "frames": str(run.count), "without": " ".join(run.without) or "none", "candidates": str(count)}
-    heads.update(questions=wanted.text(), seed=seed, software=record.revision())
+    heads.update(questions=wanted.text(), seed=seed, software=revision())
     drawn = Record(folder, run, heads)
     content = drawn_content(drawn, wanted, record.candidate_names(count))
     whole_folder(folder, {**content, record.NAME: drawn.text().encode()})
@@ -177,7 +178,7 @@ def run_make(given: argparse.Namespace) -> int:
     """sitting make."""
     found = record.opened(given.folder)
     candidates = found.candidates if given.candidate is None else [record.one_of(found, given.candidate)]
-    now = record.revision()
+    now = revision()
     revisions = {candidate: found.made.get(candidate, now) for candidate in candidates}
     sheets = making.made_all(found, candidates, revisions)
     content = {name: data for each in sheets for name, data in each.content.items()}

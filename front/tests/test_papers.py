@@ -21,7 +21,7 @@ from .test_second import OLDER, SEED
 
 STORED = Path(__file__).resolve().parent / "stored" / "papers"
 SAMPLE = ROOT / "sheets" / "sample"
-REVISION = re.compile(r"Software [0-9A-Za-z.-]+\.</p>")
+REVISION = re.compile(r"Software [^<]+\.</p>")
 
 
 def lines_of(sheet: List[str]) -> List[str]:
