@@ -1,6 +1,7 @@
 pub mod Fitting
 pub mod Lengths
-pub mod Opposites
+pub mod Reaching
 pub mod Unique
+pub mod Loops
 pub mod Outcomes
 pub mod Sent

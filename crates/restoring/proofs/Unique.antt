@@ -1,79 +1,126 @@
--- None fits where the nearest does not; one alone where the first and the last of the nearest are the same; else several. Assumes nothing.
+-- No frame fits where no path ends where it began; one alone where one register has such a path and that forks nowhere; else several. Assumes nothing.
 use mathlib.Core.Path.{_≡_, refl, sym, ap, _∙_}
-use mathlib.Core.Bool.{Bool, true, false, true≢false}
+use mathlib.Core.Bool.{true, true≢false}
 use mathlib.Core.List.{List}
-use Prim.Native.Nat.{ℕ}
+use Prim.Native.Nat.{ℕ, _+_, _<_}
+use native.Mathlib.Decide.{decLt, ℕ-discrete}
 use native.Mathlib.Omega.{arith}
-use Rattle.bits.specs.Bits.{number}
-use Rattle.bits.specs.Tests.{same}
-use Rattle.bits.proofs.Tests.{same-true, same-eq}
-use Rattle.bits.proofs.Numbers.{number-lt}
+use Rattle.bits.specs.Bits.{bitAt, packed}
+use Rattle.bits.proofs.Numbers.{number-cong}
 use Rattle.runs.specs.declared.Answer.{Answer}
 use Rattle.runs.specs.declared.Answer.the-variants.{Success, NoFrameFits, SeveralFit}
-use Rattle.trellis.specs.Cells.{Frame, scrambledOf, distance}
+use Rattle.scrambling.specs.Scrambler.{scrambled}
+use Rattle.trellis.specs.Cells.{scrambledOf}
 use Rattle.trellis.specs.Paths.{start}
 use Rattle.trellis.proofs.Closing.{start-lt}
-use Rattle.decoding.specs.Nearness.{Nearest}
-use Rattle.decoding.proofs.Ranking.{Lexicographic, rank-order, frame-bits, frame-same}
-use Rattle.decoding.proofs.Margins.{lex-distance}
-use Rattle.restoring.specs.Opposites.{weight, Last}
-use Rattle.restoring.specs.Restored.{One, None, Several}
+use Rattle.trellis.proofs.Distances.{distance-cong}
+use Rattle.decoding.proofs.Ranking.{frame-bits, frame-same}
+use Rattle.decoding.proofs.Written.{start-cong, unscrambled-frame, scrambled-again}
+use Rattle.restoring.specs.Reaching.{closed, went, zeros, Fork, NextClosed}
+use Rattle.restoring.specs.Restored.{Fits, One, None, Several}
 use Rattle.restoring.proofs.Fitting.{fits-zero, zero-fits}
-use Rattle.restoring.proofs.Opposites.{lex-weight}
+use Rattle.restoring.proofs.Reaching.{path-bit, path-start, path-fits, frame-closed, only-path, turn, turn-bit, differs-there}
 
-module _ (cells low : List ℕ) (near : Nearest cells 64 low) where
-  order : (f : List ℕ) → Frame f
-      → Lexicographic (distance cells (scrambledOf low)) (start (scrambledOf low)) (number 80 (scrambledOf low))
-      (distance cells (scrambledOf f)) (start (scrambledOf f)) (number 80 (scrambledOf f))
-  order f a =
-      rank-order cells (scrambledOf low) (scrambledOf f) (frame-bits low) (frame-bits f) .0
-      (near .first f a (start-lt (scrambledOf f) (frame-bits f)))
+zero-bit : (j : ℕ) → zeros j < 2
+zero-bit j = omega arith
 
-  pub none-fits : (before : List ℕ) (d : ℕ) → d ≡ distance cells (scrambledOf low) → (d ≡ 0 → ⊥) → None cells before before NoFrameFits
-  none-fits before d q n =
+-- the frame with the scrambled bits w
+abbrev pub frameOf : (ℕ → ℕ) → List ℕ
+frameOf w = packed 10 (scrambled (bitAt (packed 10 w)))
+
+-- frames with other bits are others
+apart : (v w : ℕ → ℕ) → ((i : ℕ) → v i < 2) → ((i : ℕ) → w i < 2) → (n : ℕ) → n < 80 → (v n ≡ w n → ⊥) → frameOf v ≡ frameOf w → ⊥
+apart v w hv hw n l d e =
+    d (sym (scrambled-again v hv (frameOf v) refl n l) ∙ ap (λ (f : List ℕ). scrambledOf f n) e ∙ scrambled-again w hw (frameOf w) refl n l)
+
+same-start : (w : ℕ → ℕ) → ((i : ℕ) → w i < 2) → start (scrambledOf (frameOf w)) ≡ start w
+same-start w h = start-cong _ w (scrambled-again w h (frameOf w) refl)
+
+module _ (cells : List ℕ) where
+  -- a frame that fits has a path that ends where it began
+  fit-closed : (f : List ℕ) → Fits cells f → closed cells (start (scrambledOf f)) ≡ true
+  fit-closed f fits = frame-closed cells (scrambledOf f) (frame-bits f) (fits-zero cells f fits)
+
+  fit-start : (f : List ℕ) → start (scrambledOf f) < 64
+  fit-start f = start-lt (scrambledOf f) (frame-bits f)
+
+  pub none-fits : (before : List ℕ) (e : ℕ) → NextClosed cells 0 e → e ≡ 64 → None cells before before NoFrameFits
+  none-fits before e h q =
       record {
         answer = refl;
-        nothing = λ f fits. n (omega (arith, lex-distance _ _ _ _ _ _ (order f (fits .shape)), fits-zero cells f fits));
+        nothing = λ f fits. true≢false (sym (fit-closed f fits) ∙ h .none (start (scrambledOf f)) (omega arith) (omega (arith, fit-start f)));
         unchanged = refl;
       }
 
-  module _ (d : ℕ) (q : d ≡ distance cells (scrambledOf low)) (z : d ≡ 0) (high : List ℕ) (last : Last cells high) where
-    zero : distance cells (scrambledOf low) ≡ 0
-    zero = sym q ∙ z
+  module _ (e : ℕ) (h : NextClosed cells 0 e) (inside : e ≡ 64 → ⊥) where
+    low : e < 64
+    low = omega (arith, h .low)
 
-    pub one-fits : (after : List ℕ) (r : Answer) → low ≡ high → after ≡ low → r ≡ Success → One cells after r
-    one-fits after r e l s =
-        rw l
-        record {
-          answer = s;
-          fits = zero-fits cells low (near .shape) zero;
-          alone = λ f fits.
-              let a : Frame f = fits .shape in
-              let df : distance cells (scrambledOf f) ≡ 0 = fits-zero cells f fits in
-              let dh : distance cells (scrambledOf high) ≡ 0 = ap (λ (g : List ℕ). distance cells (scrambledOf g)) (sym e) ∙ zero in
-              let wh : weight (scrambledOf high) ≡ weight (scrambledOf low) = ap (λ (g : List ℕ). weight (scrambledOf g)) (sym e) in
-              let up = last .last f a (df ∙ sym dh) in
-              let nl = number-lt 80 (scrambledOf low) (frame-bits low) in
-              let nf = number-lt 80 (scrambledOf f) (frame-bits f) in
-              let down = lex-weight _ _ _ _ _ _ nl (df ∙ sym zero) (order f a) in
-              frame-same f low a (near .shape) (omega arith);
-        }
+    bits-of : (d : ℕ) → d < 64 → closed cells d ≡ true → (p : ℕ → ℕ) → ((j : ℕ) → p j < 2) → Fits cells (frameOf (went cells d p))
+    bits-of d l c p bit =
+        let hw = path-bit cells d l c p bit in
+        zero-fits cells (frameOf (went cells d p)) (unscrambled-frame (went cells d p) hw _ refl)
+        (distance-cong cells _ (went cells d p) (scrambled-again (went cells d p) hw _ refl) ∙ path-fits cells d l c p bit)
 
-    pub several-fit : (before : List ℕ) → (low ≡ high → ⊥) → Several cells before before SeveralFit
-    several-fit before n =
+    -- two registers with such a path
+    pub several-start : (before : List ℕ) (d : ℕ) → NextClosed cells (e + 1) d → (d ≡ 64 → ⊥) → Several cells before before SeveralFit
+    several-start before d k n =
+        let l : d < 64 = omega (arith, k .low) in
+        let ce = h .there low in
+        let cd = k .there l in
         record {
           answer = refl;
-          one = low;
-          other = high;
-          one-fits = zero-fits cells low (near .shape) zero;
-          other-fits = zero-fits cells high (last .shape) (omega (arith, last .near low (near .shape), zero));
-          differ = n;
+          one = frameOf (went cells e zeros);
+          other = frameOf (went cells d zeros);
+          one-fits = bits-of e low ce zeros zero-bit;
+          other-fits = bits-of d l cd zeros zero-bit;
+          differ = λ q.
+              let be = path-bit cells e low ce zeros zero-bit in
+              let bd = path-bit cells d l cd zeros zero-bit in
+              let a : start (went cells e zeros) ≡ start (went cells d zeros) =
+              sym (same-start (went cells e zeros) be) ∙ ap (λ (f : List ℕ). start (scrambledOf f)) q ∙ same-start (went cells d zeros) bd in
+              omega (arith, k .above, path-start cells e low ce zeros zero-bit, path-start cells d l cd zeros zero-bit);
           unchanged = refl;
         }
 
--- the test of two lists
-pub found-same : (a b : List ℕ) (r : Bool) → r ≡ same a b → r ≡ true → a ≡ b
-found-same a b r h e = same-true a b (sym h ∙ e)
+    -- a path that forks
+    pub several-fork : (before : List ℕ) (n : ℕ) → n < 80 → Fork cells e n → Several cells before before SeveralFit
+    several-fork before n l fork =
+        let ce = h .there low in
+        record {
+          answer = refl;
+          one = frameOf (went cells e zeros);
+          other = frameOf (went cells e (turn n));
+          one-fits = bits-of e low ce zeros zero-bit;
+          other-fits = bits-of e low ce (turn n) (turn-bit n);
+          differ = apart (went cells e zeros) (went cells e (turn n)) (path-bit cells e low ce zeros zero-bit) (path-bit cells e low ce (turn n) (turn-bit n)) n l
+              (differs-there cells e n fork);
+          unchanged = refl;
+        }
 
-pub found-other : (a b : List ℕ) (r : Bool) → r ≡ same a b → r ≡ false → a ≡ b → ⊥
-found-other a b r h e q = true≢false (sym (same-eq a b q) ∙ sym h ∙ e)
+    -- one register, and a path that does not
+    pub one-fits : (after : List ℕ) (r : Answer) (d : ℕ) → NextClosed cells (e + 1) d → d ≡ 64 → ((j : ℕ) → j < 80 → Fork cells e j → ⊥)
+        → after ≡ frameOf (went cells e zeros) → r ≡ Success → One cells after r
+    one-fits after r d k q alone z s =
+        let ce = h .there low in
+        let hw = path-bit cells e low ce zeros zero-bit in
+        let fits : Fits cells (frameOf (went cells e zeros)) = bits-of e low ce zeros zero-bit in
+        rw z
+        record {
+          answer = s;
+          fits = fits;
+          alone = λ f g.
+              frame-same f (frameOf (went cells e zeros)) (g .shape) (fits .shape)
+              (number-cong 80 _ _
+              (λ i l.
+              only-path cells (scrambledOf f) (frame-bits f) (fits-zero cells f g) e (starts f g) alone i l
+              ∙ sym (scrambled-again (went cells e zeros) hw _ refl i l)));
+        }
+      where
+        starts : (f : List ℕ) → Fits cells f → start (scrambledOf f) ≡ e
+        starts f g = go (decLt (start (scrambledOf f)) e) (ℕ-discrete (start (scrambledOf f)) e)
+          where
+            go : Dec (start (scrambledOf f) < e) → Dec (start (scrambledOf f) ≡ e) → start (scrambledOf f) ≡ e
+            go (yes l) m = absurd (true≢false (sym (fit-closed f g) ∙ h .none _ (omega arith) l))
+            go (no l) (yes m) = m
+            go (no l) (no m) = absurd (true≢false (sym (fit-closed f g) ∙ k .none _ (omega arith) (omega (arith, fit-start f))))

@@ -1,3 +1,3 @@
 pub mod Restored
 pub mod Sent
-pub mod Opposites
+pub mod Reaching

@@ -108,11 +108,11 @@ ended-is e r h = go (eqb r e) refl h
 pub closed-bits : (s : ℕ → ℕ) → BitsTo 80 s → BitsTo 86 (closed s)
 closed-bits s h i l = h ((i + 74) % 80) (omega arith)
 
-closed-start : (s : ℕ → ℕ) → reg (closed s) 0 ≡ start s
+pub closed-start : (s : ℕ → ℕ) → reg (closed s) 0 ≡ start s
 unfolding reg start
 closed-start s = number-cong 6 _ _ (λ i l. ap s (omega arith))
 
-closed-end : (s : ℕ → ℕ) → reg (closed s) 80 ≡ start s
+pub closed-end : (s : ℕ → ℕ) → reg (closed s) 80 ≡ start s
 unfolding reg start
 closed-end s = number-cong 6 _ _ (λ i l. ap s (omega arith))
 

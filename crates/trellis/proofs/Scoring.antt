@@ -5,9 +5,9 @@ use mathlib.Core.List.{List}
 use Prim.Native.Nat.{ℕ, suc, _+_, _-_, _*_, _/_, _%_, _<_, _≤_, min}
 use native.Mathlib.Omega.{arith}
 use lib.Dec.{eqb, leb}
-use lib.ListN.{length, getD, set, replicate, getD-replicate, length-replicate}
+use lib.ListN.{length, getD, set, length-set, replicate, getD-replicate, length-replicate}
 use lib.Seq.{getD-set-same, getD-set-other}
-use native.Mathlib.Decide.{ℕ-discrete}
+use native.Mathlib.Decide.{decLt, ℕ-discrete}
 use borrow.Author.Tests.{le-leb, lt-leb, eq-eqb, ne-eqb}
 use Rattle.trellis.specs.declared.Scores.{Scores}
 use Rattle.trellis.specs.Trellis.{next, outputOf, cost, best, tabled, Tabled, after, Cheap, Before, Scored, Stored, Kept, chosen, lower, ended}
@@ -27,9 +27,6 @@ cost-low cells j w =
       differs-low (getD cells (at + 1) 0) (outputOf 0o171 w),
       cond-low (eqb (j % 2) 0) _ (differs-low (getD cells (at + 2) 0) (outputOf 0o165 w)),
     )
-
-pub lesser-of : {a b c d e : ℕ} → c ≡ min a b → a ≡ d → b ≡ e → c ≡ min d e
-lesser-of h p q = h ∙ ap₂ min p q
 
 pub tabled-cheap : (cells costs : List ℕ) → Tabled cells costs → Cheap costs
 tabled-cheap cells costs t j w h l = omega (arith, t .at j w h l, cost-low cells j w)
@@ -101,14 +98,42 @@ module _ (costs kept : List ℕ) (j r z o : ℕ)
       let m : tabled costs j (2 * r + 1) + after kept j (next (2 * r + 1)) < tabled costs j (2 * r) + after kept j (next (2 * r)) = omega arith in
       rw (lt-leb _ _ m)
 
--- one score more is stored
-pub stored-more : (l scores : List ℕ) (at r x : ℕ) → at + r < length l → x ≡ getD scores r 0
-    → ((q : ℕ) → q < r → getD l (at + q) 0 ≡ getD scores q 0) → (q : ℕ) → q < r + 1 → getD (set l (at + r) x) (at + q) 0 ≡ getD scores q 0
-stored-more l scores at r x h e s q m = go (ℕ-discrete q r)
+-- one number more is stored, from `at` on
+pub set-at : (l : List ℕ) (g : ℕ → ℕ) (at r x : ℕ) → at + r < length l → x ≡ g r
+    → ((q : ℕ) → q < r → getD l (at + q) 0 ≡ g q) → (q : ℕ) → q < r + 1 → getD (set l (at + r) x) (at + q) 0 ≡ g q
+set-at l g at r x h e s q m = go (ℕ-discrete q r)
   where
-    go : Dec (q ≡ r) → getD (set l (at + r) x) (at + q) 0 ≡ getD scores q 0
+    go : Dec (q ≡ r) → getD (set l (at + r) x) (at + q) 0 ≡ g q
     go (yes d) = rw d (getD-set-same l (at + r) x 0 h ∙ e)
     go (no d) = getD-set-other l (at + r) (at + q) x 0 (λ f. d (omega arith)) ∙ s q (omega arith)
+
+-- two scores more are found, one in each half
+pub halves-more : (l : List ℕ) (g : ℕ → ℕ) (r x y : ℕ) → r < 32 → length l ≡ 64 → x ≡ g r → y ≡ g (r + 32)
+    → ((q : ℕ) → q < r → (getD l q 0 ≡ g q) × (getD l (q + 32) 0 ≡ g (q + 32)))
+    → (q : ℕ) → q < r + 1 → (getD (set (set l r x) (r + 32) y) q 0 ≡ g q) × (getD (set (set l r x) (r + 32) y) (q + 32) 0 ≡ g (q + 32))
+halves-more l g r x y h e ex ey s q m = go (ℕ-discrete q r)
+  where
+    go : Dec (q ≡ r) → (getD (set (set l r x) (r + 32) y) q 0 ≡ g q) × (getD (set (set l r x) (r + 32) y) (q + 32) 0 ≡ g (q + 32))
+    go (yes d) =
+        rw d (
+          getD-set-other (set l r x) (r + 32) r y 0 (λ f. omega arith) ∙ getD-set-same l r x 0 (omega arith) ∙ ex,
+          getD-set-same (set l r x) (r + 32) y 0 (omega (arith, length-set l r x)) ∙ ey,
+        )
+    go (no d) = (
+      getD-set-other (set l r x) (r + 32) q y 0 (λ f. omega arith) ∙ getD-set-other l r q x 0 d ∙ s q (omega arith) .0,
+      getD-set-other (set l r x) (r + 32) (q + 32) y 0 (λ f. d (omega arith))
+          ∙ getD-set-other l r (q + 32) x 0 (λ f. omega arith) ∙ s q (omega arith) .1,
+    )
+
+pub halves-all : (l : List ℕ) (g : ℕ → ℕ) → ((q : ℕ) → q < 32 → (getD l q 0 ≡ g q) × (getD l (q + 32) 0 ≡ g (q + 32)))
+    → (q : ℕ) → q < 64 → getD l q 0 ≡ g q
+halves-all l g h q m = go (decLt q 32)
+  where
+    go : Dec (q < 32) → getD l q 0 ≡ g q
+    go (yes d) = h q d .0
+    go (no d) =
+        let e : q - 32 + 32 ≡ q = omega arith in
+        subst (λ (n : ℕ). getD l n 0 ≡ g n) e (h (q - 32) (omega arith) .1)
 
 -- the scores after the last step
 abbrev pub far : List ℕ

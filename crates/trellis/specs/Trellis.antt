@@ -20,6 +20,23 @@ cost cells j w =
     differs (getD cells (j / 2 * 5 + j % 2 * 3) 0) (outputOf 0o133 w) + differs (getD cells (j / 2 * 5 + j % 2 * 3 + 1) 0) (outputOf 0o171 w)
     + cond (eqb (j % 2) 0) (differs (getD cells (j / 2 * 5 + j % 2 * 3 + 2) 0) (outputOf 0o165 w)) 0
 
+-- the outputs of a window as a number below 8, the first weighing 4, and those of all windows in one list
+unfoldable pub outputsOf : ℕ → ℕ
+outputsOf w = outputOf 0o133 w * 4 + outputOf 0o171 w * 2 + outputOf 0o165 w
+
+pub record Outputs (all : List ℕ) : Type 0 where
+  pub at : (w : ℕ) → w < 128 → getD all w 0 ≡ outputsOf w
+
+-- the cost of the outputs y
+unfoldable pub costBy : List ℕ → ℕ → ℕ → ℕ
+costBy cells j y =
+    differs (getD cells (j / 2 * 5 + j % 2 * 3) 0) (y / 4) + differs (getD cells (j / 2 * 5 + j % 2 * 3 + 1) 0) (y / 2 % 2)
+    + cond (eqb (j % 2) 0) (differs (getD cells (j / 2 * 5 + j % 2 * 3 + 2) 0) (y % 2)) 0
+
+-- those of the eight outputs in one list
+pub record Eight (cells : List ℕ) (j : ℕ) (costs : List ℕ) : Type 0 where
+  pub at : (y : ℕ) → y < 8 → getD costs y 0 ≡ costBy cells j y
+
 -- the register after a window
 abbrev pub next : ℕ → ℕ
 next w = w % 64
@@ -45,6 +62,11 @@ tabled costs j w = getD costs (128 * j + w) 0
 pub record Tabled (cells costs : List ℕ) : Type 0 where
   pub at : (j w : ℕ) → j < 80 → w < 128 → tabled costs j w ≡ cost cells j w
 
+-- the costs of step j are written, by the outputs of its windows, and those of earlier steps stay
+pub record Filled (costs old new : List ℕ) (j : ℕ) : Type 0 where
+  pub there : (w : ℕ) → w < 128 → tabled new j w ≡ getD costs (outputsOf w) 0
+  pub earlier : (n : ℕ) → n < 128 * j → getD new n 0 ≡ getD old n 0
+
 -- the scores after all steps in one list: that of the register r after step j stands at 64 j + r
 abbrev pub after : List ℕ → ℕ → ℕ → ℕ
 after kept j r = getD kept (64 * j + r) 0
@@ -59,11 +81,13 @@ Low scores = (r : ℕ) → r < 64 → getD scores r 0 ≤ 1000
 abbrev pub AllLow : List ℕ → Type 0
 AllLow kept = (j r : ℕ) → j < 80 → r < 64 → after kept j r ≤ 1000
 
--- the scores before step j from those after it
+-- the score of the register r before step j from those after it, and the scores of all
+abbrev pub scoreBefore : List ℕ → ℕ → List ℕ → ℕ → ℕ
+scoreBefore costs j late r =
+    min (tabled costs j (2 * r) + getD late (next (2 * r)) 0) (tabled costs j (2 * r + 1) + getD late (next (2 * r + 1)) 0)
+
 abbrev pub Before : List ℕ → ℕ → List ℕ → List ℕ → Type 0
-Before costs j scores late =
-    (r : ℕ) → r < 64 → getD scores r 0
-    ≡ min (tabled costs j (2 * r) + getD late (next (2 * r)) 0) (tabled costs j (2 * r + 1) + getD late (next (2 * r + 1)) 0)
+Before costs j scores late = (r : ℕ) → r < 64 → getD scores r 0 ≡ scoreBefore costs j late r
 
 -- the scores of the 64 registers at a step: the least sums over the k steps from there to the end
 pub record Scored (cost : ℕ → ℕ → ℕ) (final : ℕ → ℕ) (k : ℕ) (s : Scores) : Type 0 where

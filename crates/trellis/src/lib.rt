@@ -6,7 +6,7 @@ ghost use lib.ListN.{length, getD};
 ghost use Rattle.bits.specs.Bits.{packed};
 ghost use Rattle.coding.specs.Coder.{generators};
 ghost use Rattle.trellis.specs.Cells.{differs as «differs-of»};
-ghost use Rattle.trellis.specs.Trellis.{outputOf, cost as «cost-of», next, ended, anywhere, tabled, Tabled, after, Cheap, Low, AllLow, Before, Scored, Stored, Kept, lower, walk as «walk-of», least, LeastScore, LeastOf};
+ghost use Rattle.trellis.specs.Trellis.{outputOf, outputsOf, Outputs, costBy, Eight, Filled, next, ended, anywhere, tabled, Tabled, after, Cheap, Low, AllLow, scoreBefore, Before, Scored, Stored, Kept, lower, walk as «walk-of», least, LeastScore, LeastOf};
 
 // The scores of the 64 states of the register at a step.
 struct Scores {
@@ -38,17 +38,72 @@ fn differs(cell: u8, b: u8) -> u16
     1
 }
 
-// How many of the read cells of step j differ from the outputs of a window.
-fn cost(cells: &[u8], j: usize, w: usize) -> u16
-    requires { ⌜ (length (now cells) ≡ 200) × (j < 80) × (w < 128) ⌝ }
-    ensures { λ r. ⌜ (r ≡ «cost-of» (now (cells .entry)) j w) × (r ≤ 3) ⌝ }
+// The outputs of a window as a number below 8, the first weighing 4.
+fn window_outputs(w: usize) -> u8
+    requires { ⌜ w < 128 ⌝ }
+    ensures { λ r. ⌜ r ≡ outputsOf w ⌝ }
+{
+    output(w, 0) * 4 + output(w, 1) * 2 + output(w, 2)
+}
+
+// The outputs of all windows.
+pub fn all_outputs() -> [u8; 128]
+    ensures { λ r. ⌜ Outputs r ⌝ }
+{
+    let mut all = [0u8; 128];
+    let mut w: usize = 0;
+    while w < 128 {
+        all[w] = window_outputs(w);
+        w += 1;
+    }
+    all
+}
+
+// How many of the read cells of step j differ from the outputs y.
+fn cost(cells: &[u8], j: usize, y: usize) -> u16
+    requires { ⌜ (length (now cells) ≡ 200) × (j < 80) × (y < 8) ⌝ }
+    ensures { λ r. ⌜ r ≡ costBy (now (cells .entry)) j y ⌝ }
 {
     let at = j / 2 * 5 + j % 2 * 3;
-    let two = differs(cells[at], output(w, 0)) + differs(cells[at + 1], output(w, 1));
+    let two = differs(cells[at], (y / 4) as u8) + differs(cells[at + 1], (y / 2 % 2) as u8);
     if j % 2 == 0 {
-        return two + differs(cells[at + 2], output(w, 2));
+        return two + differs(cells[at + 2], (y % 2) as u8);
     }
     two
+}
+
+// The same for each of the eight outputs.
+pub fn eight(cells: &[u8], j: usize) -> [u16; 8]
+    requires { ⌜ (length (now cells) ≡ 200) × (j < 80) ⌝ }
+    ensures { λ r. ⌜ Eight (now (cells .entry)) j r ⌝ }
+{
+    let mut costs = [0u16; 8];
+    let mut y: usize = 0;
+    while y < 8 {
+        costs[y] = cost(cells, j, y);
+        y += 1;
+    }
+    costs
+}
+
+fn wide(x: u8) -> usize
+    ensures { λ r. ⌜ r ≡ x ⌝ }
+{
+    x as usize
+}
+
+// Writes the costs of all windows at step j.
+fn fill(costs: &[u16; 8], all: &[u8; 128], j: usize, table: &mut [u16])
+    requires { ⌜ (j < 80) × Outputs (now all) × (length (now table) ≡ 10240) ⌝ }
+    ensures { λ _. ⌜ Filled (now (costs .entry)) (now (table .entry)) (now (table .exit)) j ⌝ }
+{
+    let at = 128 * j;
+    let mut w: usize = 0;
+    while w < 128 {
+        let y = wide(all[w]);
+        table[at + w] = costs[y];
+        w += 1;
+    }
 }
 
 // The costs of all windows at all steps: that of the window w at step j stands at 128 * j + w.
@@ -57,10 +112,12 @@ pub fn costs(cells: &[u8]) -> [u16; 10240]
     ensures { λ r. ⌜ Tabled (now (cells .entry)) r ⌝ }
 {
     let mut table = [0u16; 10240];
-    let mut n: usize = 0;
-    while n < 10240 {
-        table[n] = cost(cells, n / 128, n % 128);
-        n += 1;
+    let all = all_outputs();
+    let mut j: usize = 0;
+    while j < 80 {
+        let costs = eight(cells, j);
+        fill(&costs, &all, j, &mut table);
+        j += 1;
     }
     table
 }
@@ -85,7 +142,18 @@ fn lesser(a: u16, b: u16) -> u16
     b
 }
 
-// One step of the trellis, backwards: the scores before it from those after it.
+// The score of the register r before step j, from those after it.
+fn better(costs: &[u16; 10240], j: usize, r: usize, late: &[u16; 64]) -> u16
+    requires { ⌜ (j < 80) × (r < 64) × Cheap (now costs) × Low (now late) ⌝ }
+    ensures { λ m. ⌜ m ≡ scoreBefore (now (costs .entry)) j (now (late .entry)) r ⌝ }
+{
+    lesser(
+        through(costs, j, 2 * r, late),
+        through(costs, j, 2 * r + 1, late),
+    )
+}
+
+// One step of the trellis, backwards: the scores before it from those after it. The registers r and r + 32 are followed by the same two.
 fn step(costs: &[u16; 10240], after: Scores) -> Scores
     requires { ⌜ (0 < after .step) × (after .step ≤ 80) × Cheap (now costs) × Low (after .scores) ⌝ }
     ensures { λ r. ⌜ (r .step + 1 ≡ after .step) × Before (now (costs .entry)) (r .step) (r .scores) (after .scores) ⌝ }
@@ -94,11 +162,9 @@ fn step(costs: &[u16; 10240], after: Scores) -> Scores
     let late = after.scores;
     let mut scores = [0u16; 64];
     let mut r: usize = 0;
-    while r < 64 {
-        scores[r] = lesser(
-            through(costs, j, 2 * r, &late),
-            through(costs, j, 2 * r + 1, &late),
-        );
+    while r < 32 {
+        scores[r] = better(costs, j, r, &late);
+        scores[r + 32] = better(costs, j, r + 32, &late);
         r += 1;
     }
     Scores { scores, step: j }
@@ -112,6 +178,20 @@ fn ending(e: usize) -> Scores
     let mut scores = [201u16; 64];
     scores[e] = 0;
     Scores { scores, step: 80 }
+}
+
+// The scores before the first step, from those after the last.
+fn scored(costs: &[u16; 10240], last: Scores) -> Scores
+    requires { ⌜ (last .step ≡ 80) × Cheap (now costs) × ((q : ℕ) → q < 64 → getD (last .scores) q 0 ≤ 201) ⌝ }
+    ensures { λ r. ⌜ ((final : ℕ → ℕ) → ((q : ℕ) → q < 64 → getD (last .scores) q 0 ≡ final q) → Scored (tabled (now (costs .entry))) final 80 r) ⌝ }
+{
+    let mut s = last;
+    let mut k: usize = 80;
+    while 0 < k {
+        k -= 1;
+        s = step(costs, s);
+    }
+    s
 }
 
 // Stores the scores after step j at 64 * j.
@@ -198,8 +278,7 @@ pub fn score(costs: &[u16; 10240], e: usize) -> u16
     requires { ⌜ (e < 64) × Cheap (now costs) ⌝ }
     ensures { λ r. ⌜ r ≡ least (tabled (now (costs .entry))) e ⌝ }
 {
-    let mut kept = [0u16; 5120];
-    let s = back(costs, ending(e), &mut kept);
+    let s = scored(costs, ending(e));
     let scores = s.scores;
     scores[e]
 }
@@ -222,12 +301,11 @@ pub fn over_paths(costs: &[u16; 10240]) -> u16
     requires { ⌜ Cheap (now costs) ⌝ }
     ensures { λ m. ⌜ LeastOf (tabled (now (costs .entry))) anywhere m ⌝ }
 {
-    let mut kept = [0u16; 5120];
     let last = Scores {
         scores: [0u16; 64],
         step: 80,
     };
-    let s = back(costs, last, &mut kept);
+    let s = scored(costs, last);
     let scores = s.scores;
     lowest(&scores)
 }

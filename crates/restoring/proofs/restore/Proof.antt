@@ -13,9 +13,6 @@ returns-2 c = restored-wrong _ _ _ (lengths-frame _ _ (c .before .if1 .left) (c 
 slice-aggregate-fit : tie.Need-slice-aggregate-fit
 slice-aggregate-fit c = search needs
 
-slice-aggregate-fit-2 : tie.Need-slice-aggregate-fit-2
-slice-aggregate-fit-2 c = search needs
-
 fit-requires : tie.Need-fit-requires
 fit-requires c κs = search needs
 
@@ -24,8 +21,8 @@ same-length c = search needs
 
 returns-3 : tie.Need-returns-3
 returns-3 c =
-    let call = c .before .before .before .before in
-    let right = call .before .before .before .before in
+    let call = c .before .before .before in
+    let right = call .before .before .before in
     restored-right _ _ _ _ (lengths-right _ _ (right .before .if1 .left) (right .if2 .left)) (call .fit .ensures)
 
 pub restore-spec : {M : Type 1} → statement M
@@ -35,7 +32,6 @@ restore-spec =
     returns
     returns-2
     slice-aggregate-fit
-    slice-aggregate-fit-2
     fit-requires
     same-length
     returns-3)

@@ -1,54 +1,49 @@
--- `trellis::costs` meets its contract. The loop's invariant: the first n costs are found. Assumes nothing.
-use mathlib.Core.Path.{_≡_, ap₂, _∙_}
-use Prim.Native.Nat.{ℕ, _+_, _*_, _<_, _≤_, _-_, _/_, _%_}
+-- `trellis::costs` meets its contract. The loop's invariant: the costs of the first j steps are found. Assumes nothing.
+use mathlib.Core.Path.{_≡_}
+use Prim.Native.Nat.{ℕ, _<_, _≤_, _-_}
 use native.Mathlib.Omega.{arith}
-use lib.ListN.{length, getD, length-set}
+use lib.ListN.{length}
 use borrow.Author.Needs.{needs}
-use Rattle.bits.proofs.Stores.{set-more}
-use Rattle.trellis.specs.Trellis.{cost}
+use Rattle.trellis.specs.Trellis.{cost, tabled}
+use Rattle.trellis.proofs.Outputs.{filled-more}
 use Rattle.trellis.proofs.costs.Statement.{statement}
 use Rattle.trellis.proofs.costs.Tie as tie
 
 abbrev Inv-loop : tie.InvT-loop
-Inv-loop cells table₀ n₀ table n = (n ≤ 10240) × (length table ≡ 10240) × ((q : ℕ) → q < n → getD table q 0 ≡ cost cells (q / 128) (q % 128))
+Inv-loop cells table₀ all j₀ table j =
+    (j ≤ 80) × (length table ≡ 10240) × ((i w : ℕ) → i < j → w < 128 → tabled table i w ≡ cost cells i w)
 
 abbrev μ-loop : tie.MeasureT-loop
-μ-loop cells table₀ n₀ table n = 10240 - n
+μ-loop cells table₀ all j₀ table j = 80 - j
+
+all-outputs-requires : tie.Need-all-outputs-requires Inv-loop μ-loop
+all-outputs-requires c κs = search needs
 
 loop-holds : tie.Need-loop-holds Inv-loop μ-loop
-loop-holds c = (search needs, search needs, λ q h. absurd (omega arith))
+loop-holds c = (omega arith, search needs, λ i w h. absurd (omega arith))
 
-cost-requires : tie.Need-cost-requires Inv-loop μ-loop
-cost-requires c κs = search needs
+eight-requires : tie.Need-eight-requires Inv-loop μ-loop
+eight-requires c κs = search needs
 
-mul-table : tie.Need-mul-table Inv-loop μ-loop
-mul-table c = search needs
+slice-aggregate-fill : tie.Need-slice-aggregate-fill Inv-loop μ-loop
+slice-aggregate-fill c = search needs
 
-array-write-table : tie.Need-array-write-table Inv-loop μ-loop
-array-write-table c = search needs
+fill-requires : tie.Need-fill-requires Inv-loop μ-loop
+fill-requires c κs = (omega arith, c .before .before .before .before .before .before .all-outputs .ensures, search needs)
 
-add-n : tie.Need-add-n Inv-loop μ-loop
-add-n c = search needs
+add-j : tie.Need-add-j Inv-loop μ-loop
+add-j c = search needs
 
 loop-less : tie.Need-loop-less Inv-loop μ-loop
 loop-less c = search needs
 
 loop-again : tie.Need-loop-again Inv-loop μ-loop
 loop-again c =
-    let loop = c .before .before .loop in (
-      search needs,
-      simp length-set (loop .inv .1),
-      set-more (loop .table) _ (loop .n) _ (omega (arith, loop .inv .1)) (loop .inv .2) (c .cost .ensures .0),
-    )
+    let loop = c .before .before .before .before .before .before .before .loop in
+    (search needs, search needs, filled-more (c .before .before .before .before .before .before .before .before .before .before .args .cells .now) (loop .j) _ _ _ (c .before .fill .ensures) (c .before .before .before .before .before .eight .ensures) (loop .inv .2))
 
 returns : tie.Need-returns Inv-loop μ-loop
-returns c =
-    record {
-      at = λ j w h l.
-          let a : (128 * j + w) / 128 ≡ j = omega arith in
-          let b : (128 * j + w) % 128 ≡ w = omega arith in
-          c .before .loop .inv .2 (128 * j + w) (omega arith) ∙ ap₂ (cost (c .before .before .before .args .cells .now)) a b;
-    }
+returns c = record { at = λ i w h. c .before .loop .inv .2 i w (omega arith) }
 
 pub costs-spec : {M : Type 1} → statement M
 costs-spec =
@@ -56,11 +51,12 @@ costs-spec =
     (tie.spec
     Inv-loop
     μ-loop
+    all-outputs-requires
     loop-holds
-    cost-requires
-    mul-table
-    array-write-table
-    add-n
+    eight-requires
+    slice-aggregate-fill
+    fill-requires
+    add-j
     loop-less
     loop-again
     returns)

@@ -5,7 +5,7 @@ use native.Mathlib.Omega.{arith}
 use lib.ListN.{length, getD, length-set}
 use lib.Seq.{getD-set-other}
 use borrow.Author.Needs.{needs}
-use Rattle.trellis.proofs.Scoring.{stored-more}
+use Rattle.trellis.proofs.Scoring.{set-at}
 use Rattle.trellis.proofs.store.Statement.{statement}
 use Rattle.trellis.proofs.store.Tie as tie
 
@@ -52,7 +52,7 @@ loop-again c =
     let start = c .before .before .before in (
       search needs,
       simp length-set (loop .inv .1),
-      stored-more (loop .kept) (start .args .scores .now) _ (loop .r) _ (omega (arith, loop .inv .1, start .pre .0)) refl (loop .inv .2),
+      set-at (loop .kept) (λ q. getD (start .args .scores .now) q 0) _ (loop .r) _ (omega (arith, loop .inv .1, start .pre .0)) refl (loop .inv .2),
       λ n h. getD-set-other (loop .kept) _ n _ 0 (λ e. omega arith) ∙ loop .inv .3 n h,
     )
 
