@@ -3,7 +3,7 @@
 
 help:
 	@echo "make sitting     papers, answers and marks: a small sitting of two candidates under target/sitting; the first time it proves what it needs"
-	@echo "make sheet       the main job on a sample; the first time it proves what the program needs, about seven minutes"
+	@echo "make sheet       the main job on a sample; the first time it proves what the program needs, a few minutes"
 	@echo "make sheet-html  the same for paper: target/sheets/candidate.html and examiner.html"
 	@echo "make spectrum    one symbol of the sample as a picture: target/sheets/spectrum.svg"
 	@echo "make page        the bench page, one file for a tablet: target/page/bench.html; half a minute on built programs"
