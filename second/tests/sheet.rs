@@ -140,21 +140,41 @@ fn answers_of_drawn_lists() {
         {
             let words: Vec<&str> = line.split(' ').collect();
             let n = |place: usize| words[place].parse::<usize>().unwrap();
+            // of P3 (2) or P4 (3): a transfer frame and bit of an L1 frame, and the L1 frame and cell that show it
+            let in_px = |channel: usize,
+                         from: usize,
+                         frame: usize,
+                         bit: usize,
+                         sent: usize,
+                         at: [usize; 3]| {
+                let row = [mode.p3.row, mode.p4.row][channel - 2].unwrap();
+                let coded_bit = row.frame_bits * frame + bit;
+                let cell = (64 * at[0] + at[1]) * row.width() + at[2];
+                assert_eq!(
+                    row.shown()[from % 2][coded_bit],
+                    (sent - from, cell),
+                    "{line}"
+                );
+                (channel, coded[from][channel][coded_bit])
+            };
             let (channel, bit) = match (words[1], words[4], words[5]) {
                 ("PM", "P1", _) => (0, coded[n(0)][0][n(6)]),
                 ("PM", _, _) => (1, coded[n(0)][1][200 * n(5) + n(6)]),
+                ("P1", ..) => (0, coded[n(0)][0][n(3)]),
+                ("PIDS", ..) => (1, coded[n(0)][1][200 * n(2) + n(3)]),
+                ("P3", ..) => in_px(2, n(0), n(2), n(3), n(5), [n(6), n(7), n(8)]),
+                ("P4", ..) => in_px(3, n(0), n(2), n(3), n(5), [n(6), n(7), n(8)]),
                 (_, _, "FILL") => (4, n(0) >= 2),
-                (px, ..) => {
-                    let channel = if px == "PX1" { 2 } else { 3 };
-                    let row = [mode.p3.row, mode.p4.row][channel - 2].unwrap();
-                    let sent = row.frame_bits * n(7) + n(8);
-                    let cell = (64 * n(2) + n(3)) * row.width() + n(4);
-                    assert_eq!(row.shown()[n(6) % 2][sent], (n(0) - n(6), cell));
-                    (channel, coded[n(6)][channel][sent])
-                }
+                ("PX1", ..) => in_px(2, n(6), n(7), n(8), n(0), [n(2), n(3), n(4)]),
+                _ => in_px(3, n(6), n(7), n(8), n(0), [n(2), n(3), n(4)]),
             };
             channels[channel] += 1;
-            if channel < 4 {
+            if words.last() == Some(&"LATER") {
+                assert!(
+                    words[1] != "P1" && words[1] != "PIDS" && n(5) >= 5,
+                    "{line}"
+                );
+            } else if channel < 4 {
                 assert_eq!(words.last(), Some(&["0", "1"][usize::from(bit)]), "{line}");
             } else {
                 assert!(!bit, "{line}");
