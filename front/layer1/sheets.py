@@ -128,7 +128,9 @@ def run_work(given: argparse.Namespace) -> int:
 
 def worked(mode: Mode, count: int, questions: str, frames: IO[bytes]) -> List[str]:
     """Answers and workings, without head and end."""
-    lines = printed([str(mode.number), str(count), "work"], questions, frames)
+    if not worked_words():
+        raise Failed("the program sheet of this revision prints no workings")
+    lines = printed([str(mode.number), str(count), *worked_words()], questions, frames)
     if len(lines) < 2 or not lines[0].startswith("MP") or not lines[-1].startswith("END "):
         sheet_of(lines)
         raise Failed("the output of sheet is not whole")
