@@ -42,7 +42,8 @@ locatedAgain mode (Pids frame bit) = locatedIn mode 2 frame bit
 locatedAgain mode (Refused answer) = NotLocated answer
 
 pub record BothWays (mode : ℕ) : Type 0 where
-  pub p1-there : (frame bit : ℕ) → frame < p1Frames (mainOf mode) → bit < frameCoded (mainOf mode) → foundAgain mode (locatedIn mode 1 frame bit) ≡ P1 frame bit
+  pub p1-there : (frame bit : ℕ) → frame < p1Frames (mainOf mode) → bit < frameCoded (mainOf mode)
+      → foundAgain mode (locatedIn mode 1 frame bit) ≡ P1 frame bit
   pub p2-there : (bit : ℕ) → bit < p2Coded (mainOf mode) → foundAgain mode (locatedIn mode 5 0 bit) ≡ P2 bit
   pub pids-there : (frame bit : ℕ) → frame < 16 → bit < 200 → foundAgain mode (locatedIn mode 2 frame bit) ≡ Pids frame bit
   pub back : (row column : ℕ) → row < 512 → column < 720 → locatedAgain mode (foundIn mode row column) ≡ At (positionAt 36 row column) row column

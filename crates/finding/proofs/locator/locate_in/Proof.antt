@@ -28,8 +28,11 @@ returns-2 c =
     let j = m .before in
     let i = j .before in
     let is = sym (i .before .is-covered .ensures) ∙ not-false _ (i .if1 .left) in
+    let a = i .before .before .args in
     valued values
-    (c .locate-p1 .ensures ∙ ap (λ (k : Main). p1In k (i .before .before .args .frame) (i .before .before .args .bit)) (m .main-of .ensures) ∙ located-p1 _ _ _ _ is (j .if2 .taken))
+    (c .locate-p1 .ensures
+    ∙ ap (λ (k : Main). p1In k (a .frame) (a .bit)) (m .main-of .ensures)
+    ∙ located-p1 _ _ _ _ is (j .if2 .taken))
 
 main-of-requires-2 : tie.Need-main-of-requires-2
 main-of-requires-2 c κs = search needs
@@ -44,8 +47,11 @@ returns-3 c =
     let j = l .before in
     let i = j .before in
     let is = sym (i .before .is-covered .ensures) ∙ not-false _ (i .if1 .left) in
+    let a = i .before .before .args in
     valued values
-    (c .locate-p2 .ensures ∙ ap (λ (k : Main). p2In k (i .before .before .args .frame) (i .before .before .args .bit)) (m .main-of2 .ensures) ∙ located-p2 _ _ _ _ is (j .if2 .left) (l .if3 .taken))
+    (c .locate-p2 .ensures
+    ∙ ap (λ (k : Main). p2In k (a .frame) (a .bit)) (m .main-of2 .ensures)
+    ∙ located-p2 _ _ _ _ is (j .if2 .left) (l .if3 .taken))
 
 locate-requires : tie.Need-locate-requires
 locate-requires c κs = search needs
