@@ -88,8 +88,9 @@ def second_agrees(words: Sequence[str], questions: str, frames: bytes, text: str
     program = programs.second()
     if program is None:
         return
+    asked = [str(program), "sheet", *words]
     try:
-        done = subprocess.run([str(program), "sheet", *words], input=questions.encode("latin-1") + b"\n" + frames, stdout=subprocess.PIPE, stderr=subprocess.PIPE)
+        done = subprocess.run(asked, input=questions.encode("latin-1") + b"\n" + frames, stdout=subprocess.PIPE, stderr=subprocess.PIPE)
     except OSError as error:
         raise Failed(f"{program} cannot be run: {reason(error)}") from None
     if done.returncode not in (0, 1):
