@@ -171,6 +171,12 @@ def not_whole(why: str) -> Failed:
     return Failed(f"the output of sheet is not whole: {why}")
 
 
+def is_unworked(line: str) -> bool:
+    """Whether a line is the head of a sheet without workings."""
+    head = HEAD.fullmatch(line)
+    return head is not None and head[4] is None
+
+
 def sheet_of(lines: List[str]) -> Sheet:
     """A sheet by all of its lines; one that is not whole is none."""
     if len(lines) == 1 and lines[0].startswith("NO SHEET"):

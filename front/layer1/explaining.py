@@ -3,15 +3,16 @@ marked."""
 
 from typing import List
 
-from .answers import BIT, LATER, Answer, Place, Sheet, Working
+from .answers import LATER, Answer, Place, Sheet, Working
 from .modes import BLOCK_ROWS, MODES, PAIR_ROWS, PARTITION
 from .windows import Frames, bytes_of
+from .workings import INTERLEAVER, rows, sum_words, writing_words
 
 BLOCKS = 16
 """L1 blocks of an L1 frame."""
 
-INTERLEAVER = {"P1": "10.2.3", "PIDS": "10.2.4", "P3": "10.2.6", "P4": "10.2.6"}
-"""The section with the equations by which a channel's bits are written."""
+CELL = "cell\u00a0"
+"""Kept on one line with its number."""
 
 LEFT, TOP, WIDTH, HEIGHT = 11.0, 4.0, 40.0, 27.0
 """The picture's matrix in millimetres."""
@@ -40,30 +41,21 @@ def steps(answer: Answer, frames: Frames) -> List[str]:
     coded, working = answer.coded, answer.working
     if coded is None:
         return ["<p>Only the zero fill of a fresh start can stand here: no bit of this run has been written into the cell yet.</p>"]
-    numbered = ", ".join(f"byte {number} = {value:02X}" for number, value in bytes_of(frames, coded))
+    numbered = ", ".join(f"byte\u00a0{number}\u00a0=\u00a0{value:02X}" for number, value in bytes_of(frames, coded))
     name = f"{coded.channel}, transfer frame {coded.tframe} of L1 frame {coded.frame}"
     if working is None:
         return [f"<p>{name}, {numbered} (hexadecimal).</p>"]
     out = [f"<p>{name}: bit j = {working.number}, generator {working.generator}, {numbered} (hexadecimal).</p>", *seven(working)]
-    out.append(f"<p>Ones of frame and scrambler where the generator has a 1: {working.ones}, modulo 2 <b>{working.ones % 2}</b>.</p>")
-    if answer.kind == BIT and answer.boxes[-1] == LATER:
+    out.append(f"<p>{sum_words(working).capitalize()}, modulo 2 <b>{working.ones % 2}</b>.</p>")
+    if answer.boxes[-1] == LATER:
         out.append(f"<p>L1 frame {answer.place.frame} is not of this run.</p>")
-    out.append(
-        f"<p>By {INTERLEAVER[coded.channel]}: i = {working.step}, k = {working.k}; block {working.block}, partition {working.partition}, row {working.row},"
-        f" column {working.column}; cell {working.cell}{' of the internal matrix' if coded.channel in ('P3', 'P4') else ''}.</p>"
-    )
-    return out
+    return [*out, f"<p>By {INTERLEAVER[coded.channel]}: {writing_words(coded, working).replace('cell ', CELL)}.</p>"]
 
 
 def seven(working: Working) -> List[str]:
     """The seven bits, the scrambling bits at their places, and which of them the generator takes."""
-    taps = format(int(working.generator, 8), "07b")
-    heads = "".join(f"<td>{'j' if back == 0 else f'j−{back}'}</td>" for back in range(7))
-    rows = [("Bit", heads)]
-    for name, bits in (("Frame", working.bits), ("Scrambler", working.scrambling)):
-        rows.append((name, "".join(f"<td>{bit}</td>" for bit in bits)))
-    rows.append((f"Generator {working.generator}", "".join(f"<td>{tap}</td>" for tap in taps)))
-    return ['<table class="seven">', *(f"<tr><th>{name}</th>{cells}</tr>" for name, cells in rows), "</table>"]
+    lines = [f"<tr><th>{name}</th>{''.join(f'<td>{word}</td>' for word in words)}</tr>" for name, words in rows(working)]
+    return ['<table class="seven">', *lines, "</table>"]
 
 
 def picture(place: Place, mode: int) -> str:

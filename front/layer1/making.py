@@ -9,13 +9,14 @@ from dataclasses import dataclass
 from typing import Dict, List, Sequence
 
 from . import paper, programs, windows
-from .answers import Sheet, sheet_of
+from .answers import Sheet, is_unworked
 from .files import reason
 from .outcomes import Failed, Refused
 from .paper import Paper
 from .questions import Run
 from .record import Record
-from .sheets import number_of_sheet, printed, worked_words
+from .sheets import number_of_sheet, printed, sheet_in
+from .workings import WORK
 
 ALL = "examiner/all.html"
 
@@ -51,15 +52,26 @@ def made(record: Record, candidate: str, revision: str) -> Made:
     number = number_of_sheet(run.words(), questions + "\n", data)
     if number != record.sheets[candidate]:
         raise Refused(f"refused: the sheet of candidate {candidate} has the number {number} by its questions and frames, and another is recorded")
-    lines = answered(run, questions, data, worked_words())
-    sheet, text = sheet_of(lines), "\n".join(lines) + "\n"
+    words = [WORK] if with_workings(record, candidate) else []
+    lines = answered(run, questions, data, words)
+    sheet, text = sheet_in(lines, [*run.words(), *words]), "\n".join(lines) + "\n"
     in_step(sheet, questions, candidate)
-    second_agrees(run, questions, data, text, candidate)
+    second_agrees([*run.words(), *words], questions, data, text, candidate)
     frames = windows.Frames(run.mode, run.without, data)
     windows.agree(frames, sheet.answers)
     on_paper = Paper(sheet, number, candidate, revision, frames, questions)
     pages = [paper.page(on_paper, examiner).encode() for examiner in (False, True)]
     return Made(on_paper, {answers_name(candidate): text.encode("latin-1"), **dict(zip(page_names(candidate), pages))})
+
+
+def with_workings(record: Record, candidate: str) -> bool:
+    """Whether a sheet has workings: all but one that was made without them, by an earlier revision, and is made again."""
+    path = record.folder / answers_name(candidate)
+    try:
+        first = path.read_bytes().partition(b"\n")[0] if path.is_file() else b""
+    except OSError as error:
+        raise Failed(f"{path}: {reason(error)}") from None
+    return not is_unworked(first.decode("latin-1"))
 
 
 def in_step(sheet: Sheet, questions: str, candidate: str) -> None:
@@ -71,14 +83,14 @@ def in_step(sheet: Sheet, questions: str, candidate: str) -> None:
         raise Refused(f"refused: {candidate}/questions is not in the order of the sheet")
 
 
-def second_agrees(run: Run, questions: str, frames: bytes, text: str, candidate: str) -> None:
+def second_agrees(words: Sequence[str], questions: str, frames: bytes, text: str, candidate: str) -> None:
     """The second program, where it is built, prints the same bytes."""
     program = programs.second()
     if program is None:
         return
-    words = [str(program), "sheet", *run.words(), *worked_words()]
+    asked = [str(program), "sheet", *words]
     try:
-        done = subprocess.run(words, input=questions.encode("latin-1") + b"\n" + frames, stdout=subprocess.PIPE, stderr=subprocess.PIPE)
+        done = subprocess.run(asked, input=questions.encode("latin-1") + b"\n" + frames, stdout=subprocess.PIPE, stderr=subprocess.PIPE)
     except OSError as error:
         raise Failed(f"{program} cannot be run: {reason(error)}") from None
     if done.returncode not in (0, 1):
@@ -101,7 +113,6 @@ def first_difference(ours: str, theirs: str) -> Sequence[str]:
 def made_all(record: Record, candidates: Sequence[str], revisions: Dict[str, str]) -> List[Made]:
     """The sheets of candidates, as many at a time as there are processors."""
     programs.program("sheet")
-    worked_words()
     with ThreadPoolExecutor(os.cpu_count() or 1) as pool:
         return list(pool.map(lambda candidate: made(record, candidate, revisions[candidate]), candidates))
 

@@ -15,6 +15,7 @@ from .files import say, shown, text_of
 from .layout import BOXES
 from .outcomes import DONE, Refused
 from .record import Record
+from .workings import step_lines
 
 MARKS = "examiner/marks.csv"
 HEADS = ["candidate", "sheet", "number", "question", "given", "answer", "boxes", "result", "points", "of"]
@@ -151,13 +152,8 @@ def in_words(question: Marked) -> str:
 
 
 def working_words(answer: Answer) -> str:
-    """The working of an answer as text."""
-    working = answer.working
-    if working is None:
+    """The working of an answer as text; the answer itself where it has none, as zero fill and a sheet that was made without workings."""
+    coded, working = answer.coded, answer.working
+    if coded is None or working is None:
         return f"    sheet     {' '.join(answer.question)} {answer_words(answer)}\n"
-    bits, added = (" ".join(map(str, bits)) for bits in (working.bits, working.scrambling))
-    return (
-        f"    working   bit {working.number}, generator {working.generator}, frame bits {bits}, scrambler {added}, sum {working.ones}\n"
-        f"              step {working.step}, k {working.k}, block {working.block}, partition {working.partition}, row {working.row},"
-        f" column {working.column}, cell {working.cell}\n"
-    )
+    return "".join(f"    {'' if number else 'working':8}  {line}\n" for number, line in enumerate(step_lines(coded, working)))

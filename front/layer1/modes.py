@@ -2,7 +2,7 @@
 
 import re
 from dataclasses import dataclass
-from typing import Tuple
+from typing import Iterable, Tuple
 
 from .outcomes import Misused
 
@@ -82,6 +82,15 @@ def mode_of(word: str) -> Mode:
         covered = ", ".join(known.name for known in MODES.values())
         raise Misused(f"{word} is no covered service mode; {covered} are (number 1)")
     return mode
+
+
+def without_of(mode: Mode, words: Iterable[str]) -> Tuple[str, ...]:
+    """Channels without bytes, in order; the mode has them."""
+    without = tuple(sorted(set(words)))
+    for channel in without:
+        if not mode.frames[int(channel[1])]:
+            raise Misused(f"{mode.name} has no {channel}")
+    return without
 
 
 def number_of(word: str, what: str, greatest: int) -> int:

@@ -177,11 +177,8 @@ def list_for(run: Run, wanted: Wanted, seed: bytes, candidate: str, answered: An
 def in_order(lines: List[str], answered: Answered) -> List[Answer]:
     """The answers to lines in the order of the sheet: by L1 frame, and in each as they are drawn, cells before bits."""
     sheet = answered(lines)
-    refused = [lines[number - 1] for number in sheet.refused]
-    if refused and all(line.split()[1] in COUNTS for line in refused):
-        raise Refused("refused: --bits needs a program sheet that answers lines FRAME P1 TFRAME BIT, and this one answers cells alone: say --bits 0")
-    if refused:
-        raise Failed(f"the program sheet refuses {refused[0]!r}, which was drawn for it")
+    if sheet.refused:
+        raise Failed(f"the program sheet refuses {lines[sheet.refused[0] - 1]!r}, which was drawn for it")
     return sheet.answers
 
 

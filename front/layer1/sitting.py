@@ -12,12 +12,12 @@ from . import checking, making, marking, pdf, programs, record
 from .answers import Sheet, sheet_of
 from .drawing import Source
 from .files import reason, say, synced, umask, write_all
-from .modes import MODES, mode_of, number_of
+from .modes import MODES, mode_of, number_of, without_of
 from .outcomes import DONE, Failed, Misused, Refused
 from .questions import Run, Wanted, frames_of, list_for, refuse_missing
 from .record import Record
 from .revision import revision
-from .sheets import answers_bits, number_of_sheet
+from .sheets import number_of_sheet
 from .words import Parser, Verbs
 
 KINDS = {
@@ -85,10 +85,7 @@ def run_of(given: argparse.Namespace) -> Run:
     mode = mode_of(given.mode)
     if not mode.has_owners:
         raise Misused(f"there are no sheets for {mode.name}; there are for {', '.join(known.name for known in MODES.values() if known.has_owners)}")
-    without = tuple(sorted(set(given.without)))
-    for channel in without:
-        if not mode.frames[int(channel[1])]:
-            raise Misused(f"{mode.name} has no {channel}")
+    without = without_of(mode, given.without)
     count = number_of(given.frames, "--frames", 64)
     if count == 0:
         raise Misused("--frames is a number from 1 to 64, not '0'")
@@ -96,11 +93,8 @@ def run_of(given: argparse.Namespace) -> Run:
 
 
 def wanted_of(given: argparse.Namespace, run: Run) -> Wanted:
-    """How many questions of each kind; by default none of what the mode has not, nor of what the program does not answer."""
+    """How many questions of each kind; by default none of what the mode has not."""
     missing = set() if run.matrices() else {"px", "fill"}
-    if given.bits is None and not answers_bits():
-        missing.add("bits")
-        say("no questions for coded bits, since this program sheet answers cells alone\n")
     numbers = {}
     for name, (number, _) in KINDS.items():
         word = getattr(given, name)

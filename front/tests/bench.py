@@ -64,13 +64,9 @@ class Bench:
         self.environment = {**os.environ, "PATH": f"{ROOT}:{os.environ.get('PATH', '')}", "LAYER1_PROGRAMS": str(self.programs), "COLUMNS": "100"}
 
     def place_programs(self) -> None:
-        """The second program, where it can be built; stand-ins for programs that print an older format."""
+        """The second program, where it can be built; stand-ins for programs that fail."""
         if shutil.which("cargo"):
             subprocess.run([ROOT / ".ci" / "second"], stdout=subprocess.DEVNULL, check=True)
-        (self.folder / "worked").mkdir()
-        if not made("sheet", "1", "0", "work", given=b"\n").startswith(b"MP1"):
-            standins.put(self.folder / "worked", "sheet", "sheet")
-            standins.put(self.folder / "worked", "second", "second")
         for name in ("failing", "complaining"):
             (self.folder / name).mkdir()
             for program in ("owners", "sheet", "sender", "reader", "judge", "keys", "vector", "nearest", "restore", "allocate"):

@@ -137,6 +137,17 @@ class Made(unittest.TestCase):
             path.write_text(text, encoding="utf-8", newline="")
             self.assertEqual(self.looked_up("workings", path, []), wanted)
 
+    @unittest.skipUnless(shutil.which("node"), "node is not installed")
+    def test_printed_workings(self) -> None:
+        """Every working that sheet or layer1 work prints is taken, with the value above it."""
+        later = "layer1 work P4 7 9215 --mode 11 --frames frames --frame 2 --lines"
+        done = self.bench.run(f"cat questions frames | {BUILT / 'sheet'} 11 3 work >worked; {later} >later; cat later")
+        line = done.stdout.decode().splitlines()[-1]
+        self.assertEqual(self.looked_up("workings", self.bench.folder / "later", []), ["mode null", f"2 P4 7 9215 LATER {line}"])
+        lines = (self.bench.folder / "worked").read_text().splitlines()
+        given = self.looked_up("workings", self.bench.folder / "worked", [])
+        self.assertEqual(given[0], "mode 11")
+        self.assertEqual(sorted(line.partition(" WORK")[2] for line in given[1:]), sorted(line[len("WORK") :] for line in lines if line.startswith("WORK")))
 
     @unittest.skipUnless(shutil.which("chromium"), "chromium is not installed")
     def test_chromium(self) -> None:

@@ -2,10 +2,12 @@
 
 import os
 import random
+import re
 import shutil
 import subprocess
 import time
 import unittest
+from collections import Counter
 from pathlib import Path
 from typing import List
 
@@ -104,6 +106,21 @@ class Second(unittest.TestCase):
             self.assertEqual(len(answers), len(lines))
             for answer in answers:
                 self.check_answer(mode, answer.split())
+
+    def test_work(self) -> None:
+        """work of drawn bits prints what the second program has under its answers; in words it has the same numbers."""
+        draw = random.Random(SEED)
+        for mode in OLDER:
+            channels = {"P1": (1, 365440), "PIDS": (16, 200), **({} if mode == 1 else {"P3": (8, 4608 if mode == 2 else 9216)})}
+            for channel, (frames, bits) in channels.items():
+                frame, tframe, bit = draw.randrange(COUNT), draw.randrange(frames), draw.randrange(bits)
+                given = f"{frame} {channel} {tframe} {bit}\n\n".encode() + self.file(f"in{mode}")
+                wanted = self.second("sheet", mode, COUNT, "work", given=given).decode().splitlines()[1:-1]
+                asked = f"work {channel} {'' if channel == 'P1' else tframe} {bit} --frame {frame} --frames in{mode} --mode {mode}"
+                self.assertEqual(self.front(f"{asked} --lines").decode().splitlines(), wanted)
+                words = re.findall(r"\d+", wanted[1])
+                numbers = re.findall(r"\d+", " ".join(self.front(asked).decode().splitlines()[1:]))
+                self.assertEqual(Counter(words) - Counter(numbers), Counter(), f"seed {SEED}: {wanted}")
 
     def test_all_bits(self) -> None:
         """where of a whole transfer frame prints what the second program's owners does, and pids piped into restore gives the frame that was sent."""

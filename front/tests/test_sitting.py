@@ -5,19 +5,18 @@ import csv
 import os
 import re
 import shutil
-import sys
 import unittest
 from collections import Counter
 from pathlib import Path
 from typing import Dict, List, Set
 from unittest import mock
 
-from layer1 import drawing, marking, pdf, record
+from layer1 import drawing, making, marking, pdf, record
 from layer1.answers import BIT, PX, sheet_of
 from layer1.outcomes import Failed, Refused
 
 from . import papers
-from .bench import ROOT, Bench
+from .bench import Bench
 from .test_papers import lines_of
 
 MODES = {"eleven": "--mode 11 --frames 3 --candidates 2 --seed 3", "two": "--mode MP2 --frames 2 --candidates 2 --without P3 --bits 2 --seed 4"}
@@ -99,27 +98,39 @@ class Sittings(unittest.TestCase):
         self.assertIn("MP2, 2 L1 frames, without P3. Software ", (self.folder("two") / "papers" / "01.html").read_text(encoding="utf-8"))
 
     def test_workings(self) -> None:
-        """With a program that prints workings: the examiner's copy has that of each answer but FILL, a picture for each, and a mark shows it."""
-        words = "export LAYER1_PROGRAMS=worked; layer1 sitting"
-        self.ends(f"{words} new deep {MODES['eleven']} && layer1 sitting make deep && layer1 sitting check deep", 0, "2 of 2 sheets made again are the same")
-        self.addCleanup(shutil.rmtree, self.folder("deep"))
-        lines = self.sheet("deep", "01")
-        found = sheet_of(lines)
-        self.assertTrue(found.worked)
-        self.assertEqual(lines_of(lines), lines_of(self.sheet("eleven", "01")))
-        page = (self.folder("deep") / "examiner" / "01.html").read_text(encoding="utf-8")
-        handed = (self.folder("deep") / "papers" / "01.html").read_text(encoding="utf-8")
-        self.assertEqual(handed, (self.folder("eleven") / "papers" / "01.html").read_text(encoding="utf-8"))
-        self.assertEqual(papers.taken(page), lines_of(lines))
-        self.assertEqual(papers.emptied(page), papers.unnamed(handed))
-        self.assertEqual(page.count("<svg "), len(found.answers))
-        for answer in found.answers:
-            if answer.working is not None:
-                self.assertIn(f"bit j = {answer.working.number}, generator {answer.working.generator}", page)
-        typed = "".join(f"{n} {'_ ' * (line_boxes(line) - 1)}X\n" for n, line in enumerate(lines_of(lines), 1))
-        (self.bench.folder / "deep.typed").write_text(typed)
-        self.addCleanup(os.unlink, self.bench.folder / "deep.typed")
-        self.ends(f"{words} mark deep 1 deep.typed", 0, "    working   bit ")
+        """The examiner's copy has the working of each answer but FILL, and a picture for each; a mark shows the working of a wrong one."""
+        for name in MODES:
+            lines = self.sheet(name, "01")
+            found = sheet_of(lines)
+            self.assertTrue(found.worked)
+            page = (self.folder(name) / "examiner" / "01.html").read_text(encoding="utf-8")
+            self.assertEqual(page.count("<svg "), len(found.answers))
+            self.assertEqual(page.count('<table class="seven">'), len([answer for answer in found.answers if not answer.fill]))
+            for answer in found.answers:
+                if answer.working is not None:
+                    self.assertIn(f"bit j = {answer.working.number}, generator {answer.working.generator}", page)
+            self.assertNotIn("seven", papers.unnamed((self.folder(name) / "papers" / "01.html").read_text(encoding="utf-8")).partition("</style>")[2])
+        shutil.copytree(self.folder("eleven"), self.folder("marked"))
+        self.addCleanup(shutil.rmtree, self.folder("marked"))
+        typed = "".join(f"{n} {'_ ' * (line_boxes(line) - 1)}X\n" for n, line in enumerate(lines_of(self.sheet("eleven", "01")), 1))
+        (self.bench.folder / "typed").write_text(typed)
+        self.addCleanup(os.unlink, self.bench.folder / "typed")
+        said = self.bench.run("layer1 sitting mark marked 1 typed").stdout.decode()
+        fills = [answer for answer in sheet_of(self.sheet("eleven", "01")).answers if answer.fill]
+        self.assertEqual((said.count("    working   bit j = "), said.count("    sheet     ")), (15 - len(fills), len(fills)), said)
+
+    def test_earlier(self) -> None:
+        """A sitting that an earlier revision made without workings is made again without them, and marked."""
+        self.ends(f"layer1 sitting new early {MODES['eleven']}", 0, "2 candidates")
+        self.addCleanup(shutil.rmtree, self.folder("early"))
+        found = record.opened(str(self.folder("early")))
+        with mock.patch.object(making, "with_workings", return_value=False):
+            sheets = making.made_all(found, found.candidates, {candidate: "earlier" for candidate in found.candidates})
+        found.made.update({candidate: "earlier" for candidate in found.candidates})
+        found.written({**{name: data for each in sheets for name, data in each.content.items()}, making.ALL: making.all_page(sheets)})
+        self.ends("layer1 sitting check early && layer1 sitting make early", 0, "2 of 2 sheets made again are the same")
+        self.assertNotIn("WORK", (self.folder("early") / "01" / "answers").read_text())
+        self.ends("printf '1 X X X X\\n' >early.typed; seq 2 15 >>early.typed; layer1 sitting mark early 1 early.typed", 0, "    sheet     0 ")
 
     def test_again(self) -> None:
         """A second drawing in the same place is refused; made again, nothing changes; the same seed draws the same; check finds nothing."""
@@ -320,7 +331,7 @@ class Marks(unittest.TestCase):
         first = self.lines[0].split()
         self.assertIn(f"1: wrong, {len(first) - 2} of {len(first) - 1}\n", said)
         self.assertIn(f"    answer    {first[1]}", said)
-        self.assertIn("    sheet     0 " if "WORK" not in (self.bench.folder / "hall/01/answers").read_text() else "    working   bit ", said)
+        self.assertIn("    working   bit j = ", said)
         self.assertIn(f"{len(self.lines)}: empty, 0 of ", said)
         rows = self.marks()
         self.assertEqual((rows[0]["result"], rows[0]["boxes"].split()[-1], rows[-2]["result"], rows[-1]["number"]), ("wrong", "wrong", "empty", "total"))
@@ -374,32 +385,6 @@ class Drawn(unittest.TestCase):
         firsts: Set[int] = {next(drawing.Source(b"%d" % n, "test").rounds(range(4))) for n in range(60)}
         self.assertEqual(firsts, {0, 1, 2, 3})
         self.assertNotEqual(drawing.Source(b"2", "a").take(8), drawing.Source(b"2", "b").take(8))
-
-
-class Older(unittest.TestCase):
-    """A program that answers cells alone."""
-
-    def test_bits(self) -> None:
-        """--bits needs one that answers bits, and says so; without them a sitting is drawn and made."""
-        bench = Bench()
-        self.addCleanup(bench.close)
-        older = bench.folder / "older"
-        older.mkdir()
-        script = "import subprocess, sys\nif 'work' in sys.argv:\n    sys.stderr.write('usage: sheet MODE COUNT [without P3|P4|P3 P4]')\n    sys.exit(0)\n"
-        script += "head, rest = sys.stdin.buffer.read().split(b'\\n\\n', 1)\n"
-        script += "lines = [line if line.split()[1][:1] != b'P' or line.split()[1][1:2] in (b'M', b'X') else b'?' for line in head.splitlines()]\n"
-        script += f"subprocess.run([{str(bench.programs / 'sheet' if (bench.programs / 'sheet').exists() else ROOT / 'target/bin/sheet')!r}, *sys.argv[1:]], "
-        script += "input=b'\\n'.join(lines) + b'\\n\\n' + rest)\n"
-        (older / "sheet").write_text(f"#!{sys.executable}\n{script}")
-        (older / "sheet").chmod(0o755)
-        words = "--mode 1 --frames 1 --candidates 1"
-        done = bench.run(f"LAYER1_PROGRAMS=older layer1 sitting new a {words} --bits 4")
-        self.assertEqual(done.returncode, 1, done.stdout)
-        self.assertIn(b"--bits needs a program sheet that answers lines FRAME P1 TFRAME BIT", done.stdout)
-        done = bench.run(f"export LAYER1_PROGRAMS=older; layer1 sitting new a {words} && layer1 sitting make a && layer1 sitting check a")
-        self.assertEqual(done.returncode, 0, done.stdout)
-        self.assertIn(b"no questions for coded bits, since this program sheet answers cells alone", done.stdout)
-        self.assertNotIn("WORK", (bench.folder / "a/01/answers").read_text())
 
 
 if __name__ == "__main__":

@@ -10,7 +10,7 @@ from fractions import Fraction
 from pathlib import Path
 from unittest import mock
 
-from layer1 import answers, causes, dumps, files, hints, layout, picture, programs, progress, scales, sequences
+from layer1 import answers, causes, dumps, files, hints, layout, picture, programs, progress, scales, sequences, workings
 from layer1.modes import MODES
 from layer1.outcomes import Failed, Misused, Refused
 from layer1.owners import taken
@@ -153,6 +153,20 @@ class Answers(unittest.TestCase):
         for wrong in ([*lines[:2], *lines[3:]], twice, early, filled, ["MP11 3", *lines[1:]]):
             with self.assertRaises(Failed):
                 answers.sheet_of(wrong)
+
+    def test_working_words(self) -> None:
+        """A working in words: its generator's taps, the sum, and the place; of P3 and P4 that of the internal matrix. Zero fill has none."""
+        seven = "GENERATOR 133 FRAME 1 0 0 0 1 0 1 SCRAMBLER 1 0 0 0 1 1 0 SUM 4"
+        work = f"WORK BIT 2305 {seven} STEP 115202 K 28800 BLOCK 0 PARTITION 1 ROW 0 COLUMN 0 CELL 36"
+        sheet = answers.sheet_of(["MP11 3 work", "0 PX1 0 0 36 FILL", "1 P3 4 4610 PX1 2 0 0 36 0", work, "2 P3 4 4610 PX1 3 0 0 36 LATER", work, "END 3"])
+        filled, sent, later = (workings.in_words(answer) for answer in sheet.answers)
+        self.assertEqual(filled, "")
+        lines = sent.splitlines()
+        self.assertEqual(lines[0], "P3, transfer frame 4 of L1 frame 1, coded bit 4610: 0 in L1 frame 2, PX1 block pair 0, row 0, column 36")
+        self.assertEqual(lines[5], "    generator 133    1   0   1   1   0   1   1")
+        self.assertEqual(lines[6], "    ones of frame and scrambler where the generator has a 1: 4, modulo 2 0")
+        self.assertEqual(lines[7], "    i = 115202, k = 28800; block 0, partition 1, row 0, column 0; cell 36 of the internal matrix (10.2.6)")
+        self.assertIn("coded bit 4610: sent after these L1 frames, in L1 frame 3, PX1", later)
 
     def test_places(self) -> None:
         """The cell and the coded bit of an answer, whichever of them was asked for."""

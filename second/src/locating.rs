@@ -2,6 +2,7 @@
 //! either way, without frames.
 
 use std::collections::HashMap;
+use std::fmt;
 use std::io::{self, BufRead, Write};
 use std::sync::OnceLock;
 
@@ -9,7 +10,7 @@ use crate::cells::{decimal, find, place_of, Channel};
 use crate::coding::Rate;
 use crate::interleaving::{PxRow, PM_COLUMNS, PM_ROWS};
 use crate::modes::{Extended, Mode, P1_BITS, PIDS, PIDS_BITS};
-use crate::packing::unpack;
+use crate::packing::is_one;
 use crate::run::Refusal;
 use crate::scrambling::Register;
 
@@ -110,11 +111,37 @@ pub struct Working {
     pub cell: usize,
 }
 
-/// Section 9.3: the input bit and the generator of coded bit m, by counting what is kept.
+impl fmt::Display for Working {
+    /// House matter: a working as it stands on a sheet; the generator in octal, as Table 9-2 has it.
+    fn fmt(&self, f: &mut fmt::Formatter) -> fmt::Result {
+        let digits = |bits: [bool; 7]| bits.map(|bit| if bit { "1" } else { "0" }).join(" ");
+        let [block, row, partition, column] = self.position;
+        write!(f, "WORK BIT {} GENERATOR {:o}", self.number, self.generator)?;
+        write!(f, " FRAME {}", digits(self.bits))?;
+        write!(f, " SCRAMBLER {}", digits(self.scrambling))?;
+        write!(f, " SUM {} STEP {} K {}", self.sum, self.step, self.k)?;
+        write!(f, " BLOCK {block} PARTITION {partition}")?;
+        write!(f, " ROW {row} COLUMN {column} CELL {}", self.cell)
+    }
+}
+
+/// Section 8.2: the scrambling bits of the longest transfer frame; those of a shorter one are its
+/// first.
+fn scrambling_bits() -> &'static [bool] {
+    static BITS: OnceLock<Vec<bool>> = OnceLock::new();
+    BITS.get_or_init(|| {
+        let mut register = Register::reset();
+        (0..P1_BITS).map(|_| register.scrambling_bit()).collect()
+    })
+}
+
+/// Section 9.3: the input bit and the generator of coded bit m, by counting what is kept, from the
+/// last whole turn of the puncture matrix on.
 fn output_of(rate: Rate, m: usize) -> (usize, u8) {
     const GENERATORS: [u8; 3] = [0o133, 0o171, 0o165];
-    let mut before = 0;
-    for number in 0.. {
+    let turn = rate.kept(0).len() + rate.kept(1).len();
+    let mut before = m / turn * turn;
+    for number in m / turn * 2.. {
         let kept = rate.kept(number);
         if m < before + kept.len() {
             return (number, GENERATORS[kept[m - before]]);
@@ -186,14 +213,13 @@ pub fn working(
     if bit >= coded {
         return Err(out_of_range(3));
     }
-    let sent = &unpack(frames)[frame * bits..][..bits];
-    let mut register = Register::reset();
-    let added: Vec<bool> = sent.iter().map(|_| register.scrambling_bit()).collect();
     let (number, generator) = output_of(rate, bit);
     let back = |d: usize| (number + bits - d) % bits;
     let seven: [usize; 7] = std::array::from_fn(back);
+    let sent = seven.map(|n| is_one(frames, frame * bits + n));
+    let added = seven.map(|n| scrambling_bits()[n]);
     let taken = |d: &usize| generator >> (6 - d) & 1 == 1;
-    let ones = |d: usize| u32::from(sent[seven[d]]) + u32::from(added[seven[d]]);
+    let ones = |d: usize| u32::from(sent[d]) + u32::from(added[d]);
     let (step, k, position, cell) = match channel {
         1 => written_pm(bit, locate(1, frame, bit)?),
         2 => written_pm(frame * coded + bit, locate(2, frame, bit)?),
@@ -207,8 +233,8 @@ pub fn working(
     Ok(Working {
         number,
         generator,
-        bits: seven.map(|i| sent[i]),
-        scrambling: seven.map(|i| added[i]),
+        bits: sent,
+        scrambling: added,
         sum: (0..7).filter(taken).map(ones).sum(),
         step,
         k,

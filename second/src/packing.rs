@@ -23,6 +23,11 @@ pub fn pack(bits: &[bool]) -> Vec<u8> {
         .collect()
 }
 
+/// House packing: whether bit n is a one.
+pub fn is_one(bytes: &[u8], n: usize) -> bool {
+    bytes[n / 8] & (128 >> (n % 8)) != 0
+}
+
 /// House packing: turns bit n over.
 pub fn flip(bytes: &mut [u8], n: usize) {
     bytes[n / 8] ^= 128 >> (n % 8);

@@ -223,7 +223,7 @@ var Lookup = (function () {
         };
     }
 
-    // The workings in a text that `layer1 work` or `sheet` wrote, by coded bit, and the mode where its head says it; nothing where there are none.
+    // The workings in a text that `layer1 work --lines` or `sheet` wrote, by coded bit, and the mode where its head says it; nothing where there are none.
     function workingsOf(text) {
         const lines = text.split("\n").map(line => line.replace(/\r$/, ""));
         const head = /^MP(\d+) /.exec(lines[0]);
