@@ -21,3 +21,6 @@ spreadOf x = eight (λ u. x / 2 ^ (7 - u) % 2)
 
 pub record Spreads (l : List ℕ) : Type 0 where
   pub is : (x : ℕ) → x < 256 → getD l x 0 ≡ spreadOf x
+
+pub record NibbleSpreads (l : List ℕ) : Type 0 where
+  pub is : (x : ℕ) → x < 16 → getD l x 0 ≡ spreadOf x

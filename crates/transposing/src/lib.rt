@@ -4,7 +4,7 @@ ghost use mathlib.Core.Path.{_≡_};
 ghost use Prim.Native.Nat.{ℕ, _+_, _-_, _*_, _/_, _%_, _^_, _<_, _≤_};
 ghost use lib.ListN.{length};
 ghost use Rattle.bits.specs.Bits.{bitAt};
-ghost use Rattle.transposing.specs.Words.{Begins, quad, eight, spreadOf, Spreads};
+ghost use Rattle.transposing.specs.Words.{Begins, quad, eight, spreadOf, Spreads, NibbleSpreads};
 
 // The four bits of the nibble x, each in a byte of its own, the first in the highest.
 fn spread_nibble(x: u64) -> u64
@@ -29,6 +29,19 @@ pub fn spreads() -> [u64; 256]
     let mut table = [0u64; 256];
     let mut x: usize = 0;
     while x < 256 {
+        table[x] = spread(x as u64);
+        x += 1;
+    }
+    table
+}
+
+// That of every nibble.
+pub fn nibble_spreads() -> [u64; 16]
+    ensures { λ r. ⌜ NibbleSpreads r ⌝ }
+{
+    let mut table = [0u64; 16];
+    let mut x: usize = 0;
+    while x < 16 {
         table[x] = spread(x as u64);
         x += 1;
     }
