@@ -1,6 +1,5 @@
--- A packed control block: one turn of the differential encoder, the columns as words, and the bits by row and column. Assumes nothing.
-use mathlib.Core.Path.{_≡_, refl, sym, ap, ap₂, _∙_}
-use mathlib.Core.List.{List}
+-- A packed control block: one turn of the differential encoder, and the bits by row and column. Assumes nothing.
+use mathlib.Core.Path.{_≡_, refl, ap, ap₂, _∙_}
 use mathlib.Core.Bool.{Bool, true, false, cond}
 use Prim.Native.Nat.{ℕ, zero, suc, _+_, _-_, _*_, _/_, _%_, _^_, _≤_, _<_}
 use native.Mathlib.Nat.{lt-of-lt-of-le}
@@ -10,13 +9,11 @@ use lib.Pow.{pow-mono}
 use borrow.Author.Tests.{lt-ltb, le-ltb}
 use lib.Bits.{bitAnd, bitXor}
 use lib.Dec.{ltb}
-use lib.ListN.{getD}
-use Rattle.bits.specs.Bits.{bitAt, number, packed}
-use Rattle.bits.proofs.Numbers.{digit, number-cong, number-lt, number-digit}
+use Rattle.bits.specs.Bits.{bitAt, number}
+use Rattle.bits.proofs.Numbers.{digit, number-lt, number-digit}
 use Rattle.bits.proofs.Words.{xor-low}
-use Rattle.bits.proofs.Packed.{bitAt-packed, packed-cong}
+use Rattle.bits.proofs.Packed.{bitAt-packed}
 use Rattle.control.specs.Control.{assembled, stored, encoded, rowBit, blockBit, blockOf}
-use Rattle.control.specs.Words.{Columns, across}
 use Rattle.control.proofs.Sequences.{assembled-lt}
 
 -- ---- one bit
@@ -29,7 +26,7 @@ pub rowBit-past : (m c z row column : ℕ) → 61 ≤ column → rowBit m c z ro
 unfolding rowBit
 rowBit-past m c z row column h = ap (λ (t : Bool). cond t (encoded m c z column row) 0) (le-ltb column 61 h)
 
-encoded-lt : (m c z column row : ℕ) → encoded m c z column row < 2
+pub encoded-lt : (m c z column row : ℕ) → encoded m c z column row < 2
 unfolding encoded stored
 encoded-lt m c z column row = omega arith
 
@@ -73,38 +70,7 @@ encoded-turn m c z column row x y h e d = rw (add-one, d) (ap (λ (b : ℕ). num
 pub encoded-rows-lt : (m c z column row n : ℕ) → row ≤ n → number row (encoded m c z column) < 2 ^ n
 encoded-rows-lt m c z column row n h = lt-of-lt-of-le (number-lt row (encoded m c z column) (λ i _. encoded-lt m c z column i)) (pow-mono h)
 
-pub column-here : (m c z column : ℕ) → column < 61 → number 32 (encoded m c z column) ≡ number 32 (λ row. rowBit m c z row column)
-column-here m c z column h = number-cong 32 _ _ (λ row _. sym (rowBit-here m c z row column h))
-
-pub column-past : (m c z column : ℕ) → 61 ≤ column → number 32 (λ row. rowBit m c z row column) ≡ 0
-unfolding number
-column-past m c z column h = number-cong 32 _ (λ _. 0) (λ row _. rowBit-past m c z row column h)
-
 -- ---- the block
-
--- bit k of byte j
-pub across-cell : (words : List ℕ) (j k : ℕ) → k < 8 → across words (8 * j + k) ≡ getD words (j % 8 * 8 + k) 0 / 2 ^ (31 - j / 8) % 2
-unfolding across
-across-cell words j k h =
-    let q : (8 * j + k) / 64 ≡ j / 8 = omega arith in
-    let r : (8 * j + k) % 64 ≡ j % 8 * 8 + k = omega arith in
-    ap₂ (λ (a b : ℕ). getD words b 0 / 2 ^ (31 - a) % 2) q r
-
-pub across-lt : (words : List ℕ) (n : ℕ) → across words n < 2
-unfolding across
-across-lt words n = omega arith
-
--- the columns laid across are the block
-across-block : {m c z : ℕ} {words : List ℕ} → Columns m c z words → (n : ℕ) → n < 2048 → across words n ≡ blockBit m c z n
-unfolding across blockBit digit
-across-block {m} {c} {z} {words} w n h =
-    ap (λ (x : ℕ). x / 2 ^ (31 - n / 64) % 2) (w .word (n % 64) (omega arith))
-    ∙ number-digit 32 (λ row. rowBit m c z row (n % 64)) (λ row _. rowBit-lt m c z row (n % 64)) (n / 64) (omega arith)
-
--- the bytes made of them are the block
-pub across-packed : {m c z : ℕ} {words : List ℕ} → Columns m c z words → packed 256 (across words) ≡ blockOf m c z
-unfolding blockOf
-across-packed {m} {c} {z} {words} w = packed-cong 256 (across words) (blockBit m c z) (across-block w)
 
 pub bitAt-row : (m c z row column : ℕ) → row < 32 → column < 64 → bitAt (blockOf m c z) (row * 64 + column) ≡ rowBit m c z row column
 unfolding blockOf blockBit

@@ -1,10 +1,8 @@
 -- What only the contracts of functions inside this crate cite: a reader of the promises can skip this file.
-use mathlib.Core.Path.{_≡_}
-use Prim.Native.Nat.{ℕ, _+_, _-_, _*_, _/_, _%_, _^_, _<_}
+use Prim.Native.Nat.{ℕ, _+_, _-_, _*_, _/_, _%_, _^_}
 use mathlib.Core.List.{List}
-use lib.ListN.{getD}
-use Rattle.bits.specs.Bits.{bitAt, number}
-use Rattle.control.specs.Control.{rsid, rowBit}
+use Rattle.bits.specs.Bits.{bitAt}
+use Rattle.control.specs.Control.{rsid}
 
 -- The fields of a sequence by their weights, with 0 for its parity bits.
 unfoldable pub plain : ℕ → ℕ → ℕ → ℕ → ℕ
@@ -12,13 +10,9 @@ plain mode count reserved column =
     0x64400700 + (reserved / 4 % 2 * 2 ^ 24 + reserved / 2 % 2 * 2 ^ 16 + reserved % 2 * 2 ^ 7)
     + (rsid column * 2 ^ 20 + count * 2 ^ 12 + mode * 2)
 
--- The words are the 64 columns of a packed block, row 0 in the highest digit of 32.
-pub record Columns (mode count reserved : ℕ) (words : List ℕ) : Type 0 where
-  pub word : (column : ℕ) → column < 64 → getD words column 0 ≡ number 32 (λ row. rowBit mode count reserved row column)
-
--- Bit n of the packed block whose columns are the words.
-unfoldable pub across : List ℕ → ℕ → ℕ
-across words n = getD words (n % 64) 0 / 2 ^ (31 - n / 64) % 2
+-- The digits that weigh 2 ^ place, of four numbers side by side.
+abbrev pub digits : ℕ → ℕ → ℕ → ℕ → ℕ → ℕ
+digits a b c d place = a / 2 ^ place % 2 * 8 + b / 2 ^ place % 2 * 4 + c / 2 ^ place % 2 * 2 + d / 2 ^ place % 2
 
 -- Of a packed block, the bit of column 0 at a row from 1 on, before differential encoding.
 unfoldable pub decoded : List ℕ → ℕ → ℕ

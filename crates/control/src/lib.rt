@@ -4,13 +4,13 @@ ghost use Prim.Native.Nat.{_+_, _*_, _/_, _<_, _≤_, _%_, _^_};
 ghost use lib.ListN.{length};
 ghost use lib.Bits.{bitAnd};
 ghost use lib.Count.{ones};
-ghost use Rattle.bits.specs.Bits.{number, byteOf};
+ghost use Rattle.bits.specs.Bits.{number};
 ghost use Rattle.bits.specs.Tests.{same, lowest};
 ghost use Rattle.control.specs.Modes.{covered};
-ghost use Rattle.control.specs.Control.{rsid, assembled, rowBit, blockOf, controlOf};
+ghost use Rattle.control.specs.Control.{rsid, assembled, encoded, blockOf, controlOf};
 ghost use Rattle.control.specs.Departs.{departs, numberIn, strays};
 ghost use Rattle.control.specs.Lookup.{lookedUp};
-ghost use Rattle.control.specs.Words.{plain, Columns, across, decoded, reservedRead};
+ghost use Rattle.control.specs.Words.{plain, digits, decoded, reservedRead};
 
 // Table 11-3: the two rows of four, by the column's number after division by 4.
 const TO_30: [u32; 4] = [0b10, 0b01, 0b00, 0b11];
@@ -77,14 +77,11 @@ pub fn sequence_of(mode: u8, count: u8, reserved: u8, column: usize) -> u32
     x + (p23 << 23) + (p18 << 18) + (p11 << 11) + p0
 }
 
-// One column of a packed block, row 0 first: each bit of the sequence is added modulo 2 to the last one stored. The three columns that fill the row are 0.
+// One column of a block, row 0 first: each bit of the sequence is added modulo 2 to the last one stored.
 fn column_of(mode: u8, count: u8, reserved: u8, column: usize) -> u32
     requires { ⌜ (mode < 64) × (count < 16) × (reserved < 8) ⌝ }
-    ensures { λ r. ⌜ r ≡ number 32 (λ row. rowBit mode count reserved row column) ⌝ }
+    ensures { λ r. ⌜ r ≡ number 32 (encoded mode count reserved column) ⌝ }
 {
-    if column > 60 {
-        return 0;
-    }
     let x = sequence_of(mode, count, reserved, column);
     let mut y: u32 = 0;
     let mut row: u32 = 0;
@@ -95,46 +92,40 @@ fn column_of(mode: u8, count: u8, reserved: u8, column: usize) -> u32
     y
 }
 
-// All columns of a packed block.
-fn columns(mode: u8, count: u8, reserved: u8) -> [u32; 64]
-    requires { ⌜ (mode < 64) × (count < 16) × (reserved < 8) ⌝ }
-    ensures { λ r. ⌜ Columns mode count reserved r ⌝ }
+// The digits of four columns at a place, side by side.
+fn four(a: u32, b: u32, c: u32, d: u32, place: usize) -> u8
+    requires { ⌜ place < 32 ⌝ }
+    ensures { λ r. ⌜ r ≡ digits a b c d place ⌝ }
 {
-    let mut words = [0; 64];
-    let mut column = 0;
-    while column < 64 {
-        words[column] = column_of(mode, count, reserved, column);
-        column += 1;
-    }
-    words
+    let x = (a >> place) % 2 * 8 + (b >> place) % 2 * 4 + (c >> place) % 2 * 2 + (d >> place) % 2;
+    x as u8
 }
 
-// Byte j of the packed block whose columns are the words: eight columns of row j / 8.
-fn byte_of(words: &[u32; 64], j: usize) -> u8
-    requires { ⌜ j < 256 ⌝ }
-    ensures { λ r. ⌜ r ≡ byteOf (across (now (words .entry))) j ⌝ }
-{
-    let place = 31 - j / 8;
-    let first = j % 8 * 8;
-    let mut x: u8 = 0;
-    let mut k: usize = 0;
-    while k < 8 {
-        x = (x << 1) | ((words[first + k] >> place) & 1) as u8;
-        k += 1;
-    }
-    x
-}
-
-// Writes the control block of a mode, a count and reserved bits.
+// Writes the control block of a mode, a count and reserved bits. By Table 11-3 its columns are four, which a row repeats: to column 30 in order, and then with the second and the fourth changed.
 fn fill_block(mode: u8, count: u8, reserved: u8, out: &mut [u8])
     requires { ⌜ (mode < 64) × (count < 16) × (reserved < 8) × (length (now out) ≡ 256) ⌝ }
     ensures { λ _. ⌜ now (out .exit) ≡ blockOf mode count reserved ⌝ }
 {
-    let words = columns(mode, count, reserved);
-    let mut j: usize = 0;
-    while j < 256 {
-        out[j] = byte_of(&words, j);
-        j += 1;
+    let a = column_of(mode, count, reserved, 0);
+    let b = column_of(mode, count, reserved, 1);
+    let c = column_of(mode, count, reserved, 2);
+    let d = column_of(mode, count, reserved, 3);
+    let mut row: usize = 0;
+    while row < 32 {
+        let place = 31 - row;
+        let first = four(a, b, c, d, place);
+        let middle = four(a, b, c, b, place);
+        let last = four(a, d, c, b, place);
+        let j = row * 8;
+        out[j] = first * 17;
+        out[j + 1] = first * 17;
+        out[j + 2] = first * 17;
+        out[j + 3] = first * 16 + middle;
+        out[j + 4] = last * 17;
+        out[j + 5] = last * 17;
+        out[j + 6] = last * 17;
+        out[j + 7] = last * 16 + last / 8 * 8;
+        row += 1;
     }
 }
 

@@ -1,6 +1,6 @@
--- The positions of PM and their bits, as the code computes them. The cells of the P1 bits of one k are those of the first 320 bits, moved on
--- by `shiftOf k`: partition and block are the same, and k moves row and column alone. Assumes nothing.
-use mathlib.Core.Path.{_≡_}
+-- The positions of PM and their bits, as the code computes them. The P1 bits of every k have the blocks and partitions of the first 320 bits; k has row
+-- and column alone. Assumes nothing.
+use mathlib.Core.Path.{_≡_, sym, ap, _∙_}
 use Prim.Native.Nat.{ℕ, _+_, _*_, _/_, _%_, _-_, _≤_, _<_}
 use native.Mathlib.Omega.{arith}
 use lib.Dec.{ltb, lt→ltb, ltb→lt}
@@ -11,10 +11,10 @@ use Rattle.interleaving.specs.EquationsI as I
 use Rattle.interleaving.specs.EquationsII as II
 use Rattle.interleaving.specs.InverseI.{spot, kOfPosition}
 use Rattle.interleaving.specs.Source.{first, second}
-use Rattle.interleaving.specs.PM.{v, p1Position, pidsPosition, p1Place}
+use Rattle.interleaving.specs.PM.{v, p1Position, pidsPosition, pidsPlace}
 use Rattle.interleaving.specs.FinderPM.{w, source}
 use Rattle.interleaving.proofs.Matrix.{cond-true, cond-false}
-use Rattle.pm.specs.FirstCells.{shiftOf}
+use Rattle.pm.specs.FirstCells.{pidsStart}
 
 -- ---- the position of a bit
 
@@ -43,34 +43,39 @@ module _ (at : Position) (k s : ℕ) (k-is : k ≡ kOfPosition 4 at) (s-is : s �
   unfolding source
   found-pids h = rw (k-is, s-is) (cond-false (ltb (kOfPosition 4 at) 1142) _ _ (λ t. let m = ltb→lt (kOfPosition 4 at) 1142 t in omega arith))
 
--- ---- the cells of the bits of one k
-
-pub shift-lt : (k : ℕ) → shiftOf k < 23040
-unfolding shiftOf cellOf matrixRow matrixColumn spot I.row I.column
-shift-lt k = omega arith
+-- ---- the bits of one k
 
 module _ (k t : ℕ) (h : t < 320) where
   same-index : I.partIndex 20 16 36 1 v (320 * k + t) ≡ I.partIndex 20 16 36 1 v t
   unfolding I.partIndex
   same-index = omega arith
 
-  same-partition : I.partition 20 16 36 1 v (320 * k + t) ≡ I.partition 20 16 36 1 v t
+  pub same-partition : I.partition 20 16 36 1 v (320 * k + t) ≡ I.partition 20 16 36 1 v t
   unfolding I.partition
   same-partition = rw same-index
 
-  same-block : I.block 20 16 36 1 v (320 * k + t) ≡ I.block 20 16 36 1 v t
+  pub same-block : I.block 20 16 36 1 v (320 * k + t) ≡ I.block 20 16 36 1 v t
   unfolding I.block
   same-block = rw same-partition (omega arith)
 
-  pub p1-shift : p1Place (320 * k + t) ≡ p1Place t + shiftOf k
-  unfolding p1Position I.position shiftOf spot cellOf matrixRow matrixColumn
-  p1-shift =
-      let here : I.kOf 20 16 36 1 v (320 * k + t) ≡ k = unfold I.kOf in omega arith in
-      let first : I.kOf 20 16 36 1 v t ≡ 0 = unfold I.kOf in omega arith in
-      rw (same-partition, same-block, here, first) (unfold I.row I.column in omega arith)
+-- ---- the cells of the PIDS bits of one block and one k
 
--- the bit u of the byte j
-pub p1-in-byte : (j u : ℕ) → u < 8 → p1Place (8 * j + u) ≡ p1Place (j % 40 * 8 + u) + shiftOf (j / 40)
-p1-in-byte j u h =
-    let e : 8 * j + u ≡ 320 * (j / 40) + (j % 40 * 8 + u) = omega arith in
-    rw e (p1-shift (j / 40) (j % 40 * 8 + u) (omega arith))
+pub pids-start-lt : (m : ℕ) → m < 160 → pidsStart m < 367956
+unfolding pidsStart cellOf matrixRow matrixColumn spot I.row I.column
+pids-start-lt m h = omega arith
+
+-- the partitions lie 36 columns apart
+pub pids-cell : (m s start p : ℕ) → m < 160 → s < 20 → start ≡ pidsStart m → p ≡ getD v s 0 → start + 36 * p ≡ pidsPlace (20 * m + s)
+unfolding pidsStart
+pids-cell m s start p hm hs e q =
+    let i : ℕ = 20 * m + s in
+    let here : i % 20 ≡ s = omega arith in
+    let b : i / 200 ≡ m / 10 = omega arith in
+    let d : i / 20 ≡ m = omega arith in
+    let k : i / 20 % 10 ≡ m % 10 = ap (λ (x : ℕ). x % 10) d in
+    let moved : cellOf 20 36 (spot 36 0 (m / 10) (m % 10 + 1142)) + 36 * p ≡ cellOf 20 36 (spot 36 p (m / 10) (m % 10 + 1142)) =
+    unfold cellOf matrixRow matrixColumn spot in omega arith in
+    ap (λ (x : ℕ). x + 36 * p) e ∙ moved
+    ∙ sym (ap (λ (x : ℕ). cellOf 20 36 (spot 36 p x (m % 10 + 1142))) b)
+    ∙ sym (ap (λ (x : ℕ). cellOf 20 36 (spot 36 p (i / 200) (x + 1142))) k)
+    ∙ ap (cellOf 20 36) (pids-position i p (rw here q))

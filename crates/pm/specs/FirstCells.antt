@@ -1,8 +1,8 @@
--- How the code finds the cells of P1 without a division for each bit: the 320 bits of one k lie as those of k = 0 do, all moved on by one distance.
--- Only the code needs this.
+-- Where the code begins: the cells of the first 320 P1 bits, which have the blocks and partitions of those of any k, and the first cell of PIDS in a block
+-- and of a k. Only the code needs this.
 use mathlib.Core.Path.{_≡_}
 use mathlib.Core.List.{List}
-use Prim.Native.Nat.{ℕ, _<_}
+use Prim.Native.Nat.{ℕ, _+_, _/_, _%_, _<_}
 use lib.ListN.{getD}
 use Rattle.interleaving.specs.Matrix.{cellOf}
 use Rattle.interleaving.specs.InverseI.{spot}
@@ -12,6 +12,6 @@ use Rattle.interleaving.specs.PM.{p1Place}
 abbrev pub FirstCells : List ℕ → Type 0
 FirstCells cells = (t : ℕ) → t < 320 → getD cells t 0 ≡ p1Place t
 
--- how far on the cells of k lie: as far as the first block's of the first partition do from cell 0
-unfoldable pub shiftOf : ℕ → ℕ
-shiftOf k = cellOf 20 36 (spot 36 0 0 k)
+-- the cell in the first partition of the block and the k of the PIDS bits from 20 m on
+unfoldable pub pidsStart : ℕ → ℕ
+pidsStart m = cellOf 20 36 (spot 36 0 (m / 10) (m % 10 + 1142))

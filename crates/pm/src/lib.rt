@@ -1,20 +1,25 @@
 // The PM interleaving process (section 10.4.1): P1 by Interleaver I, PIDS by Interleaver II, into one matrix of 368640 cells.
+mod gather;
+mod scatter;
 mod table;
 
+pub use crate::gather::gather_p1;
+use crate::scatter::scatter_p1;
 pub use crate::table::index_table;
 use crate::table::k_at;
 pub use interleaving::Position;
 ghost use mathlib.Core.Path.{_≡_};
 ghost use Prim.Native.Nat.{ℕ, _+_, _*_, _/_, _<_};
-ghost use lib.ListN.{length, getD, take};
-ghost use Rattle.bits.specs.Bits.{bitAt, packed, written, byteOf};
+ghost use lib.ListN.{length, getD};
+ghost use Rattle.bits.specs.Bits.{bitAt, packed, written};
 ghost use Rattle.interleaving.specs.Matrix.{Inside, cellOf, positionAt};
 ghost use Rattle.interleaving.specs.InverseI.{spot as «spot-of»};
 ghost use Rattle.interleaving.specs.Source.{at};
 ghost use Rattle.interleaving.specs.TableI.{ks};
 ghost use Rattle.interleaving.specs.PM.{v, p1Position, pidsPosition, p1Place, pidsPlace, matrix};
 ghost use Rattle.interleaving.specs.FinderPM.{w, source};
-ghost use Rattle.pm.specs.FirstCells.{FirstCells, shiftOf};
+ghost use Rattle.pm.specs.FirstCells.{FirstCells, pidsStart};
+ghost use Rattle.pm.specs.Rows.{shownOf};
 
 // Tables 10-12 and 10-13: the partition whose turn is s, and the turn of the partition p.
 const ORDER: [usize; 20] = [
@@ -69,6 +74,21 @@ fn partition(s: usize) -> usize
     ensures { λ r. ⌜ (r ≡ getD v s 0) × (r < 20) ⌝ }
 {
     ORDER[s]
+}
+
+// The order, for whoever needs it often to lend: a constant array is copied wherever it is read.
+fn order() -> [usize; 20]
+    ensures { λ r. ⌜ r ≡ v ⌝ }
+{
+    ORDER
+}
+
+// The partition whose turn is s, where the order is lent.
+fn partition_at(order: &[usize; 20], s: usize) -> usize
+    requires { ⌜ (now order ≡ v) × (s < 20) ⌝ }
+    ensures { λ r. ⌜ (r ≡ getD v s 0) × (r < 20) ⌝ }
+{
+    order[s]
 }
 
 // The turn of the partition p.
@@ -138,12 +158,12 @@ fn p1_cell(i: usize) -> usize
     cell_of(p1_position(i))
 }
 
-// The cell of the PIDS bit i.
-fn pids_cell(i: usize) -> usize
-    requires { ⌜ i < 3200 ⌝ }
-    ensures { λ r. ⌜ r ≡ pidsPlace i ⌝ }
+// Which of the 320 bits of a k stands in the block b of the partition p.
+fn shown(b: usize, p: usize) -> usize
+    requires { ⌜ (b < 16) × (p < 20) ⌝ }
+    ensures { λ r. ⌜ (r ≡ shownOf b p) × (r < 320) ⌝ }
 {
-    cell_of(pids_position(i))
+    20 * ((b + (16 - p * 7 % 16)) % 16) + turn(p)
 }
 
 // A bit of the coded P1 frame, or of the sixteen coded PIDS frames laid end to end.
@@ -168,86 +188,51 @@ pub fn find_by(table: &[u16; 1152], position: Position) -> Bit
 }
 
 // The cells of the first 320 P1 bits, whose k is 0.
-fn first_cells() -> [usize; 320]
+fn first_cells() -> [u32; 320]
     ensures { λ r. ⌜ FirstCells r ⌝ }
 {
-    let mut cells = [0; 320];
+    let mut cells = [0u32; 320];
     let mut t = 0;
     while t < 320 {
-        cells[t] = p1_cell(t);
+        cells[t] = p1_cell(t) as u32;
         t += 1;
     }
     cells
 }
 
-// How far on the cells of k lie from those of 0: the first block's of the first partition begin at cell 0.
-fn shift(k: usize) -> usize
-    requires { ⌜ k < 1152 ⌝ }
-    ensures { λ r. ⌜ (r ≡ shiftOf k) × (r < 23040) ⌝ }
+// The cell of the first partition in the block and of the k that the PIDS bits from 20 m on have.
+fn pids_start(m: usize) -> usize
+    requires { ⌜ m < 160 ⌝ }
+    ensures { λ r. ⌜ (r ≡ pidsStart m) × (r < 367956) ⌝ }
 {
-    cell_of(spot(0, 0, k))
+    cell_of(spot(0, m / 10, m % 10 + 1142))
 }
 
-// The cell of the bit u of the byte j of the coded P1 frame; s is how far on the cells of its k lie, which 40 bytes share.
-fn cell_in_byte(cells: &[usize; 320], k: usize, s: usize, j: usize, u: usize) -> usize
-    requires { ⌜ (j < 45680) × (u < 8) × (k ≡ j / 40) × (s ≡ shiftOf k) × (s < 23040) × FirstCells (now cells) ⌝ }
-    ensures { λ r. ⌜ r ≡ p1Place (8 * j + u) ⌝ }
+// Writes the 20 bits from 20 m on of the coded PIDS bits, those of one block and one k; start is the cell of the first partition.
+fn scatter_pids_k(coded: &[u8], order: &[usize; 20], m: usize, start: usize, pm: &mut [u8])
+    requires { ⌜ (length (now coded) ≡ 400) × (length (now pm) ≡ 46080) × (m < 160) × (start ≡ pidsStart m) × (now order ≡ v) ⌝ }
+    ensures { λ _. ⌜ ((f : ℕ → ℕ) → bitAt (now (pm .entry)) ≡ written pidsPlace (bitAt (now (coded .entry))) (20 * m) f → bitAt (now (pm .exit)) ≡ written pidsPlace (bitAt (now (coded .entry))) (20 * m + 20) f) ⌝ }
 {
-    cells[8 * (j - 40 * k) + u] + s
-}
-
-// Writes the byte j of the coded P1 frame into the matrix.
-fn scatter_byte(coded: &[u8], cells: &[usize; 320], k: usize, s: usize, j: usize, pm: &mut [u8])
-    requires { ⌜ (length (now coded) ≡ 45680) × (length (now pm) ≡ 46080) × (j < 45680) × (k ≡ j / 40) × (s ≡ shiftOf k) × (s < 23040) × FirstCells (now cells) ⌝ }
-    ensures { λ _. ⌜ ((m : ℕ → ℕ) → bitAt (now (pm .entry)) ≡ written p1Place (bitAt (now (coded .entry))) (8 * j) m → bitAt (now (pm .exit)) ≡ written p1Place (bitAt (now (coded .entry))) (8 * j + 8) m) ⌝ }
-{
-    let mut u = 0;
-    while u < 8 {
-        let bit = bits::get(coded, 8 * j + u);
-        let c = cell_in_byte(cells, k, s, j, u);
-        bits::put(pm, c, bit);
-        u += 1;
+    let mut s = 0;
+    while s < 20 {
+        let b = bits::get(coded, 20 * m + s);
+        let p = partition_at(order, s);
+        bits::put(pm, start + 36 * p, b);
+        s += 1;
     }
 }
 
-// Writes the 40 bytes of one k of the coded P1 frame into the matrix.
-fn scatter_k(coded: &[u8], cells: &[usize; 320], k: usize, pm: &mut [u8])
-    requires { ⌜ (length (now coded) ≡ 45680) × (length (now pm) ≡ 46080) × (k < 1142) × FirstCells (now cells) ⌝ }
-    ensures { λ _. ⌜ ((m : ℕ → ℕ) → bitAt (now (pm .entry)) ≡ written p1Place (bitAt (now (coded .entry))) (320 * k) m → bitAt (now (pm .exit)) ≡ written p1Place (bitAt (now (coded .entry))) (320 * (k + 1)) m) ⌝ }
-{
-    let s = shift(k);
-    let end = 40 * k + 40;
-    let mut j = 40 * k;
-    while j < end {
-        scatter_byte(coded, cells, k, s, j, pm);
-        j += 1;
-    }
-}
-
-// Writes the coded P1 bits into the matrix, by Interleaver I.
-fn scatter_p1(coded: &[u8], pm: &mut [u8])
-    requires { ⌜ (length (now coded) ≡ 45680) × (length (now pm) ≡ 46080) ⌝ }
-    ensures { λ _. ⌜ now (pm .exit) ≡ packed 46080 (written p1Place (bitAt (now (coded .entry))) 365440 (bitAt (now (pm .entry)))) ⌝ }
-{
-    let cells = first_cells();
-    let mut k = 0;
-    while k < 1142 {
-        scatter_k(coded, &cells, k, pm);
-        k += 1;
-    }
-}
-
-// Writes the coded PIDS bits into the matrix, by Interleaver II.
+// Writes the coded PIDS bits into the matrix, by Interleaver II: ten k in each block.
 fn scatter_pids(coded: &[u8], pm: &mut [u8])
     requires { ⌜ (length (now coded) ≡ 400) × (length (now pm) ≡ 46080) ⌝ }
     ensures { λ _. ⌜ now (pm .exit) ≡ packed 46080 (written pidsPlace (bitAt (now (coded .entry))) 3200 (bitAt (now (pm .entry)))) ⌝ }
 {
-    let mut i = 0;
-    while i < 3200 {
-        let b = bits::get(coded, i);
-        let c = pids_cell(i);
-        bits::put(pm, c, b);
-        i += 1;
+    let order = order();
+    let mut m = 0;
+    while m < 160 {
+        let start = pids_start(m);
+        scatter_pids_k(coded, &order, m, start, pm);
+        m += 1;
     }
 }
 
@@ -260,45 +245,17 @@ pub fn interleave(p1: &[u8], pids: &[u8], pm: &mut [u8])
     scatter_pids(pids, pm);
 }
 
-// The byte j of the coded P1 frame, read out of the matrix.
-fn gather_byte(pm: &[u8], cells: &[usize; 320], k: usize, s: usize, j: usize) -> u8
-    requires { ⌜ (length (now pm) ≡ 46080) × (j < 45680) × (k ≡ j / 40) × (s ≡ shiftOf k) × (s < 23040) × FirstCells (now cells) ⌝ }
-    ensures { λ r. ⌜ r ≡ byteOf (λ i. bitAt (now (pm .entry)) (p1Place i)) j ⌝ }
+// Reads the 20 bits from 20 m on of the coded PIDS bits, those of one block and one k; start is the cell of the first partition.
+fn gather_pids_k(pm: &[u8], order: &[usize; 20], m: usize, start: usize, coded: &mut [u8])
+    requires { ⌜ (length (now pm) ≡ 46080) × (length (now coded) ≡ 400) × (m < 160) × (start ≡ pidsStart m) × (now order ≡ v) ⌝ }
+    ensures { λ _. ⌜ ((f : ℕ → ℕ) → bitAt (now (coded .entry)) ≡ written (λ i. i) (λ i. bitAt (now (pm .entry)) (pidsPlace i)) (20 * m) f → bitAt (now (coded .exit)) ≡ written (λ i. i) (λ i. bitAt (now (pm .entry)) (pidsPlace i)) (20 * m + 20) f) ⌝ }
 {
-    let mut a: u8 = 0;
-    let mut u = 0;
-    while u < 8 {
-        let c = cell_in_byte(cells, k, s, j, u);
-        a = (a << 1) | bits::get(pm, c);
-        u += 1;
-    }
-    a
-}
-
-// Reads the 40 bytes of one k of the coded P1 frame out of the matrix.
-fn gather_k(pm: &[u8], cells: &[usize; 320], k: usize, coded: &mut [u8])
-    requires { ⌜ (length (now pm) ≡ 46080) × (length (now coded) ≡ 45680) × (k < 1142) × FirstCells (now cells) ⌝ }
-    ensures { λ _. ⌜ (take (40 * k) (now (coded .entry)) ≡ packed (40 * k) (λ i. bitAt (now (pm .entry)) (p1Place i)) → take (40 * (k + 1)) (now (coded .exit)) ≡ packed (40 * (k + 1)) (λ i. bitAt (now (pm .entry)) (p1Place i))) ⌝ }
-{
-    let s = shift(k);
-    let end = 40 * k + 40;
-    let mut j = 40 * k;
-    while j < end {
-        coded[j] = gather_byte(pm, cells, k, s, j);
-        j += 1;
-    }
-}
-
-// Reads the coded P1 bits out of the matrix.
-pub fn gather_p1(pm: &[u8], coded: &mut [u8])
-    requires { ⌜ (length (now pm) ≡ 46080) × (length (now coded) ≡ 45680) ⌝ }
-    ensures { λ _. ⌜ now (coded .exit) ≡ packed 45680 (λ i. bitAt (now (pm .entry)) (p1Place i)) ⌝ }
-{
-    let cells = first_cells();
-    let mut k = 0;
-    while k < 1142 {
-        gather_k(pm, &cells, k, coded);
-        k += 1;
+    let mut s = 0;
+    while s < 20 {
+        let p = partition_at(order, s);
+        let b = bits::get(pm, start + 36 * p);
+        bits::put(coded, 20 * m + s, b);
+        s += 1;
     }
 }
 
@@ -307,11 +264,11 @@ pub fn gather_pids(pm: &[u8], coded: &mut [u8])
     requires { ⌜ (length (now pm) ≡ 46080) × (length (now coded) ≡ 400) ⌝ }
     ensures { λ _. ⌜ now (coded .exit) ≡ packed 400 (λ i. bitAt (now (pm .entry)) (pidsPlace i)) ⌝ }
 {
-    let mut i = 0;
-    while i < 3200 {
-        let c = pids_cell(i);
-        let b = bits::get(pm, c);
-        bits::put(coded, i, b);
-        i += 1;
+    let order = order();
+    let mut m = 0;
+    while m < 160 {
+        let start = pids_start(m);
+        gather_pids_k(pm, &order, m, start, coded);
+        m += 1;
     }
 }

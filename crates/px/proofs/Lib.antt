@@ -2,3 +2,8 @@ pub mod Words
 pub mod Entries
 pub mod Frames
 pub mod Turns
+pub mod Residues
+pub mod Early
+pub mod Passing
+pub mod Merging
+pub mod Passed

@@ -1,10 +1,10 @@
 -- The cell of a bit by its byte: the eight steps of a byte go to the same partitions in every byte, M entries on from byte to byte, and the entries of
 -- a turn of 1152 stand in their blocks as those of the first turn do. Assumes nothing.
 use mathlib.Core.Path.{_≡_, refl, sym, ap, _∙_}
-use Prim.Native.Nat.{ℕ, zero, suc, _+_, _-_, _*_, _/_, _%_, _≤_, _<_}
+use Prim.Native.Nat.{ℕ, zero, suc, _+_, _*_, _/_, _%_, _≤_, _<_}
 use native.Mathlib.Omega.{arith}
 use Rattle.interleaving.specs.InverseIV as Inv
-use Rattle.interleaving.specs.PX.{partitions, runs, codedBytes, place}
+use Rattle.interleaving.specs.PX.{partitions, runs, place}
 use Rattle.interleaving.proofs.PXKinds.{kind-is}
 use Rattle.px.specs.Entries.{entry, spot, partOf, countOf}
 use Rattle.px.proofs.Entries.{entry-is, missed-le, part-lt, place-is}
@@ -78,21 +78,6 @@ count-lt (suc zero) u h hu = omega arith
 count-lt (suc (suc kind)) u h hu = absurd (omega arith)
 
 -- ---- a byte in its turn, which takes 144 * J bytes
-
-pub in-turn : (kind q turn : ℕ) → kind < 2 → turn ≡ q / (144 * partitions kind)
-    → (turn * (144 * partitions kind) ≤ q)
-    × ((q - turn * (144 * partitions kind)) * runs kind + runs kind ≤ 1152)
-    × (1152 * turn + (q - turn * (144 * partitions kind)) * runs kind ≡ q * runs kind)
-unfolding partitions runs
-in-turn zero q turn h t-is = (omega arith, omega arith, omega arith)
-in-turn (suc zero) q turn h t-is = (omega arith, omega arith, omega arith)
-in-turn (suc (suc kind)) q turn h t-is = absurd (omega arith)
-
-pub turn-lt : (kind q : ℕ) → kind < 2 → q < 2 * codedBytes kind → q / (144 * partitions kind) < 32
-unfolding partitions codedBytes
-turn-lt zero q h l = omega arith
-turn-lt (suc zero) q h l = omega arith
-turn-lt (suc (suc kind)) q h l = absurd (omega arith)
 
 -- the cell of the step u of the byte q, whose first entry is entry n of its turn
 pub byte-cell : (kind turn n u q : ℕ) → kind < 2 → 1152 * turn + n ≡ q * runs kind → entry kind (partOf kind u) (1152 * turn + (n + countOf kind u)) ≡ place kind (8 * q + u)

@@ -29,13 +29,6 @@ row-of-is zero h c = omega arith
 row-of-is (suc zero) h c = omega arith
 row-of-is (suc (suc kind)) h c = omega arith
 
--- a turn takes 288 or 576 bytes
-pub turns-is : (kind : ℕ) → kind < 2 → (j : ℕ) → j / 288 / 2 ^ kind ≡ j / (144 * partitions kind)
-unfolding partitions
-turns-is zero h j = omega arith
-turns-is (suc zero) h j = omega arith
-turns-is (suc (suc kind)) h j = omega arith
-
 -- the column of a cell, y its row
 pub column-is : (kind c y j : ℕ) → y ≡ c / (partitions kind * 36) → j ≡ partitions kind → c - y * (j * 36) ≡ c % (partitions kind * 36)
 column-is kind c y j y-is j-is = rw (y-is, j-is) (omega (arith, div-add-mod' c (partitions kind * 36)))

@@ -1,15 +1,19 @@
 // The PX interleaving process (section 10.4.2): Interleaver IV over an internal matrix that takes the coded bits of two L1 frames.
 ghost use mathlib.Core.Path.{_≡_};
 ghost use mathlib.Core.List.{List};
-ghost use Prim.Native.Nat.{ℕ, _+_, _*_, _/_, _%_, _<_, _≤_};
-ghost use lib.ListN.{length, getD};
-ghost use Rattle.bits.specs.Bits.{bitAt, packed, byteOf, put as «put-bit»};
+ghost use mathlib.Core.Bool.{true, false};
+ghost use lib.Dec.{ltb};
+ghost use Prim.Native.Nat.{ℕ, _+_, _-_, _*_, _/_, _%_, _<_, _≤_};
+ghost use lib.ListN.{length, getD, set};
+ghost use Rattle.bits.specs.Bits.{bitAt, packed, byteOf};
 ghost use Rattle.interleaving.specs.InverseIV.{missed as «missed-of», count, index};
 ghost use Rattle.interleaving.specs.PX.{partitions as «partitions-of», runs as «runs-of», order as «order-of», codedBytes, codedBits, cells};
 ghost use Rattle.interleaving.specs.PX.{blocks as «blocks-of», columns as «columns-of»};
 ghost use Rattle.interleaving.specs.PX.{place as «place-of», stepOf, after, read, later as «later-of», isFill, firstFill};
 ghost use Rattle.interleaving.specs.FinderPX.{source as «source-of»};
-ghost use Rattle.px.specs.Entries.{entry as «entry-of», Spots, Parts, Counts};
+ghost use Rattle.px.specs.Entries.{entry as «entry-of», Spots, Parts, Counts, Delays, Origins};
+ghost use Rattle.px.specs.Entries.{ahead as «ahead-of», near4 as «near4-of», Nears, nearMask, seenBit, seenMask, mixed, Status};
+ghost use lib.Bits.{bitAnd};
 
 // Tables 10-15, 10-16 and 10-18, a table for each column: J, B, C, M, and the bytes of an L1 frame's coded bits, which are those of eight frames of b bits.
 // The first entry is for kind 0, the row of MP2; the second for kind 1, that of MP3, MP11 and MP5.
@@ -218,22 +222,6 @@ fn counts(kind: usize) -> [usize; 8]
     counts
 }
 
-// A turn of 1152 entries of each partition, and an entry in it.
-struct Turn {
-    turn: usize,
-    entry: usize,
-}
-
-// The turn of the byte q, and its first entry. A turn takes 288 or 576 bytes.
-fn turn_of(kind: usize, q: usize) -> Turn
-    requires { ⌜ (kind < 2) × (q < 2 * codedBytes kind) ⌝ }
-    ensures { λ r. ⌜ (1152 * r .turn + r .entry ≡ q * «runs-of» kind) × (r .turn < 32) × (r .entry + «runs-of» kind ≤ 1152) ⌝ }
-{
-    let turn = (q / 288) >> kind;
-    let entry = (q - turn * (block(kind) / 8)) * runs(kind);
-    Turn { turn, entry }
-}
-
 // 10.2.6: the cell that the step u of a byte writes; n is the byte's first entry in its turn.
 fn cell_in_byte(
     kind: usize,
@@ -250,59 +238,250 @@ fn cell_in_byte(
     entry(kind, at, parts[u], turn, n + counts[u])
 }
 
-// 10.2.2.2, one step: the coded bit b is written to cell c, and then cell i is read.
-fn exchange(memory: &mut [u8], c: usize, b: u8, i: usize) -> u8
-    requires { ⌜ (c < 8 * length (now memory)) × (b < 2) × (i < 8 * length (now memory)) ⌝ }
-    ensures { λ r. ⌜ bitAt (now (memory .exit)) ≡ «put-bit» c b (bitAt (now (memory .entry))) ⌝ }
-    ensures { λ r. ⌜ r ≡ bitAt (now (memory .exit)) i ⌝ }
+// The remainder of s by n, of two rounds at most.
+fn within(n: usize, s: usize) -> usize
+    requires { ⌜ s < 2 * n ⌝ }
+    ensures { λ r. ⌜ (r ≡ s % n) × (r < n) ⌝ }
 {
-    bits::put(memory, c, b);
-    bits::get(memory, i)
+    if s < n {
+        return s;
+    }
+    s - n
 }
 
-// 10.2.2.2, the eight steps of the byte j of an L1 frame: each writes its coded bit, and then reads the cell of its own number. The bits read, as a byte.
-fn exchange_byte(
-    kind: usize,
-    half: usize,
-    at: &[u16; 1152],
-    parts: &[usize; 8],
-    counts: &[usize; 8],
-    j: usize,
-    coded: &[u8],
-    memory: &mut [u8],
-) -> u8
-    requires { ⌜ (kind < 2) × (half < 2) × (j < codedBytes kind) × Spots kind (now at) × Parts kind (now parts) × Counts kind (now counts) ⌝ }
-    requires { ⌜ (length (now coded) ≡ codedBytes kind) × (length (now memory) ≡ 2 * codedBytes kind) ⌝ }
-    ensures { λ r. ⌜ ((m : List ℕ) → bitAt (now (memory .entry)) ≡ after kind half (bitAt (now (coded .entry))) (bitAt m) (8 * j) → (bitAt (now (memory .exit)) ≡ after kind half (bitAt (now (coded .entry))) (bitAt m) (8 * j + 8)) × (r ≡ byteOf (read kind half (bitAt (now (coded .entry))) (bitAt m)) j)) ⌝ }
+// The coded bits that the eight places of the byte g of the first block take. The places of a later block take those of as many turns later.
+fn origins(kind: usize, g: usize) -> [usize; 8]
+    requires { ⌜ (kind < 2) × (g < 144 * «partitions-of» kind) ⌝ }
+    ensures { λ r. ⌜ Origins kind g r ⌝ }
 {
-    let q = byte_of(kind, half, j);
-    let t = turn_of(kind, q);
+    let mut origins = [0usize; 8];
+    let n = coded_bits(kind);
+    let mut u = 0;
+    while u < 8 {
+        origins[u] = within(n, source(kind, 8 * g + u));
+        u += 1;
+    }
+    origins
+}
+
+// The coded bits that the places of the byte g of the block t take, in either half of the internal matrix.
+fn fresh_byte(kind: usize, origins: &[usize; 8], g: usize, t: usize, coded: &[u8]) -> u8
+    requires { ⌜ (kind < 2) × (g < 144 * «partitions-of» kind) × (t < 16) × Origins kind g (now origins) × (length (now coded) ≡ codedBytes kind) ⌝ }
+    ensures { λ r. ⌜ r ≡ byteOf (λ i. bitAt (now (coded .entry)) («source-of» kind i % codedBits kind)) (144 * «partitions-of» kind * t + g) ⌝ }
+{
+    let n = coded_bits(kind);
+    let i = block(kind) * t;
     let mut a: u8 = 0;
     let mut u = 0;
     while u < 8 {
-        let c = cell_in_byte(kind, at, parts, counts, t.turn, t.entry, u);
-        let b = bits::get(coded, 8 * j + u);
-        a = (a << 1) | exchange(memory, c, b, 8 * q + u);
+        a = (a << 1) | bits::get(coded, within(n, i + origins[u]));
         u += 1;
     }
     a
 }
 
-// 10.2.2.2, one L1 frame through the internal matrix: each step writes a coded bit and then reads one.
+// The same of the byte g of each block; the bytes before it in each block stay.
+fn fresh_turns(kind: usize, origins: &[usize; 8], g: usize, coded: &[u8], px: &mut [u8])
+    requires { ⌜ (kind < 2) × (g < 144 * «partitions-of» kind) × Origins kind g (now origins) × (length (now coded) ≡ codedBytes kind) × (length (now px) ≡ codedBytes kind) ⌝ }
+    ensures { λ _. ⌜ ((t : ℕ) → t < 16 → getD (now (px .exit)) (144 * «partitions-of» kind * t + g) 0 ≡ byteOf (λ i. bitAt (now (coded .entry)) («source-of» kind i % codedBits kind)) (144 * «partitions-of» kind * t + g)) ⌝ }
+    ensures { λ _. ⌜ ((t h : ℕ) → h < g → getD (now (px .exit)) (144 * «partitions-of» kind * t + h) 0 ≡ getD (now (px .entry)) (144 * «partitions-of» kind * t + h) 0) ⌝ }
+{
+    let size = block(kind) / 8;
+    let mut t = 0;
+    while t < 16 {
+        px[size * t + g] = fresh_byte(kind, origins, g, t, coded);
+        t += 1;
+    }
+}
+
+// The coded bits of an L1 frame at the places that they are written to, in either half of the internal matrix.
+fn fresh(kind: usize, coded: &[u8], px: &mut [u8])
+    requires { ⌜ (kind < 2) × (length (now coded) ≡ codedBytes kind) × (length (now px) ≡ codedBytes kind) ⌝ }
+    ensures { λ _. ⌜ now (px .exit) ≡ packed (codedBytes kind) (λ i. bitAt (now (coded .entry)) («source-of» kind i % codedBits kind)) ⌝ }
+{
+    let size = block(kind) / 8;
+    let mut g = 0;
+    while g < size {
+        let origins = origins(kind, g);
+        fresh_turns(kind, &origins, g, coded, px);
+        g += 1;
+    }
+}
+
+// How many blocks on the place x of a block is from the turn that writes it.
+fn ahead(kind: usize, x: usize) -> usize
+    requires { ⌜ (kind < 2) × (x < 1152 * «partitions-of» kind) ⌝ }
+    ensures { λ r. ⌜ (r ≡ «ahead-of» kind x) × (r < 32) ⌝ }
+{
+    let y = (x / 72) >> kind;
+    let z = x - y * (partitions(kind) * 36);
+    (12 * y + 3 * (z % 36) + 7 * (z / 36)) % 32
+}
+
+// Whether the turn q, counted around the 32, is one of the first sixteen.
+fn side(q: usize) -> u8
+    ensures { λ r. ⌜ (r ≡ 1 - q % 32 / 16) × (r < 2) ⌝ }
+{
+    if q % 32 < 16 {
+        return 1;
+    }
+    0
+}
+
+// The same of four places beside each other, of which each is three blocks on from the one before.
+fn near4(q: usize) -> u8
+    requires { ⌜ q < 32 ⌝ }
+    ensures { λ r. ⌜ (r ≡ «near4-of» q) × (r < 16) ⌝ }
+{
+    8 * side(q + 32) + 4 * side(q + 29) + 2 * side(q + 26) + side(q + 23)
+}
+
+fn nears() -> [u8; 32]
+    ensures { λ r. ⌜ Nears r ⌝ }
+{
+    let mut nears = [0u8; 32];
+    let mut q = 0;
+    while q < 32 {
+        nears[q] = near4(q);
+        q += 1;
+    }
+    nears
+}
+
+// The four places in the block t of which the first is a blocks on.
+fn near_half(nears: &[u8; 32], t: usize, a: usize) -> u8
+    requires { ⌜ (a < 32) × (t < 16) × Nears (now nears) ⌝ }
+    ensures { λ r. ⌜ (r ≡ «near4-of» ((t + (32 - a)) % 32)) × (r < 16) ⌝ }
+{
+    nears[(t + (32 - a)) % 32]
+}
+
+// Which places of the byte g of the block t this L1 frame writes in its own half of the internal matrix; it writes the others in the other half. The first four
+// places are a blocks on, and the last four b.
+fn near(nears: &[u8; 32], t: usize, a: usize, b: usize) -> u8
+    requires { ⌜ (a < 32) × (b < 32) × (t < 16) × Nears (now nears) ⌝ }
+    ensures { λ r. ⌜ ((kind g : ℕ) → kind < 2 → a ≡ «ahead-of» kind (8 * g) → b ≡ «ahead-of» kind (8 * g + 4) → r ≡ nearMask kind t g) ⌝ }
+{
+    16 * near_half(nears, t, a) + near_half(nears, t, b)
+}
+
+// Whether the step i reads its cell before the step that writes it: by the blocks from that one's turn to the cell's, and by the two steps where there are none.
+fn unwritten(kind: usize, i: usize) -> bool
+    requires { ⌜ (kind < 2) × (i < cells kind) ⌝ }
+    ensures { λ r. ⌜ r ≡ ltb i («source-of» kind i) ⌝ }
+{
+    let y = (i / 72) >> kind;
+    let x = i - y * (partitions(kind) * 36);
+    let s = (12 * (y % 32) + 3 * (x % 36) + 7 * (x / 36)) % 32;
+    if y / 32 < s {
+        return true;
+    }
+    if 0 < s {
+        return false;
+    }
+    i < source(kind, i)
+}
+
+// Whether the place x is written at or before the step that reads it, where the same L1 frame writes it.
+fn seen_bit(kind: usize, x: usize) -> u8
+    requires { ⌜ (kind < 2) × (x < 1152 * «partitions-of» kind) ⌝ }
+    ensures { λ r. ⌜ (r ≡ seenBit kind x) × (r < 2) ⌝ }
+{
+    if unwritten(kind, 15 * block(kind) + x) {
+        return 0;
+    }
+    1
+}
+
+// The same of the eight places of the byte g.
+fn seen(kind: usize, g: usize) -> u8
+    requires { ⌜ (kind < 2) × (g < 144 * «partitions-of» kind) ⌝ }
+    ensures { λ r. ⌜ r ≡ seenMask kind g ⌝ }
+{
+    let mut a: u8 = 0;
+    let mut u = 0;
+    while u < 8 {
+        a = (a << 1) | seen_bit(kind, 8 * g + u);
+        u += 1;
+    }
+    a
+}
+
+// The byte x, with the bits of a where m has ones.
+fn mix(x: u8, a: u8, m: u8) -> u8
+    ensures { λ r. ⌜ r ≡ mixed x a m ⌝ }
+{
+    x ^ ((x ^ a) & m)
+}
+
+// The coded bits in the byte j of px go to the byte o of the internal matrix or to the byte q of the other half, and px shows them or what stood there.
+fn merge_byte(o: usize, q: usize, j: usize, near: u8, seen: u8, memory: &mut [u8], px: &mut [u8])
+    requires { ⌜ (o < length (now memory)) × (q < length (now memory)) × (j < length (now px)) ⌝ }
+    ensures { λ _. ⌜ now (memory .exit) ≡ set (set (now (memory .entry)) o (mixed (getD (now (memory .entry)) o 0) (getD (now (px .entry)) j 0) near)) q (mixed (getD (now (px .entry)) j 0) (getD (now (memory .entry)) q 0) near) ⌝ }
+    ensures { λ _. ⌜ now (px .exit) ≡ set (now (px .entry)) j (mixed (getD (now (memory .entry)) o 0) (getD (now (px .entry)) j 0) (bitAnd near seen)) ⌝ }
+{
+    let a = px[j];
+    let x = memory[o];
+    let y = memory[q];
+    px[j] = mix(x, a, near & seen);
+    memory[o] = mix(x, a, near);
+    memory[q] = mix(a, y, near);
+}
+
+// The byte g of each block.
+fn merge_turns(
+    kind: usize,
+    half: usize,
+    nears: &[u8; 32],
+    a: usize,
+    b: usize,
+    seen: u8,
+    g: usize,
+    memory: &mut [u8],
+    px: &mut [u8],
+)
+    requires { ⌜ (kind < 2) × (half < 2) × (g < 144 * «partitions-of» kind) × Nears (now nears) × (seen ≡ seenMask kind g) × (a ≡ «ahead-of» kind (8 * g)) × (b ≡ «ahead-of» kind (8 * g + 4)) × (a < 32) × (b < 32) ⌝ }
+    requires { ⌜ (length (now memory) ≡ 2 * codedBytes kind) × (length (now px) ≡ codedBytes kind) ⌝ }
+    ensures { λ _. ⌜ ((m p : List ℕ) → Status kind half (now (memory .entry)) (now (px .entry)) m p (16 * g) → Status kind half (now (memory .exit)) (now (px .exit)) m p (16 * g + 16)) ⌝ }
+{
+    let size = block(kind) / 8;
+    let mut t = 0;
+    while t < 16 {
+        let j = size * t + g;
+        let o = byte_of(kind, half, j);
+        let q = byte_of(kind, 1 - half, j);
+        let m = near(nears, t, a, b);
+        merge_byte(o, q, j, m, seen, memory, px);
+        t += 1;
+    }
+}
+
+// The coded bits in px, at the places that they are written to, go into the internal matrix, and px shows what the steps read.
+fn merge(kind: usize, half: usize, memory: &mut [u8], px: &mut [u8])
+    requires { ⌜ (kind < 2) × (half < 2) × (length (now memory) ≡ 2 * codedBytes kind) × (length (now px) ≡ codedBytes kind) ⌝ }
+    ensures { λ _. ⌜ Status kind half (now (memory .exit)) (now (px .exit)) (now (memory .entry)) (now (px .entry)) (16 * (144 * «partitions-of» kind)) ⌝ }
+{
+    let nears = nears();
+    let size = block(kind) / 8;
+    let mut g = 0;
+    while g < size {
+        let a = ahead(kind, 8 * g);
+        let b = ahead(kind, 8 * g + 4);
+        merge_turns(kind, half, &nears, a, b, seen(kind, g), g, memory, px);
+        g += 1;
+    }
+}
+
+// 10.2.2.2, one L1 frame through the internal matrix: each step writes a coded bit and then reads one. Each cell is written once in two L1 frames, so that the
+// coded bits can be laid out at their places first, and then go to the one half or the other, and to what is read, eight at a time.
 pub fn pass(kind: usize, half: usize, coded: &[u8], memory: &mut [u8], px: &mut [u8])
     requires { ⌜ (kind < 2) × (half < 2) ⌝ }
     requires { ⌜ (length (now coded) ≡ codedBytes kind) × (length (now memory) ≡ 2 * codedBytes kind) × (length (now px) ≡ codedBytes kind) ⌝ }
     ensures { λ _. ⌜ now (memory .exit) ≡ packed (2 * codedBytes kind) (after kind half (bitAt (now (coded .entry))) (bitAt (now (memory .entry))) (codedBits kind)) ⌝ }
     ensures { λ _. ⌜ now (px .exit) ≡ packed (codedBytes kind) (read kind half (bitAt (now (coded .entry))) (bitAt (now (memory .entry)))) ⌝ }
 {
-    let at = spots(kind);
-    let parts = parts(kind);
-    let counts = counts(kind);
-    let mut j = 0;
-    while j < px.len() {
-        px[j] = exchange_byte(kind, half, &at, &parts, &counts, j, coded, memory);
-        j += 1;
-    }
+    fresh(kind, coded, px);
+    merge(kind, half, memory, px);
 }
 
 // Where the coded bit j of an L1 frame stands in its matrix and the two that follow, laid end to end: i is its step, c the cell that it writes, and n the cells.
@@ -316,34 +495,73 @@ fn later(n: usize, i: usize, c: usize, j: usize) -> usize
     j + (c - i)
 }
 
-// The byte j of an L1 frame's coded bits out of its matrix and the two that follow.
-fn gather_byte(
+// Where the eight bits of the byte g of the first turn stand in the three matrices. The bits of a later turn stand as many blocks on, in either L1 frame.
+fn delays(
     kind: usize,
-    half: usize,
     at: &[u16; 1152],
     parts: &[usize; 8],
     counts: &[usize; 8],
-    j: usize,
+    g: usize,
+) -> [usize; 8]
+    requires { ⌜ (kind < 2) × (g < 144 * «partitions-of» kind) × Spots kind (now at) × Parts kind (now parts) × Counts kind (now counts) ⌝ }
+    ensures { λ r. ⌜ Delays kind g r ⌝ }
+{
+    let mut delays = [0usize; 8];
+    let n = 2 * coded_bits(kind);
+    let e = g * runs(kind);
+    let mut u = 0;
+    while u < 8 {
+        let c = cell_in_byte(kind, at, parts, counts, 0, e, u);
+        delays[u] = later(n, 8 * g + u, c, 8 * g + u);
+        u += 1;
+    }
+    delays
+}
+
+// The byte g of the turn t of an L1 frame's coded bits out of its matrix and the two that follow.
+fn gather_byte(
+    kind: usize,
+    half: usize,
+    delays: &[usize; 8],
+    g: usize,
+    t: usize,
     three: &[u8],
 ) -> u8
-    requires { ⌜ (kind < 2) × (half < 2) × (j < codedBytes kind) × Spots kind (now at) × Parts kind (now parts) × Counts kind (now counts) × (length (now three) ≡ 3 * codedBytes kind) ⌝ }
-    ensures { λ r. ⌜ r ≡ byteOf (λ i. bitAt (now (three .entry)) («later-of» kind half i)) j ⌝ }
+    requires { ⌜ (kind < 2) × (half < 2) × (g < 144 * «partitions-of» kind) × (t < 16) × Delays kind g (now delays) × (length (now three) ≡ 3 * codedBytes kind) ⌝ }
+    ensures { λ r. ⌜ r ≡ byteOf (λ i. bitAt (now (three .entry)) («later-of» kind half i)) (144 * «partitions-of» kind * t + g) ⌝ }
 {
-    let n = 2 * coded_bits(kind);
-    let q = byte_of(kind, half, j);
-    let t = turn_of(kind, q);
+    let i = block(kind) * t;
     let mut a: u8 = 0;
     let mut u = 0;
     while u < 8 {
-        let c = cell_in_byte(kind, at, parts, counts, t.turn, t.entry, u);
-        let l = later(n, 8 * q + u, c, 8 * j + u);
-        a = (a << 1) | bits::get(three, l);
+        a = (a << 1) | bits::get(three, i + delays[u]);
         u += 1;
     }
     a
 }
 
-// The coded bits of an L1 frame out of its matrix and the two that follow, laid end to end.
+// The byte g of each of the sixteen turns of an L1 frame; the bytes before it in each turn stay.
+fn gather_turns(
+    kind: usize,
+    half: usize,
+    delays: &[usize; 8],
+    g: usize,
+    three: &[u8],
+    coded: &mut [u8],
+)
+    requires { ⌜ (kind < 2) × (half < 2) × (g < 144 * «partitions-of» kind) × Delays kind g (now delays) × (length (now three) ≡ 3 * codedBytes kind) × (length (now coded) ≡ codedBytes kind) ⌝ }
+    ensures { λ _. ⌜ ((t : ℕ) → t < 16 → getD (now (coded .exit)) (144 * «partitions-of» kind * t + g) 0 ≡ byteOf (λ i. bitAt (now (three .entry)) («later-of» kind half i)) (144 * «partitions-of» kind * t + g)) ⌝ }
+    ensures { λ _. ⌜ ((t h : ℕ) → h < g → getD (now (coded .exit)) (144 * «partitions-of» kind * t + h) 0 ≡ getD (now (coded .entry)) (144 * «partitions-of» kind * t + h) 0) ⌝ }
+{
+    let size = block(kind) / 8;
+    let mut t = 0;
+    while t < 16 {
+        coded[size * t + g] = gather_byte(kind, half, delays, g, t, three);
+        t += 1;
+    }
+}
+
+// The coded bits of an L1 frame out of its matrix and the two that follow, laid end to end: by the byte of a turn, so that its places are found once for the sixteen turns.
 pub fn gather(kind: usize, half: usize, three: &[u8], coded: &mut [u8])
     requires { ⌜ (kind < 2) × (half < 2) × (length (now three) ≡ 3 * codedBytes kind) × (length (now coded) ≡ codedBytes kind) ⌝ }
     ensures { λ _. ⌜ now (coded .exit) ≡ packed (codedBytes kind) (λ j. bitAt (now (three .entry)) («later-of» kind half j)) ⌝ }
@@ -351,10 +569,12 @@ pub fn gather(kind: usize, half: usize, three: &[u8], coded: &mut [u8])
     let at = spots(kind);
     let parts = parts(kind);
     let counts = counts(kind);
-    let mut j = 0;
-    while j < coded.len() {
-        coded[j] = gather_byte(kind, half, &at, &parts, &counts, j, three);
-        j += 1;
+    let size = block(kind) / 8;
+    let mut g = 0;
+    while g < size {
+        let delays = delays(kind, &at, &parts, &counts, g);
+        gather_turns(kind, half, &delays, g, three, coded);
+        g += 1;
     }
 }
 
@@ -364,10 +584,28 @@ fn is_fill(kind: usize, half: usize, px: &[u8], j: usize) -> bool
     ensures { λ r. ⌜ r ≡ isFill kind half (bitAt (now (px .entry))) j ⌝ }
 {
     if bits::get(px, j) == 1 {
-        let i = step_of(kind, half, j);
-        return i < source(kind, i);
+        return unwritten(kind, step_of(kind, half, j));
     }
     false
+}
+
+// The lowest such bit of the byte j; the next byte's first bit where there is none. A byte of zeros has none.
+fn fill_in_byte(kind: usize, half: usize, px: &[u8], j: usize) -> usize
+    requires { ⌜ (kind < 2) × (half < 2) × (length (now px) ≡ codedBytes kind) × (j < codedBytes kind) ⌝ }
+    ensures { λ r. ⌜ ((i : ℕ) → 8 * j ≤ i → i < r → isFill kind half (bitAt (now (px .entry))) i ≡ false) ⌝ }
+    ensures { λ r. ⌜ (r ≤ 8 * j + 8) × (r < 8 * j + 8 → (8 * j ≤ r) × (isFill kind half (bitAt (now (px .entry))) r ≡ true)) ⌝ }
+{
+    if px[j] == 0 {
+        return 8 * j + 8;
+    }
+    let mut u = 0;
+    while u < 8 {
+        if is_fill(kind, half, px, 8 * j + u) {
+            return 8 * j + u;
+        }
+        u += 1;
+    }
+    8 * j + 8
 }
 
 // The lowest bit of an L1 frame's matrix that is 1 though it is read before its cell is written; their number where there is none.
@@ -375,13 +613,13 @@ pub fn first_fill(kind: usize, half: usize, px: &[u8]) -> usize
     requires { ⌜ (kind < 2) × (half < 2) × (length (now px) ≡ codedBytes kind) ⌝ }
     ensures { λ r. ⌜ r ≡ firstFill kind half (bitAt (now (px .entry))) ⌝ }
 {
-    let n = coded_bits(kind);
     let mut j = 0;
-    while j < n {
-        if is_fill(kind, half, px, j) {
-            return j;
+    while j < px.len() {
+        let r = fill_in_byte(kind, half, px, j);
+        if r < 8 * j + 8 {
+            return r;
         }
         j += 1;
     }
-    n
+    8 * px.len()
 }

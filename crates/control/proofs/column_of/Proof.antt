@@ -1,12 +1,12 @@
 -- `control::column_of` meets its contract. The loop's invariant: the rows so far are in y. Assumes nothing.
-use mathlib.Core.Path.{_≡_, refl, sym, ap, _∙_}
+use mathlib.Core.Path.{_≡_, refl, ap, _∙_}
 use Prim.Native.Nat.{ℕ, _-_, _/_, _^_, _≤_}
 use native.Mathlib.Omega.{arith}
 use borrow.Author.Needs.{needs}
 use lib.Bits.{bitXor, and-le-r}
 use Rattle.bits.specs.Bits.{number}
 use Rattle.control.specs.Control.{encoded}
-use Rattle.control.proofs.Packing.{encoded-turn, encoded-rows-lt, column-here, column-past}
+use Rattle.control.proofs.Packing.{encoded-turn, encoded-rows-lt}
 use Rattle.control.proofs.column_of.Statement.{statement}
 use Rattle.control.proofs.column_of.Tie as tie
 
@@ -15,11 +15,6 @@ Inv-loop mode count reserved column x y₀ row₀ y row = (row ≤ 32) × (y ≡
 
 abbrev μ-loop : tie.MeasureT-loop
 μ-loop mode count reserved column x y₀ row₀ y row = 32 - row
-
-returns : tie.Need-returns Inv-loop μ-loop
-returns c =
-    let a = c .before .args in
-    sym (column-past (a .mode) (a .count) (a .reserved) (a .column) (omega arith))
 
 sequence-of-requires : tie.Need-sequence-of-requires Inv-loop μ-loop
 sequence-of-requires c κs = search needs
@@ -30,7 +25,7 @@ loop-holds c = (search needs, refl)
 
 mul-y : tie.Need-mul-y Inv-loop μ-loop
 mul-y c =
-    let a = c .before .before .before .before .args in
+    let a = c .before .before .before .args in
     omega (arith, encoded-rows-lt (a .mode) (a .count) (a .reserved) (a .column) (c .before .loop .row) 31 (omega arith))
 
 sub-y : tie.Need-sub-y Inv-loop μ-loop
@@ -41,7 +36,7 @@ shr-y c = search needs
 
 add-y : tie.Need-add-y Inv-loop μ-loop
 add-y c =
-    let a = c .before .before .before .before .args in
+    let a = c .before .before .before .args in
     let loop = c .before .loop in
     let x = c .before .before .sequence-of .result in
     omega (
@@ -58,18 +53,17 @@ loop-less c = search needs
 
 loop-again : tie.Need-loop-again Inv-loop μ-loop
 loop-again c =
-    let a = c .before .before .before .before .args in
+    let a = c .before .before .before .args in
     let s = c .before .before .sequence-of in
     let loop = c .before .loop in
     (search needs, encoded-turn (a .mode) (a .count) (a .reserved) (a .column) (loop .row) (s .result) (loop .y) (c .loop-test .taken) (s .ensures) (loop .inv .1))
 
-returns-2 : tie.Need-returns-2 Inv-loop μ-loop
-returns-2 c =
-    let a = c .before .before .before .before .args in
+returns : tie.Need-returns Inv-loop μ-loop
+returns c =
+    let a = c .before .before .before .args in
     let e : c .before .loop .row ≡ 32 = omega arith in
     c .before .loop .inv .1
     ∙ ap (λ (n : ℕ). number n (encoded (a .mode) (a .count) (a .reserved) (a .column))) e
-    ∙ column-here (a .mode) (a .count) (a .reserved) (a .column) (omega arith)
 
 pub column-of-spec : {M : Type 1} → statement M
 column-of-spec =
@@ -77,7 +71,6 @@ column-of-spec =
     (tie.spec
     Inv-loop
     μ-loop
-    returns
     sequence-of-requires
     loop-holds
     mul-y
@@ -87,4 +80,4 @@ column-of-spec =
     add-row
     loop-less
     loop-again
-    returns-2)
+    returns)

@@ -5,6 +5,7 @@ use native.Mathlib.Omega.{arith}
 use lib.ListN.{length, getD, length-set}
 use Rattle.bits.proofs.Stores.{set-more}
 use Rattle.interleaving.specs.PM.{p1Place}
+use Rattle.interleaving.proofs.OncePM.{p1Place-lt}
 use borrow.Author.Needs.{needs}
 use Rattle.pm.proofs.first_cells.Statement.{statement}
 use Rattle.pm.proofs.first_cells.Tie as tie
@@ -20,6 +21,9 @@ loop-holds c = (search needs, search needs, λ s h. absurd (omega arith))
 
 p1-cell-requires : tie.Need-p1-cell-requires Inv-loop μ-loop
 p1-cell-requires c κs = search needs
+
+cast-cells : tie.Need-cast-cells Inv-loop μ-loop
+cast-cells c = omega (arith, c .p1-cell .ensures, p1Place-lt (c .before .before .loop .t) (omega arith))
 
 mul-cells : tie.Need-mul-cells Inv-loop μ-loop
 mul-cells c = search needs
@@ -50,6 +54,7 @@ first-cells-spec =
     μ-loop
     loop-holds
     p1-cell-requires
+    cast-cells
     mul-cells
     array-write-cells
     add-t

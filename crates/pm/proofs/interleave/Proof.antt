@@ -1,12 +1,8 @@
--- `pm::interleave` meets its contract: the law `both-passes`. Assumes nothing.
-use mathlib.Core.Path.{ap, _∙_}
-use Prim.Native.Nat.{ℕ}
-use mathlib.Core.List.{List}
+-- `pm::interleave` meets its contract: the law `over-p1`. Assumes nothing.
+use mathlib.Core.Path.{_∙_}
+use Rattle.bits.specs.Bits.{bitAt}
+use Rattle.interleaving.proofs.Passes.{over-p1}
 use borrow.Author.Needs.{needs}
-use Rattle.bits.specs.Bits.{bitAt, packed, written}
-use Rattle.bits.proofs.Packed.{bitAt-lt}
-use Rattle.interleaving.specs.PM.{pidsPlace}
-use Rattle.interleaving.proofs.Passes.{both-passes}
 use Rattle.pm.proofs.interleave.Statement.{statement}
 use Rattle.pm.proofs.interleave.Tie as tie
 
@@ -22,10 +18,8 @@ same-length c = search needs
 returns : tie.Need-returns
 returns c =
     let args = c .before .before .before .before .before .before .before .before .before .before .before .args in
-    let pids : ℕ → ℕ = bitAt (args .pids .now) in
-    c .before .before .scatter-pids .ensures
-    ∙ ap (λ (l : List ℕ). packed 46080 (written pidsPlace pids 3200 (bitAt l))) (c .before .before .before .before .before .before .scatter-p1 .ensures)
-    ∙ both-passes (bitAt (args .p1 .now)) pids (bitAt (args .pm .now)) (bitAt-lt _) (bitAt-lt _)
+    c .before .before .scatter-pids .ensures ∙ over-p1 (bitAt (args .p1 .now)) (bitAt (args .pids .now)) _ (c .before .before .before .before .before .before .scatter-p1 .ensures)
 
 pub interleave-spec : {M : Type 1} → statement M
-interleave-spec = tie.close (tie.spec scatter-p1-requires scatter-pids-requires same-length returns)
+interleave-spec =
+    tie.close (tie.spec scatter-p1-requires scatter-pids-requires same-length returns)

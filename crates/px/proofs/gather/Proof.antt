@@ -1,19 +1,22 @@
--- `px::gather` meets its contract. The loop's invariant: the first j bytes are stored. Assumes nothing.
-use Prim.Native.Nat.{_-_}
+-- `px::gather` meets its contract. The loop's invariant: the first g bytes of each turn are stored. Assumes nothing.
+use mathlib.Core.Path.{_≡_}
+use Prim.Native.Nat.{ℕ, _+_, _-_, _*_, _<_}
 use native.Mathlib.Omega.{arith}
-use lib.ListN.{length, length-set}
-use Rattle.bits.specs.Bits.{bitAt}
-use Rattle.bits.proofs.Stores.{Stored, stored-none, stored-turn, stored-all}
-use Rattle.interleaving.specs.PX.{later}
+use lib.ListN.{length, getD}
+use Rattle.bits.specs.Bits.{bitAt, byteOf}
+use Rattle.interleaving.specs.PX.{partitions, codedBytes, later}
+use Rattle.px.proofs.Residues.{residue-more, residues-all}
 use borrow.Author.Needs.{needs}
 use Rattle.px.proofs.gather.Statement.{statement}
 use Rattle.px.proofs.gather.Tie as tie
 
 abbrev Inv-loop : tie.InvT-loop
-Inv-loop kind half three coded₀ at parts counts j₀ coded j = Stored (length coded₀) (λ i. bitAt three (later kind half i)) coded j
+Inv-loop kind half three coded₀ at parts counts size g₀ coded g =
+    (length coded ≡ codedBytes kind)
+    × ((t h : ℕ) → t < 16 → h < g → getD coded (144 * partitions kind * t + h) 0 ≡ byteOf (λ i. bitAt three (later kind half i)) (144 * partitions kind * t + h))
 
 abbrev μ-loop : tie.MeasureT-loop
-μ-loop kind half three coded₀ at parts counts j₀ coded j = length coded - j
+μ-loop kind half three coded₀ at parts counts size g₀ coded g = size - g
 
 spots-requires : tie.Need-spots-requires Inv-loop μ-loop
 spots-requires c κs = search needs
@@ -24,31 +27,43 @@ parts-requires c κs = search needs
 counts-requires : tie.Need-counts-requires Inv-loop μ-loop
 counts-requires c κs = search needs
 
+block-requires : tie.Need-block-requires Inv-loop μ-loop
+block-requires c κs = search needs
+
 loop-holds : tie.Need-loop-holds Inv-loop μ-loop
-loop-holds c = stored-none _ _
+loop-holds c = (search needs, λ t h l m. absurd (omega arith))
 
-gather-byte-requires : tie.Need-gather-byte-requires Inv-loop μ-loop
-gather-byte-requires c κs =
-    let pre = c .before .before .before .before .before .before .before .before .before .before .pre in
-    (pre .0, pre .1, omega arith, c .before .before .before .before .before .before .before .spots .ensures, c .before .before .before .before .before .before .parts .ensures, c .before .before .before .before .before .counts .ensures, pre .2)
+delays-requires : tie.Need-delays-requires Inv-loop μ-loop
+delays-requires c κs =
+    let pre = c .before .before .before .before .before .before .before .before .before .before .before .pre in
+    (pre .0, omega (arith, c .before .before .before .loop-test .taken, c .before .before .before .before .before .block .ensures .0), c .before .before .before .before .before .before .before .before .spots .ensures, c .before .before .before .before .before .before .before .parts .ensures, c .before .before .before .before .before .before .counts .ensures)
 
-slice-write-coded : tie.Need-slice-write-coded Inv-loop μ-loop
-slice-write-coded c = search needs
+gather-turns-requires : tie.Need-gather-turns-requires Inv-loop μ-loop
+gather-turns-requires c κs =
+    let pre = c .before .before .before .before .before .before .before .before .before .before .before .before .before .before .pre in
+    (pre .0, pre .1, omega (arith, c .before .before .before .before .before .before .loop-test .taken, c .before .before .before .before .before .before .before .before .block .ensures .0), c .before .before .delays .ensures, pre .2, c .before .before .before .before .before .before .before .loop .inv .0)
 
-add-j : tie.Need-add-j Inv-loop μ-loop
-add-j c = search needs
+add-g : tie.Need-add-g Inv-loop μ-loop
+add-g c = search needs
 
 loop-less : tie.Need-loop-less Inv-loop μ-loop
-loop-less c = simp length-set (omega arith)
+loop-less c = search needs
 
 loop-again : tie.Need-loop-again Inv-loop μ-loop
-loop-again c = stored-turn _ (c .before .before .before .before .before .loop .inv) (c .before .before .before .before .loop-test .taken) (c .gather-byte .ensures)
+loop-again c =
+    let a = c .before .before .before .before .before .before .before .before .before .before .before .before .before .before .before .before .before .args in
+    let loop = c .before .before .before .before .before .before .before .before .before .before .loop in
+    let f = byteOf (λ i. bitAt (a .three .now) (later (a .kind) (a .half) i)) in
+    let done = c .before .before .gather-turns in
+    (search needs, residue-more (a .kind) (loop .g) f (loop .coded) (done .last .1 .1 .1 .1 .1 .0) (loop .inv .1) (done .ensures .0) (done .ensures .1))
 
 same-length : tie.Need-same-length Inv-loop μ-loop
 same-length c = search needs
 
 returns : tie.Need-returns Inv-loop μ-loop
-returns c = rw (c .before .before .before .before .before .before .before .pre .3) at (stored-all (c .before .loop .inv) (c .loop-test .left))
+returns c =
+    let a = c .before .before .before .before .before .before .before .before .args in
+    residues-all (a .kind) (c .before .loop .g) _ _ (c .before .before .before .before .before .before .before .before .pre .0) (c .before .loop .inv .0) (omega (arith, c .loop-test .left, c .before .before .block .ensures .0)) (c .before .loop .inv .1)
 
 pub gather-spec : {M : Type 1} → statement M
 gather-spec =
@@ -59,10 +74,11 @@ gather-spec =
     spots-requires
     parts-requires
     counts-requires
+    block-requires
     loop-holds
-    gather-byte-requires
-    slice-write-coded
-    add-j
+    delays-requires
+    gather-turns-requires
+    add-g
     loop-less
     loop-again
     same-length

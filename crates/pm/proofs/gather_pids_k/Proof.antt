@@ -1,0 +1,100 @@
+-- `pm::gather_pids_k` meets its contract. The loop's invariant: s bits more are read. Assumes nothing.
+use mathlib.Core.Path.{_≡_, refl, ap, _∙_}
+use Prim.Native.Nat.{ℕ, _+_, _-_, _*_, _≤_}
+use native.Mathlib.Nat.{add-zero}
+use native.Mathlib.Omega.{arith}
+use lib.ListN.{length}
+use Rattle.bits.specs.Bits.{bitAt, written}
+use Rattle.bits.proofs.Written.{written-next}
+use Rattle.bits.proofs.Packed.{bitAt-lt}
+use Rattle.interleaving.specs.PM.{pidsPlace}
+use Rattle.interleaving.proofs.OncePM.{pidsPlace-lt}
+use Rattle.pm.proofs.Cells.{pids-cell}
+use borrow.Author.Needs.{needs}
+use Rattle.pm.proofs.gather_pids_k.Statement.{statement}
+use Rattle.pm.proofs.gather_pids_k.Tie as tie
+
+abbrev Inv-loop : tie.InvT-loop
+Inv-loop pm order m start coded₀ s₀ coded s =
+    (s ≤ 20) × (length coded ≡ 400)
+    × ((f : ℕ → ℕ) → bitAt coded₀ ≡ written (λ i. i) (λ i. bitAt pm (pidsPlace i)) (20 * m) f
+    → bitAt coded ≡ written (λ i. i) (λ i. bitAt pm (pidsPlace i)) (20 * m + s) f)
+
+abbrev μ-loop : tie.MeasureT-loop
+μ-loop pm order m start coded₀ s₀ coded s = 20 - s
+
+loop-holds : tie.Need-loop-holds Inv-loop μ-loop
+loop-holds c = (search needs, search needs, λ f e. rw add-zero e)
+
+partition-at-requires : tie.Need-partition-at-requires Inv-loop μ-loop
+partition-at-requires c κs = (c .before .before .before .before .pre .4, omega arith)
+
+mul-get : tie.Need-mul-get Inv-loop μ-loop
+mul-get c = search needs
+
+add-get : tie.Need-add-get Inv-loop μ-loop
+add-get c =
+    let a = c .before .before .before .before .before .args in
+    let n = 20 * a .m + c .before .before .loop .s in
+    omega (arith, pids-cell (a .m) (c .before .before .loop .s) (a .start) (c .partition-at .result) (omega arith) (omega arith) (c .before .before .before .before .before .pre .3) (c .partition-at .ensures .0), pidsPlace-lt n (omega arith))
+
+get-requires : tie.Need-get-requires Inv-loop μ-loop
+get-requires c κs =
+    let a = c .before .before .before .before .before .args in
+    let n = 20 * a .m + c .before .before .loop .s in
+    omega (arith, pids-cell (a .m) (c .before .before .loop .s) (a .start) (c .partition-at .result) (omega arith) (omega arith) (c .before .before .before .before .before .pre .3) (c .partition-at .ensures .0), pidsPlace-lt n (omega arith))
+
+mul-put : tie.Need-mul-put Inv-loop μ-loop
+mul-put c = search needs
+
+add-put : tie.Need-add-put Inv-loop μ-loop
+add-put c = search needs
+
+put-requires : tie.Need-put-requires Inv-loop μ-loop
+put-requires c κs =
+    let a = c .before .before .before .before .before .before .before .args in
+    omega (arith, bitAt-lt (a .pm .now) (a .start + 36 * c .before .before .partition-at .result))
+
+add-s : tie.Need-add-s Inv-loop μ-loop
+add-s c = search needs
+
+loop-less : tie.Need-loop-less Inv-loop μ-loop
+loop-less c = search needs
+
+loop-again : tie.Need-loop-again Inv-loop μ-loop
+loop-again c =
+    let loop = c .before .before .before .before .before .before .before .loop in
+    let a = c .before .before .before .before .before .before .before .before .before .before .args in
+    let n : ℕ = 20 * a .m + loop .s in
+    let cell = pids-cell (a .m) (loop .s) (a .start) (c .before .before .before .before .before .partition-at .result) (omega arith) (omega arith) (c .before .before .before .before .before .before .before .before .before .before .pre .3) (c .before .before .before .before .before .partition-at .ensures .0) in
+    let bit = c .before .before .before .before .get .ensures ∙ ap (bitAt (a .pm .now)) cell in
+    let next : 20 * a .m + (loop .s + 1) ≡ n + 1 = omega arith in
+    (search needs, search needs, λ f e. rw next (written-next (λ i. i) _ n f _ _ (loop .inv .2 f e) refl bit (c .before .before .put .ensures)))
+
+same-length : tie.Need-same-length Inv-loop μ-loop
+same-length c = search needs
+
+returns : tie.Need-returns Inv-loop μ-loop
+returns c =
+    let all : c .before .loop .s ≡ 20 = omega arith in
+    rw all at (c .before .loop .inv .2)
+
+pub gather-pids-k-spec : {M : Type 1} → statement M
+gather-pids-k-spec =
+    tie.close
+    (tie.spec
+    Inv-loop
+    μ-loop
+    loop-holds
+    partition-at-requires
+    mul-get
+    add-get
+    get-requires
+    mul-put
+    add-put
+    put-requires
+    add-s
+    loop-less
+    loop-again
+    same-length
+    returns)
