@@ -1,13 +1,10 @@
 -- The finder and the locator of PX1 and PX2 in six modes undo each other: those of P3 and P4 as in the older mode that has them alike, those of P1' by Interleaver
 -- I's inverse. Assumes nothing.
-use mathlib.Core.Path.{_≡_, refl, sym, ap, ap₂, subst, _∙_}
+use mathlib.Core.Path.{_≡_, refl, sym, ap, subst, _∙_}
 use mathlib.Core.Bool.{Bool, true, false}
-use Prim.Native.Nat.{ℕ, _+_, _-_, _*_, _/_, _%_, _≤_, _<_, min}
-use native.Mathlib.Decide.{decLt}
+use Prim.Native.Nat.{ℕ, _+_, _-_, _≤_, _<_, min}
 use native.Mathlib.Omega.{arith}
 use Rattle.control.specs.Modes.{covered}
-use Rattle.interleaving.specs.Matrix.{positionAt}
-use Rattle.interleaving.specs.PX2.{place}
 use Rattle.runs.specs.declared.Extended.{Extended}
 use Rattle.runs.specs.declared.Extended.the-variants.{P3, P4}
 use Rattle.runs.specs.declared.Kind.{Kind}
@@ -15,29 +12,26 @@ use Rattle.runs.specs.declared.Kind.the-variants.{Unused}
 use Rattle.runs.specs.declared.Main.{Main}
 use Rattle.runs.specs.declared.Main.the-variants.{Plain, Mp5, Mp6}
 use Rattle.runs.specs.declared.State.{State}
-use Rattle.runs.specs.MainChannels.{mainOf, lastAge, delayFrames, p1′Row}
+use Rattle.runs.specs.MainChannels.{mainOf, lastAge}
 use Rattle.runs.specs.Lengths.{kindOf}
 use Rattle.runs.specs.Starting.{stateAt, valid}
 use Rattle.runs.proofs.States.{valid-at}
-use Rattle.queries.specs.declared.finder_px.FoundPx.{FoundPx}
 use Rattle.queries.specs.declared.finder_px.FoundPx.the-variants as finder
 use Rattle.queries.specs.FinderPX as PX
 use Rattle.queries.specs.FinderPX.{foundPX, frameCoded}
 use Rattle.queries.specs.Sheets.{channelNumber}
-use Rattle.locating.specs.declared.locator_px.LocatedPx.{LocatedPx}
 use Rattle.locating.specs.declared.locator_px.LocatedPx.the-variants.{At}
 use Rattle.locating.specs.LocatorPX.{locatedPX}
 use Rattle.locating.specs.BothWays.{BothWaysPX}
 use Rattle.locating.proofs.AgainPX.{both-ways-px, in-range}
-use Rattle.finding_px.specs.declared.finder.FoundPxIn.the-variants.{Coded, Fill, Second, DelayZero}
-use Rattle.finding_px.specs.Second.{bitOf, cellOf, codedOf, columnsOf, named}
-use Rattle.finding_px.specs.Finder.{asIn, asOlder, foundPxIn, inSecond}
-use Rattle.finding_px.specs.Locator.{locatedPxIn, secondAt, standing}
-use Rattle.finding_px.specs.InRuns.{BothWays, BothWaysSecond}
-use Rattle.finding_px.proofs.Cases.{found-second, found-older, delay-zero, second-is}
-use Rattle.finding_px.proofs.Cases.{located-second, located-older, frame-out, bit-out, bit-in}
-use Rattle.finding_px.proofs.Turned.{bit-lt, cell-digits, goes, Goes, goes-to}
-use Rattle.finding_px.proofs.Said.{coded-from, fill-from, second-from, zeros-from, Says, no-cell, zeros, bit, says, not-coded, not-fill}
+use Rattle.finding_px.specs.declared.finder.FoundPxIn.the-variants.{Coded, Fill}
+use Rattle.finding_px.specs.Second.{columnsOf, named}
+use Rattle.finding_px.specs.Finder.{asIn, foundPxIn, inSecond}
+use Rattle.finding_px.specs.Locator.{locatedPxIn}
+use Rattle.finding_px.specs.InRuns.{BothWays}
+use Rattle.finding_px.proofs.Cases.{found-second, found-older}
+use Rattle.finding_px.proofs.Cases.{located-older}
+use Rattle.finding_px.proofs.Said.{coded-from, fill-from, not-coded, not-fill}
 use Rattle.finding_px.proofs.OlderPx.{alike, alike-plain, alike-covered, alike-kind, older-at}
 
 -- no channel of P3 or P4 is P1''s in the locator; in the finder PX2 is

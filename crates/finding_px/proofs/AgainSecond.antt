@@ -14,13 +14,13 @@ use Rattle.runs.specs.Starting.{stateAt, valid}
 use Rattle.runs.proofs.States.{valid-at}
 use Rattle.locating.specs.declared.locator_px.LocatedPx.the-variants.{At}
 use Rattle.finding_px.specs.declared.finder.FoundPxIn.the-variants.{Second, DelayZero}
-use Rattle.finding_px.specs.Second.{bitOf, cellOf, codedOf, columnsOf, named}
+use Rattle.finding_px.specs.Second.{bitOf, codedOf, columnsOf, named}
 use Rattle.finding_px.specs.Finder.{foundPxIn, inSecond}
 use Rattle.finding_px.specs.Locator.{locatedPxIn, secondAt, standing}
 use Rattle.finding_px.specs.InRuns.{BothWaysSecond}
 use Rattle.finding_px.proofs.Cases.{found-second, delay-zero, second-is, located-second, frame-out, bit-out, bit-in}
 use Rattle.finding_px.proofs.Turned.{bit-lt, cell-digits, goes, Goes, goes-to}
-use Rattle.finding_px.proofs.Said.{Says, no-cell, zeros, bit, says}
+use Rattle.finding_px.proofs.Said.{no-cell, zeros, bit, says}
 
 -- ---- the modes that have P1'
 

@@ -49,7 +49,7 @@ use Rattle.finding_px.proofs.Turned.{bytes-are, bit-lt, cell-lt, goes}
 use Rattle.finding_px.proofs.Said.{second-from, zeros-from}
 use Rattle.finding_px.proofs.OlderPx.{alike, alike-plain, alike-covered, alike-kind}
 use Rattle.finding_px.proofs.Again.{is-coded, is-fill, both-ways-px-in}
-use Rattle.finding_px.proofs.AgainSecond.{HasSecond, has-second, both-ways-second, later-three, second-says, zeros-says}
+use Rattle.finding_px.proofs.AgainSecond.{has-second, both-ways-second, later-three, second-says, zeros-says}
 
 -- ---- as before
 

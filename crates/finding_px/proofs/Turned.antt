@@ -1,9 +1,8 @@
 -- The bit at a position of PX2 is the one that Interleaver I writes there: the inverse of its law, written out for MP5 and MP6. Assumes nothing.
 use mathlib.Core.Path.{_≡_, refl, sym, ap, ap₂, subst, _∙_}
-use Prim.Native.Nat.{ℕ, zero, suc, _+_, _-_, _*_, _/_, _%_, _≤_, _<_}
+use Prim.Native.Nat.{ℕ, zero, suc, _+_, _*_, _/_, _%_, _≤_, _<_}
 use native.Mathlib.Omega.{arith}
 use lib.ListN.{getD}
-use Rattle.bits.specs.Once.{EachOnce, Below}
 use Rattle.interleaving.specs.declared.Position.{Position}
 use Rattle.interleaving.specs.InverseI.{kOfPosition, kAt, turn}
 use Rattle.interleaving.specs.Matrix.{positionAt, positionOf}
@@ -16,7 +15,7 @@ use Rattle.interleaving.proofs.InTurn.{inTurn}
 use Rattle.interleaving.proofs.OncePX2.{one-each-once, px2-each-once, source, sourceIn}
 use Rattle.runs.specs.declared.Main.{Main}
 use Rattle.runs.specs.declared.Main.the-variants.{Plain, Mp5, Mp6}
-use Rattle.runs.specs.MainChannels.{p1′Bits, p1′Len, p1′Row}
+use Rattle.runs.specs.MainChannels.{p1′Len, p1′Row}
 use Rattle.finding_px.specs.Second.{bitOf, cellOf, codedOf, columnsOf}
 
 -- ---- the modes that have P1'

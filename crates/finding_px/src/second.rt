@@ -1,6 +1,5 @@
 // P1' in PX2 (sections 10.4.2.3 and 10.4.2.4): Interleaver I turned round.
 use runs::Main;
-ghost use mathlib.Core.Bool.{Bool};
 ghost use mathlib.Core.Path.{_≡_};
 ghost use Prim.Native.Nat.{_<_, _≤_};
 ghost use lib.ListN.{getD};

@@ -1,5 +1,4 @@
 -- `in_mode` meets its contract: the age is the lower of it and 2. Assumes nothing.
-use native.Mathlib.Omega.{arith}
 use Rattle.finding_px.proofs.OlderPx.{age-capped, age-kept}
 use Rattle.finding_px.proofs.older.in_mode.Statement.{statement}
 use Rattle.finding_px.proofs.older.in_mode.Tie as tie
