@@ -1,7 +1,7 @@
 /* The FM Layer 1 bit chain of SY_IDD_1011s revision G, with the house matters of documents 01 and 02, for C.
  *
- * The functions are those of the proved crates `exported_runs` (starts, sending, reading), `exported_places` (into which cell a coded bit
- * goes, and its working), `exported_sheets` (the answer sheet), `version` and `exported` (all others): their contracts, in src and specs of
+ * The functions are those of the proved crates `exported_runs` (starts, sending, reading), `exported_places` (the finders in six modes,
+ * into which cell a coded bit goes, and its working), `exported_sheets` (the answer sheet), `version` and `exported` (all others): their contracts, in src and specs of
  * these crates, say exactly what each returns and what it leaves in every buffer. Every call returns, and refuses what the documents
  * refuse; none has a condition on numbers, lengths or the bytes themselves.
  *
@@ -41,7 +41,7 @@ _Static_assert(sizeof(size_t) == 8, "lengths and places cross as words of 64 bit
 
 /* The number of this interface: one more with every change of a call, a place, a length or a field of a word. Where layer1_version(), the
  * archive's, is another, header and archive do not belong together. */
-#define LAYER1_VERSION 2
+#define LAYER1_VERSION 3
 uint32_t layer1_version(void);
 
 /* The most stack that a sending, a reading, the judging of a dump and an answer sheet take, in bytes, as compiled (measured by
@@ -118,6 +118,15 @@ uint64_t layer1_locate(uint8_t channel, size_t frame, size_t bit);
  * this state comes before, and how many L1 frames later that cell is sent. Returns a cell word. Refused under 2: the state; under 3: a channel
  * that the mode does not have, or any in MP5 and MP6, at place 0, the transfer frame at 1, the bit at 2. layer1_find_px asks the other way. */
 uint64_t layer1_locate_px(uint8_t mode, uint8_t half, uint8_t age, uint8_t last, uint8_t channel, size_t frame, size_t bit);
+
+/* The same four questions in any covered mode. In MP5 and MP6 PM has eight P1 frames, 0 to 7, and P2 (channel 5), PX1 of MP5 is as in MP3, and
+ * PX2 has P1' (channel 6 of layer1_locate_px_in): the coded bits at rate 1/2 of the eight P1 frames of the L1 frame three earlier, and before
+ * that the zeros of the diversity delay. In the other modes they answer as those above do. Refused under 1: a mode that is not covered, in PM;
+ * and else as those above: a channel that the mode does not have at place 0 under 3. */
+uint64_t layer1_find_in(uint8_t mode, size_t row, size_t column);
+uint64_t layer1_locate_in(uint8_t mode, uint8_t channel, size_t frame, size_t bit);
+uint64_t layer1_find_px_in(uint8_t mode, uint8_t half, uint8_t age, uint8_t last, uint8_t channel, size_t pair, size_t row, size_t column);
+uint64_t layer1_locate_px_in(uint8_t mode, uint8_t half, uint8_t age, uint8_t last, uint8_t channel, size_t frame, size_t bit);
 
 /* The numbers of a working, by their places. */
 enum layer1_worked {
@@ -214,8 +223,9 @@ static inline uint32_t layer1_place(uint64_t word) { return word >> 32 & 0xfffff
 /* The outcome word of a reading: the reserved number of the L1 frame, 0 with any refusal. */
 static inline uint8_t layer1_number_read(uint64_t word) { return layer1_number(word) == 0 ? layer1_last(word) : 0; }
 
-/* A finding word. The channel of layer1_find: 0 none, 1 P1, 2 PIDS; the content of layer1_find_px: 0 none, 1 a coded bit, 2 the zero fill;
- * and how many L1 frames earlier that bit was sent. */
+/* A finding word. The channel of layer1_find and layer1_find_in: 0 none, 1 P1, 2 PIDS, 5 P2; the content of layer1_find_px and
+ * layer1_find_px_in: 0 none, 1 a coded bit, 2 the zero fill, 3 a coded bit of P1', 4 the zeros of the diversity delay; and how many L1 frames
+ * earlier that bit was sent. */
 static inline unsigned layer1_found_channel(uint64_t word) { return word >> 8 & 0xff; }
 static inline unsigned layer1_found_content(uint64_t word) { return word >> 8 & 0xff; }
 static inline unsigned layer1_found_frame(uint64_t word) { return word >> 16 & 0xff; }
@@ -230,11 +240,11 @@ static inline unsigned layer1_placed_partition(uint64_t word) { return word >> 2
 static inline unsigned layer1_placed_place(uint64_t word) { return word >> 32 & 0xff; }
 static inline unsigned layer1_placed_column(uint64_t word) { return (unsigned)(word >> 40); }
 
-/* A position word of layer1_locate or layer1_place_of: row and column of PM. */
+/* A position word of layer1_locate, layer1_locate_in or layer1_place_of: row and column of PM. */
 static inline unsigned layer1_located_row(uint64_t word) { return 32 * layer1_placed_block(word) + layer1_placed_row(word); }
 static inline unsigned layer1_located_column(uint64_t word) { return 36 * layer1_placed_partition(word) + layer1_placed_column(word); }
 
-/* A cell word of layer1_locate_px: block pair, row and column, and how many L1 frames later. */
+/* A cell word of layer1_locate_px or layer1_locate_px_in: block pair, row and column, and how many L1 frames later. */
 static inline unsigned layer1_located_px_pair(uint64_t word) { return word >> 8 & 0xff; }
 static inline unsigned layer1_located_px_row(uint64_t word) { return word >> 16 & 0xff; }
 static inline unsigned layer1_located_px_later(uint64_t word) { return word >> 24 & 0xff; }

@@ -19,6 +19,7 @@ use crate::places;
 use crate::restoring::{self, Code};
 use crate::run::{self, Answer, Reading, Refusal, Sending, Side, State};
 use crate::sets::{drawn_set, Blocks};
+use crate::six;
 use crate::vector::{self, Mapping, POINTS};
 
 /// No section: what stands in a buffer before a call that is to write it.
@@ -457,6 +458,71 @@ fn bits_of_px(output: &mut impl Write, draw: &mut Draw) -> io::Result<()> {
     Ok(())
 }
 
+/// House matter: drawn cells and bits of PM in every mode, each border, and modes that are not covered.
+fn pm_in_six_modes(output: &mut impl Write, draw: &mut Draw) -> io::Result<()> {
+    for mode in [1, 2, 3, 5, 6, 11, 0, 4, 255] {
+        for n in 0..500 {
+            let [row, column] = match n {
+                0..49 => [n % 7, n / 7].map(|b| [0, 511, 512, 719, 720, 1 << 32, usize::MAX][b]),
+                _ => [draw.index(512), draw.index(720)],
+            };
+            let returned = match six::find(mode, row, column) {
+                Ok((channel, frame, bit)) => [0, channel as usize, frame, 0, bit],
+                Err(refusal) => [refusal.number as usize, 0, 0, refusal.place, 0],
+            };
+            let numbers = [mode as usize, row, column];
+            line::<&[u8]>(output, "find_in", &numbers, &[], &returned, &[])?;
+            let channel = [1, 2, 5, 5, 1, 0, 3, 6][draw.index(8)];
+            let frame = [draw.index(9), draw.index(17), usize::MAX, 0][draw.index(4)];
+            let limit = [200, 11_521, 23_041, 365_441][draw.index(4)];
+            let bit = [draw.index(limit), limit - 1, usize::MAX][draw.index(9) / 4];
+            let returned = match six::locate(mode, channel, frame, bit) {
+                Ok(cell) => {
+                    let (row, column) = (cell / PM_COLUMNS, cell % PM_COLUMNS);
+                    let [block, line, partition, place] = pm_position(row, column);
+                    [0, 0, block, line, partition, place, row, column]
+                }
+                Err(refusal) => [refusal.number as usize, refusal.place, 0, 0, 0, 0, 0, 0],
+            };
+            let numbers = [mode as usize, channel as usize, frame, bit];
+            line::<&[u8]>(output, "locate_in", &numbers, &[], &returned, &[])?;
+        }
+    }
+    Ok(())
+}
+
+/// House matter: drawn cells and bits of PX1 and PX2 in every mode, some out of range or of a state or a channel that is not there.
+fn px_in_six_modes(output: &mut impl Write, draw: &mut Draw) -> io::Result<()> {
+    for _ in 0..800 {
+        let state = State {
+            mode: [2, 3, 11, 5, 5, 6, 6, 1, 4][draw.index(9)],
+            half: draw.below(2),
+            age: draw.below(4),
+            reserved: [0, 3, 7, 7, 8][draw.index(5)],
+        };
+        let channel = [3, 4, 4, 6, 6, 2][draw.index(6)];
+        let place = [[8, 64, 144], [9, 66, 290]][draw.index(2)].map(|limit| draw.index(limit));
+        let returned = match six::find_px(state, channel, place) {
+            Ok(six::Content::Coded([before, frame, bit])) => [0, 1, frame, before, 0, bit],
+            Ok(six::Content::Fill) => [0, 2, 0, 0, 0, 0],
+            Ok(six::Content::Second([frame, bit])) => [0, 3, frame, 3, 0, bit],
+            Ok(six::Content::DelayZeros) => [0, 4, 0, 0, 0, 0],
+            Err(refusal) => [refusal.number as usize, 0, 0, 0, refusal.place, 0],
+        };
+        let numbers = [&state_numbers(state)[..], &[channel as usize], &place].concat();
+        line::<&[u8]>(output, "find_px_in", &numbers, &[], &returned, &[])?;
+        let frame = [draw.index(8), draw.index(9)][draw.index(2)];
+        let bit = [draw.index(9_217), draw.index(18_433), usize::MAX][draw.index(10) / 4];
+        let returned = match six::locate_px(state, channel, frame, bit) {
+            Ok([later, pair, row, column]) => [0, 0, later, pair, row, column],
+            Err(refusal) => [refusal.number as usize, refusal.place, 0, 0, 0, 0],
+        };
+        let numbers = [&state_numbers(state)[..], &[channel as usize, frame, bit]].concat();
+        line::<&[u8]>(output, "locate_px_in", &numbers, &[], &returned, &[])?;
+    }
+    Ok(())
+}
+
 /// House matter: the numbers of a working, in the order of the header.
 fn numbers_of(worked: &locating::Working) -> Vec<usize> {
     let bits = worked.bits.into_iter().chain(worked.scrambling);
@@ -786,6 +852,8 @@ pub fn lines(seed: u64, output: &mut impl Write) -> Result<(), Stop> {
     cells_of_px(output, &mut draw)?;
     bits_of_pm(output, &mut draw)?;
     bits_of_px(output, &mut draw)?;
+    pm_in_six_modes(output, &mut draw)?;
+    px_in_six_modes(output, &mut draw)?;
     lookups(output, &mut draw)?;
     rows(output)?;
     shares(output, &mut draw)?;

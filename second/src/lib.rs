@@ -20,4 +20,5 @@ pub mod run;
 pub mod scrambling;
 pub mod sets;
 pub mod sheet;
+pub mod six;
 pub mod vector;

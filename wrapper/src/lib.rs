@@ -8,7 +8,7 @@
 mod raw;
 
 /// The number of the interface that this crate is written for: the header's `LAYER1_VERSION`.
-pub const VERSION: u32 = 2;
+pub const VERSION: u32 = 3;
 
 /// The number of the interface that the archive has. Where it is not `VERSION`, the two do not belong together.
 pub fn version() -> u32 {
@@ -140,6 +140,8 @@ pub enum Channel {
     P1,
     /// PIDS.
     Pids,
+    /// P2, in MP5 and MP6.
+    P2,
 }
 
 /// Whose coded bit stands in a cell of PM; no channel and zeros when refused.
@@ -245,6 +247,10 @@ pub enum Content {
     Coded,
     /// The zero fill.
     Fill,
+    /// A coded bit of P1', in MP5 and MP6.
+    Second,
+    /// The zeros of the diversity delay, in MP5 and MP6.
+    DelayZeros,
 }
 
 /// Whose coded bit stands in a cell of PX1 or PX2, and how many L1 frames earlier it was sent; no content and zeros when refused.
@@ -510,21 +516,32 @@ pub fn length(side: Side, mode: u8, place: usize) -> usize {
     unsafe { call(mode, place) }
 }
 
-/// Finds whose coded bit stands in a cell of PM of the modes without P2.
-pub fn find(row: usize, column: usize) -> Found {
-    // SAFETY: only numbers cross.
-    let word = unsafe { raw::layer1_find(row, column) };
+/// A finding word of PM.
+fn found(word: u64) -> Found {
     Found {
         number: byte(word, 0),
         place: byte(word, 32),
         channel: match byte(word, 8) {
             1 => Some(Channel::P1),
             2 => Some(Channel::Pids),
+            5 => Some(Channel::P2),
             _ => None,
         },
         frame: byte(word, 16),
         bit: (word >> 40) as u32,
     }
+}
+
+/// Finds whose coded bit stands in a cell of PM of the modes without P2.
+pub fn find(row: usize, column: usize) -> Found {
+    // SAFETY: only numbers cross.
+    found(unsafe { raw::layer1_find(row, column) })
+}
+
+/// Finds whose coded bit stands in a cell of PM, in any mode.
+pub fn find_in(mode: u8, row: usize, column: usize) -> Found {
+    // SAFETY: only numbers cross.
+    found(unsafe { raw::layer1_find_in(mode, row, column) })
 }
 
 /// Gives block, row in the block, partition and column in the partition of a row and a column of PM.
@@ -543,28 +560,16 @@ pub fn place_of(row: usize, column: usize) -> Placed {
     }
 }
 
-/// Finds whose coded bit stands in a cell of PX1 (channel 3) or PX2 (channel 4) of the L1 frame that a state comes before. In MP5 and MP6 it
-/// knows no channel.
-pub fn find_px(state: State, channel: u8, pair: usize, row: usize, column: usize) -> FoundPx {
-    // SAFETY: only numbers cross.
-    let word = unsafe {
-        raw::layer1_find_px(
-            state.mode,
-            state.half,
-            state.age,
-            state.reserved,
-            channel,
-            pair,
-            row,
-            column,
-        )
-    };
+/// A finding word of PX1 or PX2.
+fn found_px(word: u64) -> FoundPx {
     FoundPx {
         number: byte(word, 0),
         place: byte(word, 32),
         content: match byte(word, 8) {
             1 => Some(Content::Coded),
             2 => Some(Content::Fill),
+            3 => Some(Content::Second),
+            4 => Some(Content::DelayZeros),
             _ => None,
         },
         before: byte(word, 24),
@@ -573,11 +578,35 @@ pub fn find_px(state: State, channel: u8, pair: usize, row: usize, column: usize
     }
 }
 
-/// Tells into which cell of PM a coded bit of P1 (channel 1) or PIDS (channel 2) goes, of a transfer frame of an L1 frame, in the modes without
-/// P2.
-pub fn locate(channel: u8, frame: usize, bit: usize) -> Located {
+/// Finds whose coded bit stands in a cell of PX1 (channel 3) or PX2 (channel 4) of the L1 frame that a state comes before. In MP5 and MP6 it
+/// knows no channel.
+pub fn find_px(state: State, channel: u8, pair: usize, row: usize, column: usize) -> FoundPx {
+    let State {
+        mode,
+        half,
+        age,
+        reserved,
+    } = state;
     // SAFETY: only numbers cross.
-    let word = unsafe { raw::layer1_locate(channel, frame, bit) };
+    found_px(unsafe { raw::layer1_find_px(mode, half, age, reserved, channel, pair, row, column) })
+}
+
+/// Finds the same in any mode. In MP5 and MP6 PX2 has the coded bits of P1' of the L1 frame three earlier, or the delay's zeros.
+pub fn find_px_in(state: State, channel: u8, pair: usize, row: usize, column: usize) -> FoundPx {
+    let State {
+        mode,
+        half,
+        age,
+        reserved,
+    } = state;
+    // SAFETY: only numbers cross.
+    found_px(unsafe {
+        raw::layer1_find_px_in(mode, half, age, reserved, channel, pair, row, column)
+    })
+}
+
+/// A position word of a locator.
+fn located(word: u64) -> Located {
     let position = Position {
         block: byte(word, 8),
         row: byte(word, 16),
@@ -593,21 +622,21 @@ pub fn locate(channel: u8, frame: usize, bit: usize) -> Located {
     }
 }
 
-/// Tells into which cell of PX1 (channel 3) or PX2 (channel 4) a coded bit of P3 or P4 goes, of a transfer frame of the L1 frame that a state
-/// comes before. In MP5 and MP6 it knows no channel.
-pub fn locate_px(state: State, channel: u8, frame: usize, bit: usize) -> LocatedPx {
+/// Tells into which cell of PM a coded bit of P1 (channel 1) or PIDS (channel 2) goes, of a transfer frame of an L1 frame, in the modes without
+/// P2.
+pub fn locate(channel: u8, frame: usize, bit: usize) -> Located {
     // SAFETY: only numbers cross.
-    let word = unsafe {
-        raw::layer1_locate_px(
-            state.mode,
-            state.half,
-            state.age,
-            state.reserved,
-            channel,
-            frame,
-            bit,
-        )
-    };
+    located(unsafe { raw::layer1_locate(channel, frame, bit) })
+}
+
+/// Tells the same in any mode, in MP5 and MP6 of P1's frames 0 to 7 and of P2 (channel 5) too.
+pub fn locate_in(mode: u8, channel: u8, frame: usize, bit: usize) -> Located {
+    // SAFETY: only numbers cross.
+    located(unsafe { raw::layer1_locate_in(mode, channel, frame, bit) })
+}
+
+/// A cell word of a locator.
+fn located_px(word: u64) -> LocatedPx {
     LocatedPx {
         number: byte(word, 0),
         place: byte(word, 32),
@@ -616,6 +645,31 @@ pub fn locate_px(state: State, channel: u8, frame: usize, bit: usize) -> Located
         row: byte(word, 16),
         column: (word >> 40) as u32,
     }
+}
+
+/// Tells into which cell of PX1 (channel 3) or PX2 (channel 4) a coded bit of P3 or P4 goes, of a transfer frame of the L1 frame that a state
+/// comes before. In MP5 and MP6 it knows no channel.
+pub fn locate_px(state: State, channel: u8, frame: usize, bit: usize) -> LocatedPx {
+    let State {
+        mode,
+        half,
+        age,
+        reserved,
+    } = state;
+    // SAFETY: only numbers cross.
+    located_px(unsafe { raw::layer1_locate_px(mode, half, age, reserved, channel, frame, bit) })
+}
+
+/// Tells the same in any mode, of P3 in MP5 and of P1' (channel 6) in MP5 and MP6 too.
+pub fn locate_px_in(state: State, channel: u8, frame: usize, bit: usize) -> LocatedPx {
+    let State {
+        mode,
+        half,
+        age,
+        reserved,
+    } = state;
+    // SAFETY: only numbers cross.
+    located_px(unsafe { raw::layer1_locate_px_in(mode, half, age, reserved, channel, frame, bit) })
 }
 
 /// The working of a coded bit of P1 (channel 1), PIDS (2), P3 (3) or P4 (4), of a transfer frame of the L1 frame that a state comes before, from

@@ -121,6 +121,27 @@ extern "C" {
         frame: usize,
         bit: usize,
     ) -> u64;
+    pub fn layer1_find_in(mode: u8, row: usize, column: usize) -> u64;
+    pub fn layer1_locate_in(mode: u8, channel: u8, frame: usize, bit: usize) -> u64;
+    pub fn layer1_find_px_in(
+        mode: u8,
+        half: u8,
+        age: u8,
+        last: u8,
+        channel: u8,
+        pair: usize,
+        row: usize,
+        column: usize,
+    ) -> u64;
+    pub fn layer1_locate_px_in(
+        mode: u8,
+        half: u8,
+        age: u8,
+        last: u8,
+        channel: u8,
+        frame: usize,
+        bit: usize,
+    ) -> u64;
     pub fn layer1_working(
         mode: u8,
         half: u8,

@@ -172,8 +172,9 @@ static size_t call_of_run(const char *name, const uint64_t *n, uint64_t *out)
 static size_t located(const char *name, const uint64_t *n, uint64_t *out)
 {
     size_t fields = 0;
-    if (strcmp(name, "locate") == 0) {
-        uint64_t word = layer1_locate((uint8_t)n[0], (size_t)n[1], (size_t)n[2]);
+    if (strcmp(name, "locate") == 0 || strcmp(name, "locate_in") == 0) {
+        uint64_t word = name[6] == '\0' ? layer1_locate((uint8_t)n[0], (size_t)n[1], (size_t)n[2])
+                                        : layer1_locate_in((uint8_t)n[0], (uint8_t)n[1], (size_t)n[2], (size_t)n[3]);
         out[fields++] = layer1_number(word);
         out[fields++] = layer1_placed_place(word);
         out[fields++] = layer1_placed_block(word);
@@ -182,8 +183,9 @@ static size_t located(const char *name, const uint64_t *n, uint64_t *out)
         out[fields++] = layer1_placed_column(word);
         out[fields++] = layer1_located_row(word);
         out[fields++] = layer1_located_column(word);
-    } else if (strcmp(name, "locate_px") == 0) {
-        uint64_t word = layer1_locate_px(STATE(n), (uint8_t)n[4], (size_t)n[5], (size_t)n[6]);
+    } else if (strcmp(name, "locate_px") == 0 || strcmp(name, "locate_px_in") == 0) {
+        uint64_t word = name[9] == '\0' ? layer1_locate_px(STATE(n), (uint8_t)n[4], (size_t)n[5], (size_t)n[6])
+                                        : layer1_locate_px_in(STATE(n), (uint8_t)n[4], (size_t)n[5], (size_t)n[6]);
         out[fields++] = layer1_number(word);
         out[fields++] = layer1_located_px_place(word);
         out[fields++] = layer1_located_px_later(word);
@@ -224,8 +226,8 @@ static size_t worked(const uint64_t *n, uint64_t *out)
 static size_t question(const char *name, const uint64_t *n, uint64_t *out)
 {
     size_t fields = 0;
-    if (strcmp(name, "find") == 0) {
-        uint64_t word = layer1_find((size_t)n[0], (size_t)n[1]);
+    if (strcmp(name, "find") == 0 || strcmp(name, "find_in") == 0) {
+        uint64_t word = name[4] == '\0' ? layer1_find((size_t)n[0], (size_t)n[1]) : layer1_find_in((uint8_t)n[0], (size_t)n[1], (size_t)n[2]);
         out[fields++] = layer1_number(word);
         out[fields++] = layer1_found_channel(word);
         out[fields++] = layer1_found_frame(word);
@@ -239,8 +241,9 @@ static size_t question(const char *name, const uint64_t *n, uint64_t *out)
         out[fields++] = layer1_placed_partition(word);
         out[fields++] = layer1_placed_place(word);
         out[fields++] = layer1_placed_column(word);
-    } else if (strcmp(name, "find_px") == 0) {
-        uint64_t word = layer1_find_px(STATE(n), (uint8_t)n[4], (size_t)n[5], (size_t)n[6], (size_t)n[7]);
+    } else if (strcmp(name, "find_px") == 0 || strcmp(name, "find_px_in") == 0) {
+        uint64_t word = name[7] == '\0' ? layer1_find_px(STATE(n), (uint8_t)n[4], (size_t)n[5], (size_t)n[6], (size_t)n[7])
+                                        : layer1_find_px_in(STATE(n), (uint8_t)n[4], (size_t)n[5], (size_t)n[6], (size_t)n[7]);
         out[fields++] = layer1_number(word);
         out[fields++] = layer1_found_content(word);
         out[fields++] = layer1_found_frame(word);

@@ -91,6 +91,7 @@ fn cells_of_pm_and_back() {
         let channel = match found.channel.unwrap() {
             Channel::P1 => 1,
             Channel::Pids => 2,
+            Channel::P2 => 5,
         };
         let there = layer1::locate(channel, found.frame.into(), found.bit as usize);
         assert_eq!((there.row.into(), there.column.into()), (row, column));

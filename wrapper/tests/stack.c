@@ -38,6 +38,10 @@ static void find(void)
     layer1_locate(1, 0, 365439);
     layer1_locate(2, 15, 199);
     layer1_locate_px(11, 1, 2, RESERVED, 4, 7, 9215);
+    layer1_find_in(5, 511, 719);
+    layer1_find_px_in(6, 1, 3, RESERVED, 4, 7, 63, 287);
+    layer1_locate_in(6, 5, 0, 181119);
+    layer1_locate_px_in(6, 1, 3, RESERVED, 6, 7, 18431);
     layer1_lookup(buffer[LAYER1_CONTROL], 256);
     layer1_lookup_frame(buffer[LAYER1_CONTROL], 4096);
 }

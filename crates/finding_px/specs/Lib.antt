@@ -1,0 +1,4 @@
+pub mod Second
+pub mod Finder
+pub mod Locator
+pub mod InRuns
