@@ -26,10 +26,6 @@ entry kind p n =
 unfoldable pub spot : (kind n : ℕ) → ℕ
 spot kind n = 11 * n % 1152 / 36 * (36 * partitions kind) + 11 * n % 1152 % 36
 
--- the table that the code makes of them
-abbrev pub Spots : (kind : ℕ) → List ℕ → Type 0
-Spots kind at = (n : ℕ) → n < 1152 → getD at n 0 ≡ spot kind n
-
 -- 10.2.6.1: the partition of the step u of a byte, and how far on its counter is; the tables of the eight steps
 unfoldable pub partOf : (kind u : ℕ) → ℕ
 partOf kind u = (u + 2 * (runs kind / 4)) % 8 / runs kind

@@ -11,7 +11,7 @@ ghost use Rattle.interleaving.specs.PX.{partitions as «partitions-of», runs a
 ghost use Rattle.interleaving.specs.PX.{blocks as «blocks-of», columns as «columns-of»};
 ghost use Rattle.interleaving.specs.PX.{place as «place-of», stepOf, after, read, later as «later-of», isFill, firstFill};
 ghost use Rattle.interleaving.specs.FinderPX.{source as «source-of»};
-ghost use Rattle.px.specs.Entries.{entry as «entry-of», Spots, Parts, Counts, Delays, Origins};
+ghost use Rattle.px.specs.Entries.{entry as «entry-of», spot as «spot-of», Parts, Counts, Delays, Origins};
 ghost use Rattle.px.specs.Entries.{ahead as «ahead-of», near4 as «near4-of», Nears, nearMask, seenBit, seenMask, mixed, Status};
 ghost use lib.Bits.{bitAnd};
 
@@ -165,30 +165,25 @@ fn block(kind: usize) -> usize
     32 * C[1] * J[1]
 }
 
-// 10.2.6.3 and 10.2.6.4: where the 1152 entries of a turn stand in their block, from the partition's first cell.
-fn spots(kind: usize) -> [u16; 1152]
-    requires { ⌜ kind < 2 ⌝ }
-    ensures { λ r. ⌜ Spots kind r ⌝ }
+// 10.2.6.3 and 10.2.6.4: where the entry n of a turn stands in its block, from the partition's first cell.
+fn spot(kind: usize, n: usize) -> usize
+    requires { ⌜ (kind < 2) × (n < 1152) ⌝ }
+    ensures { λ r. ⌜ (r ≡ «spot-of» kind n) × (r < 4608) ⌝ }
 {
-    let mut at = [0u16; 1152];
     let c = columns(kind);
     let width = c * partitions(kind);
-    let mut n = 0;
-    while n < 1152 {
-        let y = 11 * n % 1152;
-        at[n] = (y / c * width + y % c) as u16;
-        n += 1;
-    }
-    at
+    let y = 11 * n % 1152;
+    y / c * width + y % c
 }
 
 // 10.2.6.2 to 10.2.6.4: the cell of the entry n of a turn of the partition p.
-fn entry(kind: usize, at: &[u16; 1152], p: usize, turn: usize, n: usize) -> usize
-    requires { ⌜ (kind < 2) × (p < 4) × (turn < 32) × (n < 1152) × Spots kind (now at) ⌝ }
+fn entry(kind: usize, p: usize, turn: usize, n: usize) -> usize
+    requires { ⌜ (kind < 2) × (p < 4) × (turn < 32) × (n < 1152) ⌝ }
     ensures { λ r. ⌜ r ≡ «entry-of» kind p (1152 * turn + n) ⌝ }
 {
     let b = (turn + (n + p * 7)) % block_count(kind);
-    b * block(kind) + (at[n] as usize + columns(kind) * p)
+    let at = spot(kind, n);
+    b * block(kind) + (at + columns(kind) * p)
 }
 
 // 10.2.6.1: the partitions of the eight steps of a byte, the same for every byte.
@@ -225,17 +220,16 @@ fn counts(kind: usize) -> [usize; 8]
 // 10.2.6: the cell that the step u of a byte writes; n is the byte's first entry in its turn.
 fn cell_in_byte(
     kind: usize,
-    at: &[u16; 1152],
     parts: &[usize; 8],
     counts: &[usize; 8],
     turn: usize,
     n: usize,
     u: usize,
 ) -> usize
-    requires { ⌜ (kind < 2) × (turn < 32) × (n + «runs-of» kind ≤ 1152) × (u < 8) × Spots kind (now at) × Parts kind (now parts) × Counts kind (now counts) ⌝ }
+    requires { ⌜ (kind < 2) × (turn < 32) × (n + «runs-of» kind ≤ 1152) × (u < 8) × Parts kind (now parts) × Counts kind (now counts) ⌝ }
     ensures { λ r. ⌜ ((q : ℕ) → 1152 * turn + n ≡ q * «runs-of» kind → r ≡ «place-of» kind (8 * q + u)) ⌝ }
 {
-    entry(kind, at, parts[u], turn, n + counts[u])
+    entry(kind, parts[u], turn, n + counts[u])
 }
 
 // The remainder of s by n, of two rounds at most.
@@ -496,14 +490,8 @@ fn later(n: usize, i: usize, c: usize, j: usize) -> usize
 }
 
 // Where the eight bits of the byte g of the first turn stand in the three matrices. The bits of a later turn stand as many blocks on, in either L1 frame.
-fn delays(
-    kind: usize,
-    at: &[u16; 1152],
-    parts: &[usize; 8],
-    counts: &[usize; 8],
-    g: usize,
-) -> [usize; 8]
-    requires { ⌜ (kind < 2) × (g < 144 * «partitions-of» kind) × Spots kind (now at) × Parts kind (now parts) × Counts kind (now counts) ⌝ }
+fn delays(kind: usize, parts: &[usize; 8], counts: &[usize; 8], g: usize) -> [usize; 8]
+    requires { ⌜ (kind < 2) × (g < 144 * «partitions-of» kind) × Parts kind (now parts) × Counts kind (now counts) ⌝ }
     ensures { λ r. ⌜ Delays kind g r ⌝ }
 {
     let mut delays = [0usize; 8];
@@ -511,7 +499,7 @@ fn delays(
     let e = g * runs(kind);
     let mut u = 0;
     while u < 8 {
-        let c = cell_in_byte(kind, at, parts, counts, 0, e, u);
+        let c = cell_in_byte(kind, parts, counts, 0, e, u);
         delays[u] = later(n, 8 * g + u, c, 8 * g + u);
         u += 1;
     }
@@ -566,13 +554,12 @@ pub fn gather(kind: usize, half: usize, three: &[u8], coded: &mut [u8])
     requires { ⌜ (kind < 2) × (half < 2) × (length (now three) ≡ 3 * codedBytes kind) × (length (now coded) ≡ codedBytes kind) ⌝ }
     ensures { λ _. ⌜ now (coded .exit) ≡ packed (codedBytes kind) (λ j. bitAt (now (three .entry)) («later-of» kind half j)) ⌝ }
 {
-    let at = spots(kind);
     let parts = parts(kind);
     let counts = counts(kind);
     let size = block(kind) / 8;
     let mut g = 0;
     while g < size {
-        let delays = delays(kind, &at, &parts, &counts, g);
+        let delays = delays(kind, &parts, &counts, g);
         gather_turns(kind, half, &delays, g, three, coded);
         g += 1;
     }

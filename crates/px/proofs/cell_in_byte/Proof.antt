@@ -24,17 +24,16 @@ add-entry : tie.Need-add-entry
 add-entry c =
     let a = c .before .before .args in
     let pre = c .before .before .pre in
-    omega (arith, pre .6 (a .u) (pre .3), count-lt (a .kind) (a .u) (pre .0) (pre .3))
+    omega (arith, pre .5 (a .u) (pre .3), count-lt (a .kind) (a .u) (pre .0) (pre .3))
 
 entry-requires : tie.Need-entry-requires
 entry-requires c κs =
     let a = c .before .before .args in
     let pre = c .before .before .pre in (
       pre .0,
-      omega (arith, pre .5 (a .u) (pre .3), part-few (a .kind) (a .u) (pre .0)),
+      omega (arith, pre .4 (a .u) (pre .3), part-few (a .kind) (a .u) (pre .0)),
       pre .1,
-      omega (arith, pre .6 (a .u) (pre .3), count-lt (a .kind) (a .u) (pre .0) (pre .3)),
-      pre .4,
+      omega (arith, pre .5 (a .u) (pre .3), count-lt (a .kind) (a .u) (pre .0) (pre .3)),
     )
 
 returns : tie.Need-returns
@@ -42,7 +41,7 @@ returns c = λ q q-is.
     let a = c .before .before .before .args in
     let pre = c .before .before .before .pre in
     c .entry .ensures
-    ∙ ap₂ (λ (p o : ℕ). entry (a .kind) p (1152 * a .turn + (a .n + o))) (pre .5 (a .u) (pre .3)) (pre .6 (a .u) (pre .3))
+    ∙ ap₂ (λ (p o : ℕ). entry (a .kind) p (1152 * a .turn + (a .n + o))) (pre .4 (a .u) (pre .3)) (pre .5 (a .u) (pre .3))
     ∙ byte-cell (a .kind) (a .turn) (a .n) (a .u) q (pre .0) q-is
 
 pub cell-in-byte-spec : {M : Type 1} → statement M

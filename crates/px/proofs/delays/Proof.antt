@@ -13,10 +13,10 @@ use Rattle.px.proofs.delays.Statement.{statement}
 use Rattle.px.proofs.delays.Tie as tie
 
 abbrev Inv-loop : tie.InvT-loop
-Inv-loop kind at parts counts g delays₀ n e u₀ delays u = (u ≤ 8) × (length delays ≡ 8) × ((s : ℕ) → s < u → getD delays s 0 ≡ later kind 0 (8 * g + s))
+Inv-loop kind parts counts g delays₀ n e u₀ delays u = (u ≤ 8) × (length delays ≡ 8) × ((s : ℕ) → s < u → getD delays s 0 ≡ later kind 0 (8 * g + s))
 
 abbrev μ-loop : tie.MeasureT-loop
-μ-loop kind at parts counts g delays₀ n e u₀ delays u = 8 - u
+μ-loop kind parts counts g delays₀ n e u₀ delays u = 8 - u
 
 coded-bits-requires : tie.Need-coded-bits-requires Inv-loop μ-loop
 coded-bits-requires c κs = search needs
@@ -41,7 +41,7 @@ cell-in-byte-requires c κs =
     let a = c .before .before .before .before .args in
     let pre = c .before .before .before .before .pre in
     let e = c .before .before .runs .ensures .0 in
-    (pre .0, omega arith, rw e (in-entries (a .kind) (a .g) (pre .0) (pre .1) .0), c .loop-test .taken, pre .2, pre .3, pre .4)
+    (pre .0, omega arith, rw e (in-entries (a .kind) (a .g) (pre .0) (pre .1) .0), c .loop-test .taken, pre .2, pre .3)
 
 mul-later : tie.Need-mul-later Inv-loop μ-loop
 mul-later c = omega (arith, size-le (c .before .before .before .before .before .args .kind) (c .before .before .before .before .before .pre .0))

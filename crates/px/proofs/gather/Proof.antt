@@ -11,15 +11,12 @@ use Rattle.px.proofs.gather.Statement.{statement}
 use Rattle.px.proofs.gather.Tie as tie
 
 abbrev Inv-loop : tie.InvT-loop
-Inv-loop kind half three coded₀ at parts counts size g₀ coded g =
+Inv-loop kind half three coded₀ parts counts size g₀ coded g =
     (length coded ≡ codedBytes kind)
     × ((t h : ℕ) → t < 16 → h < g → getD coded (144 * partitions kind * t + h) 0 ≡ byteOf (λ i. bitAt three (later kind half i)) (144 * partitions kind * t + h))
 
 abbrev μ-loop : tie.MeasureT-loop
-μ-loop kind half three coded₀ at parts counts size g₀ coded g = size - g
-
-spots-requires : tie.Need-spots-requires Inv-loop μ-loop
-spots-requires c κs = search needs
+μ-loop kind half three coded₀ parts counts size g₀ coded g = size - g
 
 parts-requires : tie.Need-parts-requires Inv-loop μ-loop
 parts-requires c κs = search needs
@@ -35,13 +32,13 @@ loop-holds c = (search needs, λ t h l m. absurd (omega arith))
 
 delays-requires : tie.Need-delays-requires Inv-loop μ-loop
 delays-requires c κs =
-    let pre = c .before .before .before .before .before .before .before .before .before .before .before .pre in
-    (pre .0, omega (arith, c .before .before .before .loop-test .taken, c .before .before .before .before .before .block .ensures .0), c .before .before .before .before .before .before .before .before .spots .ensures, c .before .before .before .before .before .before .before .parts .ensures, c .before .before .before .before .before .before .counts .ensures)
+    let pre = c .before .before .before .before .before .before .before .before .before .pre in
+    (pre .0, omega (arith, c .before .before .loop-test .taken, c .before .before .before .before .block .ensures .0), c .before .before .before .before .before .before .parts .ensures, c .before .before .before .before .before .counts .ensures)
 
 gather-turns-requires : tie.Need-gather-turns-requires Inv-loop μ-loop
 gather-turns-requires c κs =
-    let pre = c .before .before .before .before .before .before .before .before .before .before .before .before .before .before .pre in
-    (pre .0, pre .1, omega (arith, c .before .before .before .before .before .before .loop-test .taken, c .before .before .before .before .before .before .before .before .block .ensures .0), c .before .before .delays .ensures, pre .2, c .before .before .before .before .before .before .before .loop .inv .0)
+    let pre = c .before .before .before .before .before .before .before .before .before .before .before .before .pre in
+    (pre .0, pre .1, omega (arith, c .before .before .before .before .before .loop-test .taken, c .before .before .before .before .before .before .before .block .ensures .0), c .before .before .delays .ensures, pre .2, c .before .before .before .before .before .before .loop .inv .0)
 
 add-g : tie.Need-add-g Inv-loop μ-loop
 add-g c = search needs
@@ -51,8 +48,8 @@ loop-less c = search needs
 
 loop-again : tie.Need-loop-again Inv-loop μ-loop
 loop-again c =
-    let a = c .before .before .before .before .before .before .before .before .before .before .before .before .before .before .before .before .before .args in
-    let loop = c .before .before .before .before .before .before .before .before .before .before .loop in
+    let a = c .before .before .before .before .before .before .before .before .before .before .before .before .before .before .before .args in
+    let loop = c .before .before .before .before .before .before .before .before .before .loop in
     let f = byteOf (λ i. bitAt (a .three .now) (later (a .kind) (a .half) i)) in
     let done = c .before .before .gather-turns in
     (search needs, residue-more (a .kind) (loop .g) f (loop .coded) (done .last .1 .1 .1 .1 .1 .0) (loop .inv .1) (done .ensures .0) (done .ensures .1))
@@ -62,8 +59,8 @@ same-length c = search needs
 
 returns : tie.Need-returns Inv-loop μ-loop
 returns c =
-    let a = c .before .before .before .before .before .before .before .before .args in
-    residues-all (a .kind) (c .before .loop .g) _ _ (c .before .before .before .before .before .before .before .before .pre .0) (c .before .loop .inv .0) (omega (arith, c .loop-test .left, c .before .before .block .ensures .0)) (c .before .loop .inv .1)
+    let a = c .before .before .before .before .before .before .before .args in
+    residues-all (a .kind) (c .before .loop .g) _ _ (c .before .before .before .before .before .before .before .pre .0) (c .before .loop .inv .0) (omega (arith, c .loop-test .left, c .before .before .block .ensures .0)) (c .before .loop .inv .1)
 
 pub gather-spec : {M : Type 1} → statement M
 gather-spec =
@@ -71,7 +68,6 @@ gather-spec =
     (tie.spec
     Inv-loop
     μ-loop
-    spots-requires
     parts-requires
     counts-requires
     block-requires
