@@ -17,7 +17,7 @@ use crate::run::{
     self, check_lengths, code_frames, Answer, Reading, Refusal, Sending, Side, State,
 };
 use crate::scrambling::scramble;
-use crate::sheet::{self, take_list, NoSheet, Sheet, GREATEST_COUNT};
+use crate::sheet::{self, take_list, Handed, NoSheet, Sheet, GREATEST_COUNT};
 use crate::vector::{self, Mapping};
 
 /// Why a command ends before its work is done.
@@ -114,7 +114,7 @@ pub fn working(
     let half = (frame % 2) as usize;
     let worked = locating::working(mode, half, channel, &frames, tframe as usize, bit as usize)
         .map_err(|refusal| Stop::Refused { refusal, frame })?;
-    Ok(writeln!(output, "{worked:?}")?)
+    Ok(writeln!(output, "{worked}")?)
 }
 
 /// Document 01, lent lengths: the next bytes of the input, fewer if it ends before.
@@ -370,27 +370,37 @@ fn send_behind(
 }
 
 /// House matter: the sheet of an input, a list and the L1 frames behind it.
-fn sheet_text(mode: u64, count: u64, without: Without, input: &[u8]) -> Result<String, Stop> {
+fn sheet_text(
+    mode: u64,
+    count: u64,
+    without: Without,
+    work: bool,
+    input: &[u8],
+) -> Result<String, Stop> {
     if ![1, 2, 3, 11].contains(&mode) {
         return Err(Stop::NoSheet(NoSheet::Mode));
     }
     let mut sender = Run::start(Side::Sender, mode)?;
-    let handed = handed_lengths(sender.mode, without)?;
+    let lengths = handed_lengths(sender.mode, without)?;
     if count > GREATEST_COUNT {
         return Err(Stop::NoSheet(NoSheet::Count));
     }
     let (list, mut frames) = take_list(input).map_err(Stop::NoSheet)?;
-    let want = count as usize * (1 + handed.iter().sum::<usize>());
+    let want = count as usize * (1 + lengths.iter().sum::<usize>());
     if frames.len() < want {
         return Err(Stop::NoSheet(NoSheet::Short(want)));
     }
     if frames.len() > want {
         return Err(Stop::NoSheet(NoSheet::Long(want)));
     }
-    let mut sheet = Sheet::new(sender.mode, count, list);
-    let mut text = sheet::head(sender.mode, count, without) + &sheet.refusals();
+    let handed = work.then_some(Handed {
+        bytes: frames,
+        lengths,
+    });
+    let mut sheet = Sheet::new(sender.mode, count, list, handed);
+    let mut text = sheet::head(sender.mode, count, without, work) + &sheet.refusals();
     for frame in 0..count {
-        let matrices = match send_next(&mut sender, handed, frame, &mut frames) {
+        let matrices = match send_next(&mut sender, lengths, frame, &mut frames) {
             Err(Stop::Refused { refusal, frame }) => {
                 return Err(Stop::NoSheet(NoSheet::Frame(frame, refusal)))
             }
@@ -409,9 +419,32 @@ pub fn sheet(
     input: &mut impl Read,
     output: &mut impl Write,
 ) -> Result<(), Stop> {
+    print_sheet(false, mode, count, without, input, output)
+}
+
+/// House matter: the same with the working of each coded bit that an answer names.
+pub fn worked_sheet(
+    mode: u64,
+    count: u64,
+    without: Without,
+    input: &mut impl Read,
+    output: &mut impl Write,
+) -> Result<(), Stop> {
+    print_sheet(true, mode, count, without, input, output)
+}
+
+/// House matter: prints a sheet, with workings or without.
+fn print_sheet(
+    work: bool,
+    mode: u64,
+    count: u64,
+    without: Without,
+    input: &mut impl Read,
+    output: &mut impl Write,
+) -> Result<(), Stop> {
     let mut bytes = Vec::new();
     input.read_to_end(&mut bytes)?;
-    match sheet_text(mode, count, without, &bytes) {
+    match sheet_text(mode, count, without, work, &bytes) {
         Ok(text) => Ok(output.write_all(text.as_bytes())?),
         Err(Stop::NoSheet(why)) => {
             writeln!(output, "{why}")?;

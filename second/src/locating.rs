@@ -2,6 +2,7 @@
 //! either way, without frames.
 
 use std::collections::HashMap;
+use std::fmt;
 use std::io::{self, BufRead, Write};
 use std::sync::OnceLock;
 
@@ -108,6 +109,20 @@ pub struct Working {
     pub k: usize,
     pub position: [usize; 4],
     pub cell: usize,
+}
+
+impl fmt::Display for Working {
+    /// House matter: a working as it stands on a sheet; the generator in octal, as Table 9-2 has it.
+    fn fmt(&self, f: &mut fmt::Formatter) -> fmt::Result {
+        let digits = |bits: [bool; 7]| bits.map(|bit| if bit { "1" } else { "0" }).join(" ");
+        let [block, row, partition, column] = self.position;
+        write!(f, "WORK BIT {} GENERATOR {:o}", self.number, self.generator)?;
+        write!(f, " FRAME {}", digits(self.bits))?;
+        write!(f, " SCRAMBLER {}", digits(self.scrambling))?;
+        write!(f, " SUM {} STEP {} K {}", self.sum, self.step, self.k)?;
+        write!(f, " BLOCK {block} PARTITION {partition}")?;
+        write!(f, " ROW {row} COLUMN {column} CELL {}", self.cell)
+    }
 }
 
 /// Section 9.3: the input bit and the generator of coded bit m, by counting what is kept.

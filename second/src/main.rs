@@ -13,7 +13,7 @@ const COMMANDS: [(&str, &str); 32] = [
     ("draw", "SEED MODE COUNT [without P3|P4|P3 P4]"),
     ("fill", "MODE COUNT [without P3|P4|P3 P4]"),
     ("send", "MODE COUNT [without P3|P4|P3 P4]"),
-    ("sheet", "MODE COUNT [without P3|P4|P3 P4]"),
+    ("sheet", "MODE COUNT [without P3|P4|P3 P4] [work]"),
     ("dump", "MODE COUNT [without P3|P4|P3 P4]"),
     ("judge", ""),
     ("draw-dumps", "SEED MODE DIRECTORY"),
@@ -53,13 +53,14 @@ fn main() -> ExitCode {
         eprintln!("usage: second {known} ...");
         return ExitCode::from(2);
     };
-    let fitting = split_without(operands, &arguments[1..])
+    let (rest, given, work) = split_work(operands, &arguments[1..]);
+    let fitting = split_without(rest, given)
         .and_then(|(operands, given, without)| Some((split(operands, given)?, without)));
     let Some(((numbers, files), without)) = fitting else {
         return misused(name, operands);
     };
     let mut output = BufWriter::new(io::stdout().lock());
-    let done = dispatch(name, &numbers, files, without, &mut output);
+    let done = dispatch(name, &numbers, files, (without, work), &mut output);
     let flushed = output.flush().map_err(Stop::Trouble);
     if let Err(Stop::Usage) = done {
         return misused(name, operands);
@@ -72,6 +73,21 @@ fn misused(name: &str, operands: &str) -> ExitCode {
     let usage = format!("usage: second {name} {operands}");
     eprintln!("{}", usage.trim_end());
     ExitCode::from(2)
+}
+
+/// House matter: takes the word that asks for workings off the end of the operands, if the usage has
+/// it.
+fn split_work<'a>(
+    operands: &'static str,
+    given: &'a [OsString],
+) -> (&'static str, &'a [OsString], bool) {
+    let Some(rest) = operands.strip_suffix(" [work]") else {
+        return (operands, given, false);
+    };
+    match given.split_last() {
+        Some((last, before)) if last == "work" => (rest, before, true),
+        _ => (rest, given, false),
+    }
 }
 
 /// Document 02, S-5: takes the channels without data off the end of the operands, if the usage has
@@ -131,7 +147,7 @@ fn dispatch(
     name: &str,
     numbers: &[u64],
     files: &[OsString],
-    without: Without,
+    (without, work): (Without, bool),
     output: &mut impl Write,
 ) -> Result<(), Stop> {
     let mut input = io::stdin().lock();
@@ -139,6 +155,9 @@ fn dispatch(
         ("draw", &[seed, mode, count]) => commands::draw(seed, mode, count, without, output),
         ("fill", &[mode, count]) => commands::fill(mode, count, without, &mut input, output),
         ("send", &[mode, count]) => commands::send(mode, count, without, &mut input, output),
+        ("sheet", &[mode, count]) if work => {
+            commands::worked_sheet(mode, count, without, &mut input, output)
+        }
         ("sheet", &[mode, count]) => commands::sheet(mode, count, without, &mut input, output),
         ("dump", &[mode, count]) => commands::dump(mode, count, without, &mut input, output),
         ("judge", _) => commands::judge(&mut input, output),

@@ -1,11 +1,11 @@
 //! The sheet: whose bit stands in each listed cell of a run's L1 frames, in which cell each listed
-//! bit of its transfer frames is sent, and the bit.
+//! bit of its transfer frames is sent, the bit, and its working where that is asked for.
 
 use std::fmt;
 
 use crate::cells::{decimal, find, Channel};
 use crate::interleaving::{PxRow, PM_COLUMNS, PM_ROWS};
-use crate::locating::{locate, NAMES};
+use crate::locating::{locate, working, NAMES};
 use crate::modes::{Extended, Mode, Without};
 use crate::packing::unpack;
 use crate::run::Refusal;
@@ -82,14 +82,43 @@ pub fn take_list(input: &[u8]) -> Result<(&[u8], &[u8]), NoSheet> {
 }
 
 /// House matter: the first line of a sheet.
-pub fn head(mode: &Mode, count: u64, without: Without) -> String {
+pub fn head(mode: &Mode, count: u64, without: Without, work: bool) -> String {
     let channels = match (without.p3, without.p4) {
         (false, false) => "",
         (true, false) => " without P3",
         (false, true) => " without P4",
         (true, true) => " without P3 P4",
     };
-    format!("MP{} {count}{channels}\n", mode.number)
+    let work = if work { " work" } else { "" };
+    format!("MP{} {count}{channels}{work}\n", mode.number)
+}
+
+/// The transfer frames of a run's L1 frames as they were handed over, for workings.
+pub struct Handed<'a> {
+    /// The L1 frames end to end, each behind its reserved number.
+    pub bytes: &'a [u8],
+    /// Of P1, PIDS, P2, P3 and P4 in an L1 frame.
+    pub lengths: [usize; 5],
+}
+
+impl Handed<'_> {
+    /// The transfer frames of a channel, by its place in NAMES, in an L1 frame.
+    fn frames(&self, frame: u64, channel: usize) -> &[u8] {
+        let place = [0, 1, 3, 4][channel];
+        let each = 1 + self.lengths.iter().sum::<usize>();
+        let before = 1 + self.lengths[..place].iter().sum::<usize>();
+        &self.bytes[frame as usize * each + before..][..self.lengths[place]]
+    }
+}
+
+/// A coded bit: of the L1 frame in which its transfer frame was handed over, by its channel's place
+/// in NAMES, its transfer frame and its number there.
+#[derive(Clone, Copy)]
+struct Coded {
+    from: u64,
+    channel: usize,
+    frame: usize,
+    bit: usize,
 }
 
 /// What a line asks for.
@@ -97,10 +126,14 @@ enum What {
     /// A cell by the place of its matrix in MATRICES and its number there, row by row, the eight
     /// matrices of PX end to end.
     Cell { matrix: usize, cell: usize },
-    /// A coded bit of P1 or PIDS by its cell of PM.
-    InPm { cell: usize },
-    /// A coded bit of P3 (0) or P4 (1) by its number among its L1 frame's.
-    InPx { px: usize, number: usize },
+    /// A coded bit of P1 or PIDS, and its cell of PM.
+    InPm { coded: Coded, cell: usize },
+    /// A coded bit of P3 (0) or P4 (1), and its number among its L1 frame's.
+    InPx {
+        coded: Coded,
+        px: usize,
+        number: usize,
+    },
 }
 
 /// A line that can be answered.
@@ -125,7 +158,7 @@ impl Asked {
             .map(|word| decimal(word))
             .collect::<Option<_>>()?;
         let what = match NAMES.iter().position(|known| *known == name) {
-            Some(channel) => bit_asked(mode, channel, &numbers)?,
+            Some(channel) => bit_asked(mode, frame, channel, &numbers)?,
             None => cell_asked(mode, name, &numbers)?,
         };
         if frame >= count {
@@ -154,20 +187,26 @@ fn cell_asked(mode: &Mode, name: &str, numbers: &[usize]) -> Option<What> {
     Some(What::Cell { matrix, cell })
 }
 
-/// A coded bit by its channel's place in NAMES, its transfer frame and its number there.
-fn bit_asked(mode: &Mode, channel: usize, numbers: &[usize]) -> Option<What> {
+/// A coded bit by its L1 frame, its channel's place in NAMES, its transfer frame and its number there.
+fn bit_asked(mode: &Mode, from: u64, channel: usize, numbers: &[usize]) -> Option<What> {
     let &[frame, bit] = numbers else {
         return None;
     };
+    let coded = Coded {
+        from,
+        channel,
+        frame,
+        bit,
+    };
     if channel < 2 {
         let cell = locate(channel as u64 + 1, frame, bit).ok()?;
-        return Some(What::InPm { cell });
+        return Some(What::InPm { coded, cell });
     }
     let px = channel - 2;
     let row = [&mode.p3, &mode.p4][px].row?;
     let inside = frame < 8 && bit < row.frame_bits;
     let number = frame * row.frame_bits + bit;
-    inside.then_some(What::InPx { px, number })
+    inside.then_some(What::InPx { coded, px, number })
 }
 
 /// Sections 10.2.2 and 10.4.2: what the numbers of a cell are below: row and column in PM; block
@@ -210,24 +249,32 @@ impl Tagged {
     }
 }
 
-/// The sheet of a run: its list, and interleaver IV of P3 and of P4.
-pub struct Sheet {
+/// The sheet of a run: its list, interleaver IV of P3 and of P4, and, where workings are asked for,
+/// the run's transfer frames.
+pub struct Sheet<'a> {
+    mode: &'a Mode,
     asked: Vec<Asked>,
     refused: Vec<usize>,
     tagged: [Option<Tagged>; 2],
+    handed: Option<Handed<'a>>,
     answered: usize,
 }
 
 /// The tags in PX1 and in PX2 of an L1 frame.
 type Tags = [Vec<Tag>; 2];
 
-impl Sheet {
+/// What is said behind a line, and the coded bit that it is about; none of the zero fill.
+type Answer = (String, Option<Coded>);
+
+impl<'a> Sheet<'a> {
     /// House matter: the sheet of a list, without its empty line.
-    pub fn new(mode: &Mode, count: u64, list: &[u8]) -> Sheet {
+    pub fn new(mode: &'a Mode, count: u64, list: &[u8], handed: Option<Handed<'a>>) -> Sheet<'a> {
         let mut sheet = Sheet {
+            mode,
             asked: Vec::new(),
             refused: Vec::new(),
             tagged: [&mode.p3, &mode.p4].map(Tagged::fresh),
+            handed,
             answered: 0,
         };
         let lines = list.split_inclusive(|&byte| byte == b'\n');
@@ -262,8 +309,8 @@ impl Sheet {
         let mut left = Vec::new();
         for asked in std::mem::take(&mut self.asked) {
             match self.answer(frame, &matrices, &tags, &asked) {
-                Some(answer) => {
-                    answers += &format!("{}{answer}", asked.line);
+                Some((answer, coded)) => {
+                    answers += &format!("{}{answer}\n{}", asked.line, self.work_line(coded));
                     self.answered += 1;
                 }
                 None => left.push(asked),
@@ -273,6 +320,19 @@ impl Sheet {
         answers
     }
 
+    /// House matter: the line of the working of a coded bit, where workings are asked for.
+    fn work_line(&self, coded: Option<Coded>) -> String {
+        let (Some(handed), Some(coded)) = (&self.handed, coded) else {
+            return String::new();
+        };
+        let frames = handed.frames(coded.from, coded.channel);
+        let half = (coded.from % 2) as usize;
+        let channel = coded.channel as u64 + 1;
+        let worked = working(self.mode, half, channel, frames, coded.frame, coded.bit)
+            .expect("a coded bit that the run has");
+        format!("{worked}\n")
+    }
+
     /// House matter: what is said behind a line in an L1 frame; none if it is answered in another.
     fn answer(
         &self,
@@ -280,20 +340,21 @@ impl Sheet {
         matrices: &[Vec<bool>; 4],
         tags: &Tags,
         asked: &Asked,
-    ) -> Option<String> {
+    ) -> Option<Answer> {
         let value = |matrix: usize, cell: usize| u8::from(matrices[matrix][cell]);
         match asked.what {
-            What::InPx { px, number } => {
+            What::InPx { coded, px, number } => {
                 let place = self.place(px, frame, tags, asked.frame, number)?;
                 let cell = tag_of(tags, px, asked.frame, number)?;
-                Some(format!("{place} {}\n", value(px + 1, cell)))
+                Some((format!("{place} {}", value(px + 1, cell)), Some(coded)))
             }
             _ if asked.frame != frame => None,
-            What::InPm { cell } => {
+            What::InPm { coded, cell } => {
                 let (row, column) = (cell / PM_COLUMNS, cell % PM_COLUMNS);
-                Some(format!(" PM {frame} {row} {column} {}\n", value(0, cell)))
+                let answer = format!(" PM {frame} {row} {column} {}", value(0, cell));
+                Some((answer, Some(coded)))
             }
-            What::Cell { matrix: 0, cell } => Some(pm_answer(cell, value(0, cell))),
+            What::Cell { matrix: 0, cell } => Some(pm_answer(frame, cell, value(0, cell))),
             What::Cell { matrix, cell } => {
                 let value = value(matrix, cell);
                 Some(self.px_answer(matrix - 1, tags[matrix - 1][cell], value))
@@ -327,7 +388,7 @@ impl Sheet {
         let after = [count, count + 1].map(|frame| (frame, self.next_tags(frame)));
         let mut text = String::new();
         for asked in std::mem::take(&mut self.asked) {
-            let What::InPx { px, number } = asked.what else {
+            let What::InPx { coded, px, number } = asked.what else {
                 unreachable!("every other line asks for something of an L1 frame of the run")
             };
             let place =
@@ -336,32 +397,44 @@ impl Sheet {
                 .iter()
                 .find_map(place)
                 .expect("a bit is sent at most two L1 frames later");
-            text += &format!("{}{place} LATER\n", asked.line);
+            text += &format!(
+                "{}{place} LATER\n{}",
+                asked.line,
+                self.work_line(Some(coded))
+            );
             self.answered += 1;
         }
         text + &format!("END {}\n", self.answered)
     }
 
     /// Section 10.4.2: whose bit a cell of PX1 (0) or PX2 (1) shows, and the bit.
-    fn px_answer(&self, px: usize, tag: Tag, value: u8) -> String {
+    fn px_answer(&self, px: usize, tag: Tag, value: u8) -> Answer {
         let (Some(tagged), Some((from, bit))) = (&self.tagged[px], tag) else {
-            return " FILL\n".to_string();
+            return (" FILL".to_string(), None);
         };
-        let channel = ["P3", "P4"][px];
         let frame_bits = tagged.row.frame_bits;
-        let (frame, bit) = (bit / frame_bits, bit % frame_bits);
-        format!(" {channel} {from} {frame} {bit} {value}\n")
+        let coded = Coded {
+            from,
+            channel: px + 2,
+            frame: bit / frame_bits,
+            bit: bit % frame_bits,
+        };
+        let (name, Coded { frame, bit, .. }) = (NAMES[coded.channel], coded);
+        (format!(" {name} {from} {frame} {bit} {value}"), Some(coded))
     }
 }
 
 /// Section 10.4.1.1: whose bit a cell of PM shows, and the bit.
-fn pm_answer(cell: usize, value: u8) -> String {
+fn pm_answer(from: u64, cell: usize, value: u8) -> Answer {
     let found = find(cell / PM_COLUMNS, cell % PM_COLUMNS);
-    let channel = match found.channel {
-        Some(Channel::Pids) => "PIDS",
-        _ => "P1",
+    let coded = Coded {
+        from,
+        channel: usize::from(matches!(found.channel, Some(Channel::Pids))),
+        frame: found.frame,
+        bit: found.bit,
     };
-    format!(" {channel} {} {} {value}\n", found.frame, found.bit)
+    let (name, Coded { frame, bit, .. }) = (NAMES[coded.channel], coded);
+    (format!(" {name} {frame} {bit} {value}"), Some(coded))
 }
 
 /// The cell of PX1 (0) or PX2 (1) with this tag.

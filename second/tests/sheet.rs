@@ -4,7 +4,9 @@ use second::coding::Rate;
 use second::commands::{self, Stop};
 use second::modes::Without;
 use second::modes::{Mode, P1_BITS, PIDS_BITS};
+use second::packing::unpack;
 use second::run::{code_frames, Refusal};
+use second::scrambling::scramble;
 use second::sheet::NoSheet;
 
 /// The sheet: the drawn frames of a run.
@@ -286,5 +288,191 @@ fn drawn_lists() {
             list
         });
         assert!(lists[0] != lists[1]);
+    }
+}
+
+/// Workings: a number of a line, by its place among the words.
+fn number(words: &[&str], place: usize) -> usize {
+    words[place].parse().unwrap()
+}
+
+/// Workings: the coded bit that an answer names, by L1 frame, channel from 0, transfer frame and bit;
+/// none of the zero fill.
+fn named(answer: &[&str]) -> Option<[usize; 4]> {
+    let n = |place: usize| number(answer, place);
+    let channel = |place: usize| {
+        let known = ["P1", "PIDS", "P3", "P4"];
+        known.iter().position(|&name| name == answer[place])
+    };
+    match (answer[1], answer.last()) {
+        (_, Some(&"FILL")) => None,
+        ("PM", _) => Some([n(0), channel(4)?, n(5), n(6)]),
+        ("PX1" | "PX2", _) => Some([n(6), channel(5)?, n(7), n(8)]),
+        _ => Some([n(0), channel(1)?, n(2), n(3)]),
+    }
+}
+
+/// Sections 8.2 and 9.3: bit, generator, frame bits, scrambling bits and sum of coded bit m of a
+/// transfer frame, by the scrambling sequence.
+fn summed(frame: &[bool], sequence: &[bool], two_fifths: bool, m: usize) -> String {
+    let (j, generator) = match two_fifths {
+        true => (
+            2 * (m / 5) + m % 5 / 3,
+            [0o133, 0o171, 0o165, 0o133, 0o171][m % 5],
+        ),
+        false => (m / 2, [0o133, 0o165][m % 2]),
+    };
+    let back = |bits: &[bool]| -> Vec<u32> {
+        let at = |d: usize| u32::from(bits[(j + frame.len() - d) % frame.len()]);
+        (0..7).map(at).collect()
+    };
+    let (bits, added) = (back(frame), back(sequence));
+    let taken = (0..7).filter(|d| generator & (64 >> d) != 0);
+    let sum: u32 = taken.map(|d: usize| bits[d] + added[d]).sum();
+    let digits = |bits: Vec<u32>| bits.iter().map(|bit| format!(" {bit}")).collect::<String>();
+    format!(
+        "WORK BIT {j} GENERATOR {generator:o} FRAME{} SCRAMBLER{} SUM {sum}",
+        digits(bits),
+        digits(added)
+    )
+}
+
+/// Section 10.2: the place of a working is the cell of its answer; of P3 and P4, whose place is in
+/// the internal matrix, the cell that the way back looks at.
+fn placed(mode: &Mode, answer: &[&str], coded: [usize; 4], working: &[&str]) {
+    let [from, channel, frame, bit] = coded;
+    let n = |place: usize| number(working, place);
+    let (step, cell) = (n(24), n(36));
+    let (line, column) = (32 * n(28) + n(32), 36 * n(30) + n(34));
+    let asked = number(answer, if answer[1].starts_with("PX") { 0 } else { 5 });
+    let Some(row) = [None, None, mode.p3.row, mode.p4.row][channel] else {
+        let at = if answer[1] == "PM" { 2 } else { 6 };
+        assert_eq!(
+            [line, column],
+            [number(answer, at), number(answer, at + 1)],
+            "{answer:?}"
+        );
+        assert_eq!(cell, 720 * line + column);
+        assert_eq!(step, [bit, 200 * frame + bit][channel]);
+        return;
+    };
+    let coded_bit = row.frame_bits * frame + bit;
+    assert_eq!(step, from % 2 * row.half_bits() + coded_bit, "{answer:?}");
+    assert_eq!(cell, row.width() * line + column);
+    let (later, shown) = row.shown()[from % 2][coded_bit];
+    assert_eq!(asked, from + later, "{answer:?}");
+    assert_eq!(
+        cell,
+        (from + later) % 2 * row.half_bits() + shown,
+        "{answer:?}"
+    );
+}
+
+/// Workings: the lines of a drawn sheet, of which nothing but head and workings is new, and the
+/// frames that are meant.
+fn worked(mode: u64, without: Without, name: &str) -> (Vec<String>, Vec<u8>) {
+    let mut input = Vec::new();
+    commands::draw_cells(mode, mode, 5, &mut input).unwrap();
+    let list = input.len();
+    commands::draw(mode, mode, 5, without, &mut input).unwrap();
+    let mut meant = Vec::new();
+    commands::fill(mode, 5, without, &mut &input[list..], &mut meant).unwrap();
+    let (mut plain, mut worked) = (Vec::new(), Vec::new());
+    commands::sheet(mode, 5, without, &mut &input[..], &mut plain).unwrap();
+    commands::worked_sheet(mode, 5, without, &mut &input[..], &mut worked).unwrap();
+    let worked = String::from_utf8(worked).unwrap();
+    let lines: Vec<String> = worked.lines().map(str::to_string).collect();
+    assert_eq!(lines[0], format!("MP{mode} 5{name} work"));
+    let kept = lines[1..].iter().filter(|line| !line.starts_with("WORK"));
+    let kept: String = kept.map(|line| format!("{line}\n")).collect();
+    let head = format!("MP{mode} 5{name}\n");
+    assert_eq!(head + &kept, String::from_utf8(plain).unwrap());
+    (lines, meant)
+}
+
+/// Workings: the transfer frame of a coded bit.
+fn transfer_frame(mode: &Mode, frames: &[u8], [from, channel, frame, _]: [usize; 4]) -> Vec<bool> {
+    let [p1, pids, _, p3, p4] = mode.frame_lengths();
+    let lengths = [p1, pids, p3, p4];
+    let each = 1 + lengths.iter().sum::<usize>();
+    let first = from * each + 1 + lengths[..channel].iter().sum::<usize>();
+    let size = lengths[channel] / [1, 16, 8, 8][channel];
+    unpack(&frames[first + frame * size..][..size])
+}
+
+/// Workings: behind each answer but FILL stands the line of the coded bit that it names, worked out
+/// here from the frames that are meant.
+#[test]
+fn workings() {
+    let of = |p3, p4| Without { p3, p4 };
+    let sequence = scramble(&[false; P1_BITS]);
+    for (mode, without, name) in [
+        (1, of(false, false), ""),
+        (2, of(false, false), ""),
+        (2, of(true, false), " without P3"),
+        (3, of(false, false), ""),
+        (11, of(false, false), ""),
+        (11, of(true, false), " without P3"),
+        (11, of(false, true), " without P4"),
+        (11, of(true, true), " without P3 P4"),
+    ] {
+        let (lines, meant) = worked(mode, without, name);
+        let mode = Mode::of_number(mode).unwrap();
+        for pair in lines[1..].windows(2) {
+            let [answer, working] = [0, 1].map(|n| pair[n].split(' ').collect::<Vec<&str>>());
+            if ["REFUSED", "WORK", "END"].contains(&answer[0]) {
+                continue;
+            }
+            let coded = named(&answer);
+            assert_eq!(coded.is_some(), working[0] == "WORK", "{pair:?}");
+            let Some(coded) = coded else {
+                continue;
+            };
+            let bits = transfer_frame(mode, &meant, coded);
+            let wanted = summed(&bits, &sequence, coded[1] < 2, coded[3]);
+            assert_eq!(working[..23].join(" "), wanted, "{pair:?}");
+            let value = ["0", "1"][number(&working, 22) % 2];
+            let last = answer[answer.len() - 1];
+            assert!(last == value || last == "LATER", "{pair:?}");
+            placed(mode, &answer, coded, &working);
+        }
+    }
+}
+
+/// Sections 8.2 and 9.3 by hand: bit 6 of a P1 frame that begins 1011 0100, and the first seven
+/// scrambling bits 0, 1, 1, 0, 0, 1, 1. Generator 133, 1011011 in binary, takes two ones of each.
+#[test]
+fn a_working_by_hand() {
+    let mut frames = vec![0; 1 + 18_272 + 160];
+    frames[1] = 0b1011_0100;
+    let input = [&b"0 P1 0 15\n\n"[..], &frames].concat();
+    let mut output = Vec::new();
+    commands::worked_sheet(1, 1, Without::default(), &mut &input[..], &mut output).unwrap();
+    let output = String::from_utf8(output).unwrap();
+    let lines: Vec<&str> = output.lines().collect();
+    assert_eq!(lines.len(), 4);
+    assert!(lines[1].starts_with("0 P1 0 15 PM 0 ") && lines[1].ends_with(" 0"));
+    let working =
+        "WORK BIT 6 GENERATOR 133 FRAME 0 1 0 1 1 0 1 SCRAMBLER 1 1 0 0 1 1 0 SUM 4 STEP 15 K ";
+    assert!(lines[2].starts_with(working), "{}", lines[2]);
+    assert_eq!((lines[0], lines[3]), ("MP1 1 work", "END 1"));
+}
+
+/// Workings: where there is no sheet, the same line is printed; an empty one has its head.
+#[test]
+fn no_sheet_with_workings() {
+    let none = Without::default();
+    for (mode, count, input, text) in [
+        (5, 1, &b"\n"[..], "NO SHEET MODE\n"),
+        (1, 65, b"\n", "NO SHEET COUNT\n"),
+        (1, 0, b"", "NO SHEET LIST\n"),
+        (1, 1, b"\n", "NO SHEET SHORT 18433\n"),
+        (11, 0, b"\n", "MP11 0 work\nEND 0\n"),
+        (3, 0, b"0 PM 0 0\n\n", "MP3 0 work\nREFUSED 1\nEND 0\n"),
+    ] {
+        let mut output = Vec::new();
+        let ended = commands::worked_sheet(mode, count, none, &mut &input[..], &mut output);
+        assert_eq!(String::from_utf8(output).unwrap(), text);
+        assert_eq!(ended.is_ok(), text.starts_with("MP"));
     }
 }
