@@ -24,15 +24,7 @@ fn agree(mode: u8, count: u64, without: Without, work: bool, input: &[u8]) -> St
         commands::sheet(mode.into(), count, without, &mut &input[..], &mut theirs)
     };
     let mut ours = vec![0xA5; SHEET_ROOM];
-    let answer = sheet(
-        mode,
-        count,
-        without.p3,
-        without.p4,
-        work,
-        input,
-        &mut ours,
-    );
+    let answer = sheet(mode, count, without.p3, without.p4, work, input, &mut ours);
     assert_eq!(
         answer,
         Answer {
