@@ -49,7 +49,7 @@ uint32_t layer1_version(void);
 #define LAYER1_SEND_STACK 61440
 #define LAYER1_READ_STACK 118784
 #define LAYER1_JUDGE_STACK 212992
-#define LAYER1_SHEET_STACK 159744
+#define LAYER1_SHEET_STACK 163840
 
 /* The places of the buffers of a sending or a reading. PX2 has P4's matrices in MP11, and those of P1' in MP5 and MP6. */
 enum layer1_place {
@@ -166,12 +166,13 @@ uint64_t layer1_pm_row(size_t row, const uint8_t *pm, size_t pm_len);
 uint64_t layer1_px_row(uint8_t channel, size_t row, const uint8_t *px1, size_t px1_len, const uint8_t *px2, size_t px2_len);
 
 /* The answer sheet for an input: a list of cells, an empty line, and count L1 frames, each its reserved number and its transfer frames, as
- * README.md says under "A sheet for a sitting". without_p3 and without_p4: a channel has no bytes in the L1 frames (0: it has). Writes the text
- * to out, or the one line, NO SHEET and why, and zeros behind it, so that it is a C string. out has at least LAYER1_SHEET_ROOM bytes; a shorter
- * one is refused under 3 at place 1, and nothing is written. Returns an answer word. Text of any kind is a success. */
+ * README.md says under "A sheet for a sitting". without_p3 and without_p4: a channel has no bytes in the L1 frames (0: it has). work: below each
+ * answer that names a coded bit stands the line of its working (0: none does). Writes the text to out, or the one line, NO SHEET and why, and
+ * zeros behind it, so that it is a C string. out has at least LAYER1_SHEET_ROOM bytes; a shorter one is refused under 3 at place 1, and nothing
+ * is written. Returns an answer word. Text of any kind is a success. */
 #define LAYER1_SHEET_ROOM 1200000
-uint64_t layer1_sheet(uint8_t mode, uint64_t count, uint8_t without_p3, uint8_t without_p4, const uint8_t *input, size_t input_len, uint8_t *out,
-                      size_t out_len);
+uint64_t layer1_sheet(uint8_t mode, uint64_t count, uint8_t without_p3, uint8_t without_p4, uint8_t work, const uint8_t *input, size_t input_len,
+                      uint8_t *out, size_t out_len);
 
 /* Shares the sixteen PIDS places of an L1 frame among eight sources (document 02, S-4). The shares, and the counts of messages waiting, are
  * words of eight bytes as layer1_eight makes them. Writes to each of the sixteen bytes of places the number of its source, or

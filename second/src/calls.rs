@@ -792,19 +792,19 @@ fn vectors(output: &mut impl Write, draw: &mut Draw, mode: &Mode) -> io::Result<
     Ok(())
 }
 
-/// The house's answer sheets: whole ones, inputs of which there is none, and room that is too little.
+/// The house's answer sheets: whole ones, with workings and without, inputs of which there is none, and room that is too little.
 fn sheets(output: &mut impl Write, seed: u64) -> Result<(), Stop> {
     let room = 1_200_000;
     let none = Without::default();
-    for (mode, count, of_mode, of_count, room) in [
-        (1, 2, 1, 2, room),
-        (11, 3, 11, 3, room + 1),
-        (2, 0, 2, 0, room),
-        (5, 1, 11, 1, room),
-        (3, 65, 3, 1, room),
-        (3, 2, 3, 1, room),
-        (3, 1, 3, 1, room - 1),
-        (3, 1, 3, 1, 0),
+    for (mode, count, of_mode, of_count, work, room) in [
+        (1, 2, 1, 2, false, room),
+        (11, 3, 11, 3, true, room + 1),
+        (2, 0, 2, 0, true, room),
+        (5, 1, 11, 1, true, room),
+        (3, 65, 3, 1, false, room),
+        (3, 2, 3, 1, false, room),
+        (3, 1, 3, 1, true, room - 1),
+        (3, 1, 3, 1, false, 0),
     ] {
         let mut input = Vec::new();
         commands::draw_cells(seed, of_mode, of_count, &mut input)?;
@@ -815,11 +815,15 @@ fn sheets(output: &mut impl Write, seed: u64) -> Result<(), Stop> {
         if room >= 1_200_000 {
             after.clear();
             // A text that says why there is no sheet is a text too.
-            let _ = commands::sheet(mode, count, none, &mut &input[..], &mut after);
+            let _ = if work {
+                commands::worked_sheet(mode, count, none, &mut &input[..], &mut after)
+            } else {
+                commands::sheet(mode, count, none, &mut &input[..], &mut after)
+            };
             after.resize(room, 0);
             returned = [0, 0];
         }
-        let numbers = [mode as usize, count as usize, 0, 0];
+        let numbers = [mode as usize, count as usize, 0, 0, work as usize];
         line(
             output,
             "sheet",
@@ -841,7 +845,7 @@ fn sheet_of_nothing(output: &mut impl Write) -> io::Result<()> {
     let _ = commands::sheet(1, 1, Without::default(), &mut &input[..], &mut after);
     after.resize(before.len(), 0);
     let (before, after) = ([&input, &before], [&input, &after]);
-    line(output, "sheet", &[1, 1, 0, 0], &before, &[0, 0], &after)
+    line(output, "sheet", &[1, 1, 0, 0, 0], &before, &[0, 0], &after)
 }
 
 /// No section: the lines of every call, drawn from a seed.

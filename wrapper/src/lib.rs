@@ -372,12 +372,14 @@ pub fn share_places(shares: [u8; 8], waiting: [u8; 8], places: &mut [u8]) -> Ans
 /// The bytes that `sheet` asks for, at least.
 pub const SHEET_ROOM: usize = 1_200_000;
 
-/// The answer sheet for an input, or the one line that says why there is none, in a buffer of at least `SHEET_ROOM` bytes; zeros follow it.
+/// The answer sheet for an input, with `work` the working below each answer, or the one line that says why there is none, in a buffer of at least
+/// `SHEET_ROOM` bytes; zeros follow it.
 pub fn sheet(
     mode: u8,
     count: u64,
     without_p3: bool,
     without_p4: bool,
+    work: bool,
     input: &[u8],
     out: &mut [u8],
 ) -> Answer {
@@ -388,6 +390,7 @@ pub fn sheet(
             count,
             without_p3.into(),
             without_p4.into(),
+            work.into(),
             input.as_ptr(),
             input.len(),
             out.as_mut_ptr(),

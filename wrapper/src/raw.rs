@@ -13,6 +13,7 @@ extern "C" {
         count: u64,
         without_p3: u8,
         without_p4: u8,
+        work: u8,
         input: *const u8,
         input_len: usize,
         out: *mut u8,

@@ -291,7 +291,7 @@ static size_t other_call(const char *name, const uint64_t *n, uint64_t *out)
     } else if (strcmp(name, "restore") == 0)
         fields = answer(layer1_restore(LENT(0), LENT(1)), out);
     else if (strcmp(name, "sheet") == 0) {
-        uint64_t word = layer1_sheet((uint8_t)n[0], n[1], (uint8_t)n[2], (uint8_t)n[3], LENT(0), LENT(1));
+        uint64_t word = layer1_sheet((uint8_t)n[0], n[1], (uint8_t)n[2], (uint8_t)n[3], (uint8_t)n[4], LENT(0), LENT(1));
         check((layer1_number(word) == 0) == (slots[1].count >= LAYER1_SHEET_ROOM), "the room of a sheet");
         fields = answer(word, out);
     } else if (strcmp(name, "judge") == 0) {

@@ -88,7 +88,7 @@ static uint8_t input[64 + COUNT * (1 + 28160)], text[LAYER1_SHEET_ROOM];
 static size_t input_len;
 static uint8_t sheet_mode;
 
-static void sheet(void) { word = layer1_sheet(sheet_mode, COUNT, 0, 0, input, input_len, text, sizeof text); }
+static void sheet(void) { word = layer1_sheet(sheet_mode, COUNT, 0, 0, 1, input, input_len, text, sizeof text); }
 
 static void asked(uint8_t mode)
 {

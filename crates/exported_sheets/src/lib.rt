@@ -18,16 +18,18 @@ pub extern "C" fn layer1_sheet(
     count: u64,
     without3: u8,
     without4: u8,
+    work: u8,
     input: &[u8],
     out: &mut [u8],
 ) -> u64
-    ensures { λ r. ⌜ sheetLeft r (now (out .exit)) ≡ sheetLeftBy (sheetCall mode count (said without3) (said without4) (now (input .entry)) (now (out .entry))) ⌝ }
+    ensures { λ r. ⌜ sheetLeft r (now (out .exit)) ≡ sheetLeftBy (sheetCall mode count (said without3) (said without4) (said work) (now (input .entry)) (now (out .entry))) ⌝ }
 {
     let sheet = layer1::sheet(
         mode,
         count,
         says_yes(without3),
         says_yes(without4),
+        says_yes(work),
         input,
         out,
     );

@@ -1,5 +1,6 @@
 mod Sequence
 pub mod Values
+pub mod Worked
 pub mod Ideal
 pub mod Apart
 pub mod Sendable

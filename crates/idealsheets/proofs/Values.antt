@@ -59,7 +59,7 @@ p4-is : (mode : ℕ) → older mode ≡ true → kindOf mode P4 ≡ kindOfNumber
 unfolding kindOf kindOfNumber
 p4-is = older-cases (λ mode. kindOf mode P4 ≡ kindOfNumber mode 4) refl refl refl refl
 
-number-is : (mode : ℕ) → older mode ≡ true → (e : Extended) → kindOf mode e ≡ kindOfNumber mode (channelNumber e)
+pub number-is : (mode : ℕ) → older mode ≡ true → (e : Extended) → kindOf mode e ≡ kindOfNumber mode (channelNumber e)
 number-is mode o P3 = p3-is mode o
 number-is mode o P4 = p4-is mode o
 
@@ -71,6 +71,24 @@ no-channel mode channel e f = rw (e, f) (go (eqb mode 5))
     go : (b : Bool) → cond b Unused Unused ≡ Unused
     go true = refl
     go false = refl
+
+-- by the channel's number
+pub by-number : (mode : ℕ) (P : ℕ → Type 0) → P 3 → P 4 → ((c : ℕ) → kindOfNumber mode c ≡ Unused → P c) → (c : ℕ) → P c
+by-number mode P p3 p4 other c = go (eqb c 3) (eqb c 4) refl refl
+  where
+    go : (x y : Bool) → eqb c 3 ≡ x → eqb c 4 ≡ y → P c
+    go true y e f = subst P (sym (eqb-true _ _ e)) p3
+    go false true e f = subst P (sym (eqb-true _ _ f)) p4
+    go false false e f = other c (no-channel mode c e f)
+
+-- PX2 is the matrices of P4
+pub px2-is : (mode : ℕ) → older mode ≡ true → (a : SenderRun mode) (t : ℕ) → t < count mode a → matrixOf mode (matricesAt mode a t) P4 ≡ matricesAt mode a t .px2
+unfolding defined
+px2-is mode o a t h =
+    let X : Matrices = matricesAt mode a t in
+    let m = matrices-at mode a t h in
+    let px2-of : X .px2 ≡ _ = ap (λ (x : Matrices). x .px2) m ∙ older-px2 mode (older-main mode o) (t % 2) (memoryBefore mode (frameAt mode a) t) (frameAt mode a t) in
+    older-p4 mode (older-main mode o) X (ap length px2-of ∙ matrix-length (kindOf mode P4) _ _ _)
 
 -- L1 frame t of the run, among whose answers an entry of a sheet of n L1 frames stands
 module _ (mode : ℕ) (o : older mode ≡ true) (a : SenderRun mode) (t : ℕ) (h : t < count mode a) (F : ℕ → Frames)
@@ -125,14 +143,6 @@ module _ (mode : ℕ) (o : older mode ≡ true) (a : SenderRun mode) (t : ℕ) (
 
   -- ---- PX
 
-  -- PX2 is the matrices of P4
-  px2-is : matrixOf mode X P4 ≡ X .px2
-  unfolding defined
-  px2-is =
-      let m = matrices-at mode a t h in
-      let px2-of : X .px2 ≡ _ = ap (λ (x : Matrices). x .px2) m ∙ older-px2 mode (older-main mode o) (t % 2) (memoryBefore mode (frameAt mode a) t) (frameAt mode a t) in
-      older-p4 mode (older-main mode o) X (ap length px2-of ∙ matrix-length (kindOf mode P4) _ _ _)
-
   -- the cell of a bit of L1 frame `from`
   abbrev Cell : (e : Extended) (from frame bit pair row column : ℕ) → Type 0
   Cell e from frame bit pair row column =
@@ -166,7 +176,7 @@ module _ (mode : ℕ) (o : older mode ≡ true) (a : SenderRun mode) (t : ℕ) (
   px2-found : (u pair row column : ℕ) (f : FoundPx) → foundPX (stateAt mode 0 u) 4 pair row column ≡ f → Right (pxEntry mode 4 u pair row column f)
   unfolding valueIn codedBit bitOf turnOf
   px2-found u pair row column (Coded k frame bit) e q =
-      ap (λ (b : List ℕ). bitAt b (cellOf (kindOfNumber mode 4) pair row column)) (sym px2-is) ∙ coded-found P4 u pair row column k frame bit (sent-here u q) e
+      ap (λ (b : List ℕ). bitAt b (cellOf (kindOfNumber mode 4) pair row column)) (sym (px2-is mode o a t h)) ∙ coded-found P4 u pair row column k frame bit (sent-here u q) e
   px2-found u pair row column found-fill e q = refl
   px2-found u pair row column (px-refused r) e q = refl
 
@@ -178,7 +188,7 @@ module _ (mode : ℕ) (o : older mode ≡ true) (a : SenderRun mode) (t : ℕ) (
   px2-located : (u frame bit : ℕ) (l : LocatedPx) → locatedPX (stateAt mode 0 u) 4 frame bit ≡ l → Right (pxPlaced mode 4 u frame bit l)
   unfolding valueIn codedBit bitOf turnOf
   px2-located u frame bit (AtPX later pair row column) e q =
-      ap (λ (b : List ℕ). bitAt b (cellOf (kindOfNumber mode 4) pair row column)) (sym px2-is)
+      ap (λ (b : List ℕ). bitAt b (cellOf (kindOfNumber mode 4) pair row column)) (sym (px2-is mode o a t h))
       ∙ coded-located P4 u frame bit later pair row column (sent-here (u + later) q) e
   px2-located u frame bit (not-located-px r) e q = refl
 
@@ -199,25 +209,16 @@ module _ (mode : ℕ) (o : older mode ≡ true) (a : SenderRun mode) (t : ℕ) (
       go true = refused-right
       go false = refused-right
 
-  -- by the channel's number
-  by-number : (P : ℕ → Type 0) → P 3 → P 4 → ((c : ℕ) → kindOfNumber mode c ≡ Unused → P c) → (c : ℕ) → P c
-  by-number P p3 p4 other c = go (eqb c 3) (eqb c 4) refl refl
-    where
-      go : (x y : Bool) → eqb c 3 ≡ x → eqb c 4 ≡ y → P c
-      go true y e f = subst P (sym (eqb-true _ _ e)) p3
-      go false true e f = subst P (sym (eqb-true _ _ f)) p4
-      go false false e f = other c (no-channel mode c e f)
-
   px-found : (u c pair row column : ℕ) → Right (pxEntry mode c u pair row column (foundPX (stateAt mode 0 u) c pair row column))
   px-found u c pair row column =
-      by-number (λ (k : ℕ). Right (pxEntry mode k u pair row column (foundPX (stateAt mode 0 u) k pair row column)))
+      by-number mode (λ (k : ℕ). Right (pxEntry mode k u pair row column (foundPX (stateAt mode 0 u) k pair row column)))
       (px1-found u pair row column (foundPX (stateAt mode 0 u) 3 pair row column) refl)
       (px2-found u pair row column (foundPX (stateAt mode 0 u) 4 pair row column) refl)
       (λ k e. other-found k u pair row column e) c
 
   px-located : (u c frame bit : ℕ) → Right (pxPlaced mode c u frame bit (locatedPX (stateAt mode 0 u) c frame bit))
   px-located u c frame bit =
-      by-number (λ (k : ℕ). Right (pxPlaced mode k u frame bit (locatedPX (stateAt mode 0 u) k frame bit)))
+      by-number mode (λ (k : ℕ). Right (pxPlaced mode k u frame bit (locatedPX (stateAt mode 0 u) k frame bit)))
       (px1-located u frame bit (locatedPX (stateAt mode 0 u) 3 frame bit) refl)
       (px2-located u frame bit (locatedPX (stateAt mode 0 u) 4 frame bit) refl)
       (λ k e. other-located k u frame bit e) c

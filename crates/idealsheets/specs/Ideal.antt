@@ -1,5 +1,5 @@
 -- The sheet that SY_IDD_1011s lays down for the transfer frames of an input: every value is a coded bit of theirs. No matrix and no run is named here.
-use Prim.Native.Nat.{ℕ, zero, suc, _+_, _*_, _<_, _≤_}
+use Prim.Native.Nat.{ℕ, zero, suc, _+_, _*_, _%_, _<_, _≤_}
 use mathlib.Core.Path.{_≡_}
 use mathlib.Core.Bool.{Bool, true, cond}
 use mathlib.Core.List.{List, [], _++_}
@@ -8,6 +8,7 @@ use lib.ListN.{length, take, drop}
 use Rattle.bits.specs.Bits.{bitAt}
 use Rattle.coding.specs.declared.Rate.the-variants.{TwoFifths}
 use Rattle.coding.specs.Channel.{channel}
+use Rattle.runs.specs.declared.Answer.the-variants.{Success}
 use Rattle.runs.specs.declared.Extended.{Extended}
 use Rattle.runs.specs.declared.Extended.the-variants.{P3, P4}
 use Rattle.runs.specs.Answers.{numberOf}
@@ -21,8 +22,10 @@ use Rattle.text.specs.Lines.{lines}
 use Rattle.sheetlines.specs.declared.entries.CodedBit.{CodedBit}
 use Rattle.sheetlines.specs.declared.entries.Entry.{Entry}
 use Rattle.sheetlines.specs.declared.entries.Entry.the-variants.{Stands, Fill, Refused}
-use Rattle.sheettext.specs.Texts.{ending, head, valued}
-use Rattle.sheettext.specs.Lists.{answered, answers, refusals}
+use Rattle.sheettext.specs.Texts.{ending, head}
+use Rattle.workings.specs.declared.Worked.{Worked}
+use Rattle.sheetworks.specs.Works.{workText}
+use Rattle.sheetlists.specs.Lists.{answered, answers, refusals, valued}
 use Rattle.sheetinputs.specs.Inputs.{behind, carried, emptyLine, frameSize, listIn, named, older}
 use Rattle.sheetinputs.specs.Run.{sent}
 use Rattle.sheets.specs.Sheet.{unsent}
@@ -49,15 +52,20 @@ codedBit mode F (Fill sent) = 0
 codedBit mode F Refused = 0
 
 -- the answers of n L1 frames from number t on
-unfoldable pub idealAnswers : (mode count : ℕ) (list : List (List ℕ)) (F : ℕ → Frames) (n t : ℕ) → List ℕ
-idealAnswers mode count list F zero t = []
-idealAnswers mode count list F (suc n) t = answers (valued count (codedBit mode F)) mode count t list ++ idealAnswers mode count list F n (suc t)
+unfoldable pub idealAnswers : (working : Entry → List ℕ) (mode count : ℕ) (list : List (List ℕ)) (F : ℕ → Frames) (n t : ℕ) → List ℕ
+idealAnswers working mode count list F zero t = []
+idealAnswers working mode count list F (suc n) t =
+    answers (valued working count (codedBit mode F)) mode count t list ++ idealAnswers working mode count list F n (suc t)
 
-unfoldable pub idealSheet : (mode count : ℕ) (without3 without4 : Bool) (input : List ℕ) → List ℕ
-idealSheet mode count without3 without4 input =
+unfoldable pub idealSheet : (mode count : ℕ) (without3 without4 work : Bool) (input : List ℕ) → List ℕ
+idealSheet mode count without3 without4 work input =
     let list = lines (listIn input) in
-    let F = framesAt mode (carried mode P3 without3) (carried mode P4 without4) (behind input) in
-    head mode count without3 without4 ++ (refusals mode count 1 list ++ (idealAnswers mode count list F count 0 ++ (unsent mode count list ++ ending (answered mode count list))))
+    let n3 = carried mode P3 without3 in
+    let n4 = carried mode P4 without4 in
+    let F = framesAt mode n3 n4 (behind input) in
+    let working = workText work mode n3 n4 (behind input) in
+    head mode count without3 without4 work
+    ++ (refusals mode count 1 list ++ (idealAnswers working mode count list F count 0 ++ (unsent working mode count list ++ ending (answered mode count list))))
 
 -- an input whose L1 frames are all sent
 pub record Sent (mode count : ℕ) (without3 without4 : Bool) (input : List ℕ) : Type 0 where
@@ -68,3 +76,7 @@ pub record Sent (mode count : ℕ) (without3 without4 : Bool) (input : List ℕ)
   pub list-ended : emptyLine true input < length input
   pub whole : length (behind input) ≡ count * frameSize mode (carried mode P3 without3) (carried mode P4 without4)
   pub each : Every (λ (c : Call). numberOf (c .result .answer) ≡ 0) (sent mode count (carried mode P3 without3) (carried mode P4 without4) (behind input))
+
+-- ---- the working below an answer: it is not refused, and its sum modulo 2 is this bit
+abbrev pub SumsTo : (bit : ℕ) → Worked → Type 0
+SumsTo bit w = (w .answer ≡ Success) × (w .sum % 2 ≡ bit)

@@ -13,7 +13,7 @@ use Rattle.text.specs.Lines.{lines}
 use Rattle.text.specs.Refused.{refused}
 use Rattle.linewise.specs.EachLine.{eachLine}
 use Rattle.linewise.specs.Going.{begun}
-use Rattle.sheettext.specs.Lists.{ownerLine}
+use Rattle.sheettext.specs.Owners.{ownerLine}
 use Rattle.ownerlines.specs.Printed.{output, printed}
 use Rattle.ownerlines.specs.Running.{heldOf}
 

@@ -7,7 +7,7 @@ use lib.ListN.{length}
 use Rattle.text.specs.Lines.{lines}
 use Rattle.text.specs.Refused.{refused}
 use Rattle.linewise.specs.EachLine.{eachLine}
-use Rattle.sheettext.specs.Lists.{ownerLine}
+use Rattle.sheettext.specs.Owners.{ownerLine}
 
 -- what is printed for a line: the answer of a sheet without the bit's value. A line of more than 4,095 bytes, which no list of a sheet has, is refused unread
 unfoldable pub printed : (mode number : ℕ) (line : List ℕ) → List ℕ

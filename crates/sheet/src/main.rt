@@ -1,5 +1,5 @@
-// sheet MODE COUNT [without P3|P4|P3 P4]: reads a cell list, an empty line and COUNT L1 frames, each its reserved number and its transfer frames, as `sender` does,
-// and prints the answer sheet, or the line that says why there is none, which goes to standard error too.
+// sheet MODE COUNT [without P3|P4|P3 P4] [work]: reads a cell list, an empty line and COUNT L1 frames, each its reserved number and its transfer frames, as `sender` does,
+// and prints the answer sheet, with `work` the working below each answer, or the line that says why there is none, which goes to standard error too.
 use libc::STDERR_FILENO;
 use libc::STDIN_FILENO;
 use programs::Arguments;
@@ -31,28 +31,42 @@ fn tell(text: &[u8]) {
 }
 
 // Writes the sheet for an input.
-fn answer(mode: u8, count: u64, without3: bool, without4: bool, input: &[u8], out: &mut [u8]) {
-    let sheet = sheets::sheet(mode, count, without3, without4, input, out);
+fn answer(
+    mode: u8,
+    count: u64,
+    without3: bool,
+    without4: bool,
+    work: bool,
+    input: &[u8],
+    out: &mut [u8],
+) {
+    let sheet = sheets::sheet(mode, count, without3, without4, work, input, out);
     let end = programs::within(sheet.length, out);
     tell(&out[..end]);
 }
 
 // Reads the input, all of it that can matter.
-fn run(mode: u8, count: u64, without3: bool, without4: bool) {
+fn run(mode: u8, count: u64, without3: bool, without4: bool, work: bool) {
     let mut input = input_room();
     let n = io::read_full(STDIN_FILENO, &mut input);
     let mut out = output_room();
-    answer(mode, count, without3, without4, &input[..n], &mut out);
+    answer(mode, count, without3, without4, work, &input[..n], &mut out);
 }
 
 fn main() {
-    let line = b"sheet MODE COUNT [without P3|P4|P3 P4]";
+    let line = b"sheet MODE COUNT [without P3|P4|P3 P4] [work]";
     if programs::gives_help(line) {
         return;
     }
+    let words = programs::words_before(b"work");
+    let work = words < os::arg_count();
     let without = programs::read_without();
-    match programs::read_arguments(without.words) {
-        Arguments::Run { mode, count } => run(mode, count, without.p3, without.p4),
+    if words != without.words {
+        programs::usage(line);
+        return;
+    }
+    match programs::read_arguments(os::arg_count()) {
+        Arguments::Run { mode, count } => run(mode, count, without.p3, without.p4, work),
         Arguments::Wrong => programs::usage(line),
     }
 }

@@ -40,7 +40,7 @@ pub enum Entry {
 }
 
 // The state before an L1 frame of a run, with the number 0: a finder's answer is the same for every number.
-fn state_before(mode: u8, frame: u64) -> State
+pub fn state_before(mode: u8, frame: u64) -> State
     ensures { λ r. ⌜ r ≡ stateAt mode 0 frame ⌝ }
 {
     let half = (frame % 2) as u8;

@@ -40,16 +40,16 @@ cleared-all text old out at i l h s e =
     let n : i - at ≡ length old - at = omega arith in
     sym (take-all i out h) ∙ e ∙ ap (λ (k : ℕ). text ++ replicate k 0) n
 
-module _ (mode count : ℕ) (without3 without4 : Bool) (input out : List ℕ) where
-  pub call-refused : length out < 1200000 → record { answer = WrongLength 1; count = 0; out = out } ≡ sheetCall mode count without3 without4 input out
+module _ (mode count : ℕ) (without3 without4 work : Bool) (input out : List ℕ) where
+  pub call-refused : length out < 1200000 → record { answer = WrongLength 1; count = 0; out = out } ≡ sheetCall mode count without3 without4 work input out
   unfolding sheetCall
   call-refused h = sym (rw (lt-ltb _ _ h))
 
-  pub call-done : 1200000 ≤ length out → {n : ℕ} {put after : List ℕ} → Begins put n (sheetOf mode count without3 without4 input) → length put ≡ length out
-      → after ≡ take n put ++ replicate (length put - n) 0 → record { answer = Success; count = n; out = after } ≡ sheetCall mode count without3 without4 input out
+  pub call-done : 1200000 ≤ length out → {n : ℕ} {put after : List ℕ} → Begins put n (sheetOf mode count without3 without4 work input) → length put ≡ length out
+      → after ≡ take n put ++ replicate (length put - n) 0 → record { answer = Success; count = n; out = after } ≡ sheetCall mode count without3 without4 work input out
   unfolding sheetCall
   call-done h {n} {put} {after} w s f =
-      let size : n ≡ length (sheetOf mode count without3 without4 input) = sym (length-take-le n put (w .within)) ∙ ap length (w .holds) in
-      let rest : length put - n ≡ length out - length (sheetOf mode count without3 without4 input) = ap₂ (λ (x y : ℕ). x - y) s size in
+      let size : n ≡ length (sheetOf mode count without3 without4 work input) = sym (length-take-le n put (w .within)) ∙ ap length (w .holds) in
+      let rest : length put - n ≡ length out - length (sheetOf mode count without3 without4 work input) = ap₂ (λ (x y : ℕ). x - y) s size in
       let whole = f ∙ ap₂ (λ (x : List ℕ) (k : ℕ). x ++ replicate k 0) (w .holds) rest in
       (λ i. record { answer = Success; count = size i; out = whole i }) ∙ sym (rw (le-ltb _ _ h))

@@ -10,8 +10,10 @@ use Rattle.runs.specs.Answers.{numberOf, onSuccess, placeOf}
 use Rattle.runs.specs.Runs.{Call}
 use Rattle.text.specs.Letters.{ascii}
 use Rattle.text.specs.Lines.{lines}
-use Rattle.sheettext.specs.Texts.{ending, head, last, valueIn, valued, word}
-use Rattle.sheettext.specs.Lists.{answered, answers, refusals}
+use Rattle.sheetlines.specs.declared.entries.Entry.{Entry}
+use Rattle.sheettext.specs.Texts.{ending, head, last, valueIn, word}
+use Rattle.sheetworks.specs.Works.{workText}
+use Rattle.sheetlists.specs.Lists.{answered, answers, refusals, valued}
 use Rattle.sheetinputs.specs.Inputs.{behind, carried, emptyLine, frameSize, listIn, named, older}
 use Rattle.sheetinputs.specs.Run.{sent}
 
@@ -44,34 +46,34 @@ unfoldable pub noFrame : ℕ → Answer → List ℕ
 noFrame t answer = ascii "NO SHEET FRAME " ++ (word t ++ (ascii "NUMBER " ++ (word (numberOf answer) ++ (ascii "PLACE " ++ last (placeOf answer)))))
 
 -- the answers that say LATER, whose cells are sent after the last L1 frame: no value is asked for
-unfoldable pub unsent : (mode count : ℕ) (list : List (List ℕ)) → List ℕ
-unsent mode count list = answers (valued count (λ e. 0)) mode count count list
+unfoldable pub unsent : (working : Entry → List ℕ) (mode count : ℕ) (list : List (List ℕ)) → List ℕ
+unsent working mode count list = answers (valued working count (λ e. 0)) mode count count list
 
--- behind the text so far, the answers from L1 frame t on, with the bits that stand in the matrices sent, those that say LATER, and the last line; an L1 frame
+-- behind the text so far, the answers from L1 frame t on, with the bits that stand in the matrices sent and the workings below, those that say LATER, and the last line; an L1 frame
 -- that is refused leaves no sheet
-unfoldable pub told : (mode count : ℕ) (list : List (List ℕ)) (t : ℕ) (text : List ℕ) → List Call → List ℕ
-told mode count list t text [] = text ++ (unsent mode count list ++ ending (answered mode count list))
-told mode count list t text (c ∷ cs) =
+unfoldable pub told : (working : Entry → List ℕ) (mode count : ℕ) (list : List (List ℕ)) (t : ℕ) (text : List ℕ) → List Call → List ℕ
+told working mode count list t text [] = text ++ (unsent working mode count list ++ ending (answered mode count list))
+told working mode count list t text (c ∷ cs) =
     onSuccess (c .result .answer)
-    (told mode count list (suc t) (text ++ answers (valued count (valueIn (c .result .lent .signal .matrices))) mode count t list) cs)
+    (told working mode count list (suc t) (text ++ answers (valued working count (valueIn (c .result .lent .signal .matrices))) mode count t list) cs)
     (noFrame t (c .result .answer))
 
 -- for a list, and the bytes behind it
-unfoldable pub sheetFor : (mode count : ℕ) (without3 without4 : Bool) (n3 n4 : ℕ) (list bytes : List ℕ) → List ℕ
-sheetFor mode count without3 without4 n3 n4 list bytes =
+unfoldable pub sheetFor : (mode count : ℕ) (without3 without4 work : Bool) (n3 n4 : ℕ) (list bytes : List ℕ) → List ℕ
+sheetFor mode count without3 without4 work n3 n4 list bytes =
     let want = count * frameSize mode n3 n4 in
     cond (ltb (length bytes) want) (noShort want)
     (cond (ltb want (length bytes)) (noLong want)
-    (told mode count (lines list) 0 (head mode count without3 without4 ++ refusals mode count 1 (lines list)) (sent mode count n3 n4 bytes)))
+    (told (workText work mode n3 n4 bytes) mode count (lines list) 0 (head mode count without3 without4 work ++ refusals mode count 1 (lines list)) (sent mode count n3 n4 bytes)))
 
 abbrev pub unless : Bool → List ℕ → List ℕ → List ℕ
 unless test refusal text = cond test text refusal
 
-unfoldable pub sheetOf : (mode count : ℕ) (without3 without4 : Bool) (input : List ℕ) → List ℕ
-sheetOf mode count without3 without4 input =
+unfoldable pub sheetOf : (mode count : ℕ) (without3 without4 work : Bool) (input : List ℕ) → List ℕ
+sheetOf mode count without3 without4 work input =
     unless (older mode) noMode
     (unless (named mode without3 without4) noWithout
     (unless (leb count 64) noCount
     (unless (ltb (emptyLine true input) 4096) noLongList
     (unless (ltb (emptyLine true input) (length input)) noList
-    (sheetFor mode count without3 without4 (carried mode P3 without3) (carried mode P4 without4) (listIn input) (behind input))))))
+    (sheetFor mode count without3 without4 work (carried mode P3 without3) (carried mode P4 without4) (listIn input) (behind input))))))

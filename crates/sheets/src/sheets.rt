@@ -26,6 +26,7 @@ fn put_sheet(
     count: u64,
     without3: bool,
     without4: bool,
+    work: bool,
     n3: usize,
     n4: usize,
     list: &[u8],
@@ -33,7 +34,7 @@ fn put_sheet(
     out: &mut [u8],
 ) -> usize
     requires { ⌜ (older mode ≡ true) × (n3 ≤ 4608) × (n4 ≤ 4608) × (count ≤ 64) × (length (now list) < 4096) × (1200000 ≤ length (now out)) ⌝ }
-    ensures { λ r. ⌜ (r ≤ length (now (out .exit))) × (take r (now (out .exit)) ≡ sheetFor mode count without3 without4 n3 n4 (now (list .entry)) (now (bytes .entry))) ⌝ }
+    ensures { λ r. ⌜ (r ≤ length (now (out .exit))) × (take r (now (out .exit)) ≡ sheetFor mode count without3 without4 work n3 n4 (now (list .entry)) (now (bytes .entry))) ⌝ }
 {
     let want = frames_size(mode, count, n3, n4);
     if bytes.len() < want {
@@ -42,9 +43,9 @@ fn put_sheet(
     if bytes.len() > want {
         return put_long(out, want);
     }
-    let m = sheettext::put_head(out, 0, mode, count, without3, without4);
-    let n = sheettext::put_refusals(out, m, mode, count, list);
-    put_run(mode, count, n3, n4, list, bytes, out, n)
+    let m = sheettext::put_head(out, 0, mode, count, without3, without4, work);
+    let n = sheetlists::put_refusals(out, m, mode, count, list);
+    put_run(mode, count, work, n3, n4, list, bytes, out, n)
 }
 
 // The same, with the bytes of P3 and P4 by the channels without data.
@@ -53,17 +54,29 @@ fn put_carried(
     count: u64,
     without3: bool,
     without4: bool,
+    work: bool,
     list: &[u8],
     bytes: &[u8],
     out: &mut [u8],
 ) -> usize
     requires { ⌜ (older mode ≡ true) × (count ≤ 64) × (length (now list) < 4096) × (1200000 ≤ length (now out)) ⌝ }
-    ensures { λ r. ⌜ (r ≤ length (now (out .exit))) × (take r (now (out .exit)) ≡ sheetFor mode count without3 without4 (carried mode P3 without3) (carried mode P4 without4) (now (list .entry)) (now (bytes .entry))) ⌝ }
+    ensures { λ r. ⌜ (r ≤ length (now (out .exit))) × (take r (now (out .exit)) ≡ sheetFor mode count without3 without4 work (carried mode P3 without3) (carried mode P4 without4) (now (list .entry)) (now (bytes .entry))) ⌝ }
 {
     let want = modes::sender_lengths(mode);
     let n3 = arguments::carried(want[3], without3);
     let n4 = arguments::carried(want[4], without4);
-    put_sheet(mode, count, without3, without4, n3, n4, list, bytes, out)
+    put_sheet(
+        mode,
+        count,
+        without3,
+        without4,
+        work,
+        n3,
+        n4,
+        list,
+        bytes,
+        out,
+    )
 }
 
 // Puts the sheet for an input whose list may be none.
@@ -72,11 +85,12 @@ fn put_input(
     count: u64,
     without3: bool,
     without4: bool,
+    work: bool,
     input: &[u8],
     out: &mut [u8],
 ) -> usize
     requires { ⌜ (older mode ≡ true) × (named mode without3 without4 ≡ true) × (count ≤ 64) × (1200000 ≤ length (now out)) ⌝ }
-    ensures { λ r. ⌜ (r ≤ length (now (out .exit))) × (take r (now (out .exit)) ≡ sheetOf mode count without3 without4 (now (input .entry))) ⌝ }
+    ensures { λ r. ⌜ (r ≤ length (now (out .exit))) × (take r (now (out .exit)) ≡ sheetOf mode count without3 without4 work (now (input .entry))) ⌝ }
 {
     let end = empty_line(input);
     if end >= 4096 {
@@ -91,6 +105,7 @@ fn put_input(
         count,
         without3,
         without4,
+        work,
         &input[..end],
         &input[from..],
         out,
@@ -103,11 +118,12 @@ fn put_any(
     count: u64,
     without3: bool,
     without4: bool,
+    work: bool,
     input: &[u8],
     out: &mut [u8],
 ) -> usize
     requires { ⌜ 1200000 ≤ length (now out) ⌝ }
-    ensures { λ r. ⌜ Begins (now (out .exit)) r (sheetOf mode count without3 without4 (now (input .entry))) ⌝ }
+    ensures { λ r. ⌜ Begins (now (out .exit)) r (sheetOf mode count without3 without4 work (now (input .entry))) ⌝ }
 {
     if !is_older(mode) {
         return put(out, 0, b"NO SHEET MODE\n");
@@ -118,7 +134,7 @@ fn put_any(
     if count > 64 {
         return put(out, 0, b"NO SHEET COUNT\n");
     }
-    put_input(mode, count, without3, without4, input, out)
+    put_input(mode, count, without3, without4, work, input, out)
 }
 
 // Writes zeros from a place on.
@@ -145,16 +161,17 @@ pub fn sheet(
     count: u64,
     without3: bool,
     without4: bool,
+    work: bool,
     input: &[u8],
     out: &mut [u8],
 ) -> Written
-    ensures { λ r. ⌜ said r (now (out .exit)) ≡ sheetCall mode count without3 without4 (now (input .entry)) (now (out .entry)) ⌝ }
+    ensures { λ r. ⌜ said r (now (out .exit)) ≡ sheetCall mode count without3 without4 work (now (input .entry)) (now (out .entry)) ⌝ }
 {
     if out.len() < 1200000 {
         let answer = Answer::WrongLength(1);
         return Written { answer, length: 0 };
     }
-    let n = put_any(mode, count, without3, without4, input, out);
+    let n = put_any(mode, count, without3, without4, work, input, out);
     clear_from(out, n);
     let answer = Answer::Success;
     Written { answer, length: n }

@@ -1,13 +1,12 @@
 -- House matter: the lines of an answer sheet, as ASCII bytes.
 use Prim.Native.Nat.{ℕ}
-use mathlib.Core.Bool.{Bool, true, false, cond, _||_}
+use mathlib.Core.Bool.{Bool, true, false, cond}
 use mathlib.Core.List.{List, [], _++_}
 use lib.Dec.{eqb, ltb}
 use Rattle.bits.specs.Bits.{bitAt}
 use Rattle.runs.specs.Lent.{Matrices}
 use Rattle.text.specs.Letters.{ascii}
 use Rattle.text.specs.Numbers.{decimal}
-use Rattle.sheetlines.specs.Entries.{entryOf, turnOf}
 use Rattle.sheetlines.specs.declared.questions.Question.{Question}
 use Rattle.sheetlines.specs.declared.questions.Question.the-variants.{Bit, Pm, Px, Wrong}
 use Rattle.sheetlines.specs.declared.entries.Cell.{Cell}
@@ -24,14 +23,15 @@ last n = decimal n ++ ascii "\n"
 
 -- the channels without data
 unfoldable pub without : (without3 without4 : Bool) → List ℕ
-without without3 without4 = cond without3 (cond without4 (ascii "without P3 P4\n") (ascii "without P3\n")) (ascii "without P4\n")
+without without3 without4 = cond without3 (cond without4 (ascii " without P3 P4") (ascii " without P3")) (cond without4 (ascii " without P4") [])
 
-unfoldable pub counted : (count : ℕ) (without3 without4 : Bool) → List ℕ
-counted count without3 without4 = cond (without3 || without4) (word count ++ without without3 without4) (last count)
+-- whether the answers have their workings
+unfoldable pub worded : (work : Bool) → List ℕ
+worded work = cond work (ascii " work\n") (ascii "\n")
 
--- the first line: the mode, how many L1 frames the sheet is of, and the channels without data
-unfoldable pub head : (mode count : ℕ) (without3 without4 : Bool) → List ℕ
-head mode count without3 without4 = ascii "MP" ++ (word mode ++ counted count without3 without4)
+-- the first line: the mode, how many L1 frames the sheet is of, the channels without data, and whether there are workings
+unfoldable pub head : (mode count : ℕ) (without3 without4 work : Bool) → List ℕ
+head mode count without3 without4 work = ascii "MP" ++ (word mode ++ (decimal count ++ (without without3 without4 ++ worded work)))
 
 -- the last line: how many answers the sheet has
 unfoldable pub ending : ℕ → List ℕ
@@ -91,9 +91,6 @@ valueText count (Stands coded cell) value = bitText (ltb (cell .sent) count) val
 valueText count (Fill sent) value = ascii "\n"
 valueText count Refused value = []
 
-abbrev pub valued : (count : ℕ) (value : Entry → ℕ) → Entry → List ℕ
-valued count value e = valueText count e (value e)
-
 -- the bit that stands in the cell, in the matrices of an L1 frame: P1 and PIDS are in PM, P3 in PX1 and P4 in PX2
 unfoldable pub valueIn : Matrices → Entry → ℕ
 valueIn x (Stands coded cell) =
@@ -101,14 +98,6 @@ valueIn x (Stands coded cell) =
     (cond (eqb (coded .channel) 3) (bitAt (x .px1) (cell .number)) (bitAt (x .px2) (cell .number)))
 valueIn x (Fill sent) = 0
 valueIn x Refused = 0
-
--- ---- answers
-
--- what is said of a question among the answers of L1 frame t, where this text stands behind the names: nothing, where it is answered in another
-unfoldable pub answer : (behind : Entry → List ℕ) (mode count t : ℕ) → Question → List ℕ
-answer behind mode count t q =
-    let e = entryOf mode count q in
-    cond (eqb (turnOf count e) t) (names q e ++ behind e) []
 
 -- whether nothing can be answered
 unfoldable pub isRefused : Entry → Bool

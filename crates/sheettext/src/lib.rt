@@ -1,11 +1,12 @@
 // The text of an answer sheet, put behind what a buffer holds: each function answers where the text ends.
 mod ends;
 mod lines;
-mod lists;
+mod owners;
 
 pub use ends::put_end;
 pub use ends::put_head;
-pub use lists::count_answers;
-pub use lists::put_answers;
-pub use lists::put_owner_line;
-pub use lists::put_refusals;
+pub use lines::is_refused;
+pub use lines::put_names;
+pub use lines::put_value;
+pub use lines::value_of;
+pub use owners::put_owner_line;

@@ -17,8 +17,9 @@ use Rattle.layout.specs.Layout.{cut}
 use Rattle.text.specs.Lines.{lines}
 use Rattle.text.specs.Put.{Put}
 use Rattle.text.proofs.Stored.{put-text}
-use Rattle.sheettext.specs.Texts.{valueIn, valued}
-use Rattle.sheettext.specs.Lists.{answers, asking}
+use Rattle.sheetlines.specs.declared.entries.Entry.{Entry}
+use Rattle.sheettext.specs.Texts.{valueIn}
+use Rattle.sheetlists.specs.Lists.{answers, asking, valued}
 use Rattle.sheetturns.specs.declared.turns.Turn.{Turn}
 use Rattle.sheetturns.specs.Turned.{Gave, Turned}
 
@@ -41,8 +42,8 @@ module _ (s : State) (m after : Memory) (f g : Frames) (pm px1 px2 : List ℕ) (
 
 -- ---- a turn
 
-module _ (g : Result) (r : Outcome) (m : Memory) (x : Matrices) (e : Gave g r m x) (mode count t : ℕ) (list old : List ℕ) (at n : ℕ) (is : n ≡ numberOf (r .answer)) where
-  pub turned-down : (n ≡ 0 → ⊥) → Turned g mode count t list old old at (record { answer = r .answer; state = r .state; end = at }) m
+module _ (g : Result) (r : Outcome) (m : Memory) (x : Matrices) (e : Gave g r m x) (working : Entry → List ℕ) (mode count t : ℕ) (list old : List ℕ) (at n : ℕ) (is : n ≡ numberOf (r .answer)) where
+  pub turned-down : (n ≡ 0 → ⊥) → Turned g working mode count t list old old at (record { answer = r .answer; state = r .state; end = at }) m
   turned-down ne =
       record {
         answer = e .answer;
@@ -52,18 +53,18 @@ module _ (g : Result) (r : Outcome) (m : Memory) (x : Matrices) (e : Gave g r m 
         text = λ z. absurd (ne (is ∙ z));
       }
 
-  pub turned-up : (new : List ℕ) (end : ℕ) → Put old new at end (200 * asking mode count t (lines list)) (answers (valued count (valueIn x)) mode count t (lines list))
-      → Turned g mode count t list old new at (record { answer = r .answer; state = r .state; end = end }) m
+  pub turned-up : (new : List ℕ) (end : ℕ) → Put old new at end (782 * asking mode count t (lines list)) (answers (valued working count (valueIn x)) mode count t (lines list))
+      → Turned g working mode count t list old new at (record { answer = r .answer; state = r .state; end = end }) m
   turned-up new end p =
       record {
         answer = e .answer;
         state = e .state;
         memory = e .memory;
         size = p .size;
-        text = λ f. put-text (ap (λ (y : Matrices). answers (valued count (valueIn y)) mode count t (lines list)) (e .matrices)) p;
+        text = λ f. put-text (ap (λ (y : Matrices). answers (valued working count (valueIn y)) mode count t (lines list)) (e .matrices)) p;
       }
 
-pub turned-as : (s : State) (m : Memory) {after : Memory} {l k : Lent} {mode count t : ℕ} {list old new : List ℕ} {at : ℕ} {r : Turn} → l ≡ k
-    → Turned (sendStep s m l) mode count t list old new at r after → Turned (sendStep s m k) mode count t list old new at r after
-turned-as s m {after} {l} {k} {mode} {count} {t} {list} {old} {new} {at} {r} e h =
-    subst (λ (j : Lent). Turned (sendStep s m j) mode count t list old new at r after) e h
+pub turned-as : (s : State) (m : Memory) {after : Memory} {l k : Lent} {working : Entry → List ℕ} {mode count t : ℕ} {list old new : List ℕ} {at : ℕ} {r : Turn} → l ≡ k
+    → Turned (sendStep s m l) working mode count t list old new at r after → Turned (sendStep s m k) working mode count t list old new at r after
+turned-as s m {after} {l} {k} {working} {mode} {count} {t} {list} {old} {new} {at} {r} e h =
+    subst (λ (j : Lent). Turned (sendStep s m j) working mode count t list old new at r after) e h

@@ -8,8 +8,9 @@ use Rattle.runs.specs.Lent.{Matrices, Memory, Result}
 use Rattle.calls.specs.declared.states.Outcome.{Outcome}
 use Rattle.text.specs.Lines.{lines}
 use Rattle.text.specs.Put.{Put}
-use Rattle.sheettext.specs.Texts.{valueIn, valued}
-use Rattle.sheettext.specs.Lists.{answers, asking}
+use Rattle.sheetlines.specs.declared.entries.Entry.{Entry}
+use Rattle.sheettext.specs.Texts.{valueIn}
+use Rattle.sheetlists.specs.Lists.{answers, asking, valued}
 use Rattle.sheetturns.specs.declared.turns.Turn.{Turn}
 
 -- a sending gave g
@@ -19,11 +20,11 @@ pub record Gave (g : Result) (r : Outcome) (m : Memory) (x : Matrices) : Type 0 
   pub memory : m ≡ g .memory
   pub matrices : x ≡ g .lent .signal .matrices
 
--- a turn whose sending gave g, and put the answers of L1 frame t behind `at` if it succeeded
-pub record Turned (g : Result) (mode count t : ℕ) (list : List ℕ) (old new : List ℕ) (at : ℕ) (r : Turn) (m : Memory) : Type 0 where
+-- a turn whose sending gave g, and put the answers of L1 frame t, with these workings, behind `at` if it succeeded
+pub record Turned (g : Result) (working : Entry → List ℕ) (mode count t : ℕ) (list : List ℕ) (old new : List ℕ) (at : ℕ) (r : Turn) (m : Memory) : Type 0 where
   pub answer : r .answer ≡ g .answer
   pub state : r .state ≡ g .state
   pub memory : m ≡ g .memory
   pub size : length new ≡ length old
-  pub text : numberOf (r .answer) ≡ 0 → Put old new at (r .end) (200 * asking mode count t (lines list))
-      (answers (valued count (valueIn (g .lent .signal .matrices))) mode count t (lines list))
+  pub text : numberOf (r .answer) ≡ 0 → Put old new at (r .end) (782 * asking mode count t (lines list))
+      (answers (valued working count (valueIn (g .lent .signal .matrices))) mode count t (lines list))

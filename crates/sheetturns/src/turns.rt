@@ -12,7 +12,8 @@ ghost use Rattle.runs.specs.Sending.{sendStep};
 ghost use Rattle.calls.specs.Called.{matrices, memory, signal};
 ghost use Rattle.layout.specs.Inputs.{framesIn, handed};
 ghost use Rattle.text.specs.Lines.{lines};
-ghost use Rattle.sheettext.specs.Lists.{asking};
+ghost use Rattle.sheetworks.specs.Works.{workText};
+ghost use Rattle.sheetlists.specs.Lists.{asking};
 ghost use Rattle.sheetinputs.specs.Inputs.{older};
 ghost use Rattle.sheetinputs.specs.Run.{blank};
 ghost use Rattle.sheetturns.specs.Turned.{Gave, Turned};
@@ -68,7 +69,7 @@ fn send_frame(
     )
 }
 
-// Sends L1 frame t, and puts its answers; refused, it puts none.
+// Sends L1 frame t, and puts its answers, with workings from the bytes of all L1 frames; refused, it puts none.
 fn send_and_put(
     mode: u8,
     count: u64,
@@ -78,6 +79,8 @@ fn send_and_put(
     n4: usize,
     bytes: &[u8],
     list: &[u8],
+    work: bool,
+    all: &[u8],
     pm: &mut [u8],
     px1: &mut [u8],
     px2: &mut [u8],
@@ -87,9 +90,9 @@ fn send_and_put(
     out: &mut [u8],
     at: usize,
 ) -> Turn
-    requires { ⌜ (0 < length (now bytes)) × (at + 200 * asking mode count t (lines (now list)) + 200 ≤ length (now out)) × (length (now list) < 2 ^ 32) × (count ≤ 64) ⌝ }
+    requires { ⌜ (0 < length (now bytes)) × (at + 782 * asking mode count t (lines (now list)) + 782 ≤ length (now out)) × (length (now list) < 2 ^ 32) × (count ≤ 64) × (n3 ≤ 4608) × (n4 ≤ 4608) × (length (now all) < 2 ^ 32) ⌝ }
     ensures { λ r. ⌜ Turned (sendStep state (memory (now (memory3 .entry)) (now (memory4 .entry)) (now (delay .entry))) (handed (framesIn (state .mode) n3 n4 (now (bytes .entry))) (signal (now (pm .entry)) (now (px1 .entry)) (now (px2 .entry)) (replicate controlLen 0))))
-        mode count t (now (list .entry)) (now (out .entry)) (now (out .exit)) at r (memory (now (memory3 .exit)) (now (memory4 .exit)) (now (delay .exit))) ⌝ }
+        (workText work mode n3 n4 (now (all .entry))) mode count t (now (list .entry)) (now (out .entry)) (now (out .exit)) at r (memory (now (memory3 .exit)) (now (memory4 .exit)) (now (delay .exit))) ⌝ }
 {
     let sent = send_frame(state, n3, n4, bytes, pm, px1, px2, memory3, memory4, delay);
     let answer = sent.answer;
@@ -101,7 +104,21 @@ fn send_and_put(
             end: at,
         };
     }
-    let end = sheettext::put_answers(out, at, mode, count, t, list, pm, px1, px2);
+    let end = sheetlists::put_answers(
+        out,
+        at,
+        mode,
+        count,
+        t,
+        list,
+        pm,
+        px1,
+        px2,
+        work,
+        n3,
+        n4,
+        all,
+    );
     Turn {
         answer,
         state: next,
@@ -119,15 +136,17 @@ pub fn take_turn(
     n4: usize,
     bytes: &[u8],
     list: &[u8],
+    work: bool,
+    all: &[u8],
     memory3: &mut [u8],
     memory4: &mut [u8],
     delay: &mut [u8],
     out: &mut [u8],
     at: usize,
 ) -> Turn
-    requires { ⌜ (state .mode ≡ mode) × (older mode ≡ true) × (0 < length (now bytes)) × (at + 200 * asking mode count t (lines (now list)) + 200 ≤ length (now out)) × (length (now list) < 2 ^ 32) × (count ≤ 64) ⌝ }
+    requires { ⌜ (state .mode ≡ mode) × (older mode ≡ true) × (0 < length (now bytes)) × (at + 782 * asking mode count t (lines (now list)) + 782 ≤ length (now out)) × (length (now list) < 2 ^ 32) × (count ≤ 64) × (n3 ≤ 4608) × (n4 ≤ 4608) × (length (now all) < 2 ^ 32) ⌝ }
     ensures { λ r. ⌜ Turned (sendStep state (memory (now (memory3 .entry)) (now (memory4 .entry)) (now (delay .entry))) (handed (framesIn mode n3 n4 (now (bytes .entry))) (blank mode)))
-        mode count t (now (list .entry)) (now (out .entry)) (now (out .exit)) at r (memory (now (memory3 .exit)) (now (memory4 .exit)) (now (delay .exit))) ⌝ }
+        (workText work mode n3 n4 (now (all .entry))) mode count t (now (list .entry)) (now (out .entry)) (now (out .exit)) at r (memory (now (memory3 .exit)) (now (memory4 .exit)) (now (delay .exit))) ⌝ }
 {
     let want = modes::sender_lengths(mode);
     let c = want[6];
@@ -144,6 +163,8 @@ pub fn take_turn(
         n4,
         bytes,
         list,
+        work,
+        all,
         &mut pm,
         &mut px1[..c],
         &mut px2[..d],

@@ -1,27 +1,26 @@
 -- `put_frames` meets its contract. The loop's invariant: the L1 frames before t are sent and their answers put, and there is room for those that are left. Assumes nothing.
-use mathlib.Core.Path.{_≡_, refl, sym, _∙_}
-use Prim.Native.Nat.{_-_}
+use mathlib.Core.Path.{_≡_, refl, sym, ap, _∙_}
+use Prim.Native.Nat.{ℕ, _-_, _*_}
 use native.Mathlib.Omega.{arith}
 use borrow.Author.Needs.{needs}
 use denote.Ref.{now}
 use lib.ListN.{length, take}
 use Rattle.calls.specs.Called.{memory}
 use Rattle.sheetinputs.specs.Inputs.{frameSize}
-use Rattle.sheets.proofs.Loop.{Going, frame-within, going-begins, going-ends, going-on, going-stops, part-positive, room-for, room-last}
+use Rattle.sheetworks.specs.Works.{workText}
+use Rattle.sheets.proofs.Loop.{Going, bytes-few, frame-within, going-begins, going-ends, going-on, going-stops, part-positive, room-for, room-last}
 use Rattle.sheets.proofs.Texts.{put-first}
 use Rattle.sheets.proofs.frames.put_frames.Statement.{statement}
 use Rattle.sheets.proofs.frames.put_frames.Tie as tie
 
--- `put_frames` meets its contract. The loop's invariant: the L1 frames before t are sent and their answers put, and there is room for those that are left. Assumes nothing.
-
 abbrev Inv-loop : tie.InvT-loop
-Inv-loop mode count n3 n4 list bytes memory3₀ memory4₀ delay₀ out₀ at n state₀ end₀ from₀ t₀ memory3 memory4 delay out state end from t =
+Inv-loop mode count work n3 n4 list bytes memory3₀ memory4₀ delay₀ out₀ at n state₀ end₀ from₀ t₀ memory3 memory4 delay out state end from t =
     (n ≡ frameSize mode n3 n4)
     × (length memory3 ≡ length memory3₀) × (length memory4 ≡ length memory4₀) × (length delay ≡ length delay₀) × (length out ≡ length out₀)
-    × Going mode count n3 n4 list bytes (take at out₀) at out state (memory memory3 memory4 delay) end from t
+    × Going (workText work mode n3 n4 bytes) mode count n3 n4 list bytes (take at out₀) at out state (memory memory3 memory4 delay) end from t
 
 abbrev μ-loop : tie.MeasureT-loop
-μ-loop mode count n3 n4 list bytes memory3₀ memory4₀ delay₀ out₀ at n state₀ end₀ from₀ t₀ memory3 memory4 delay out state end from t = count - t
+μ-loop mode count work n3 n4 list bytes memory3₀ memory4₀ delay₀ out₀ at n state₀ end₀ from₀ t₀ memory3 memory4 delay out state end from t = count - t
 
 start-sender-requires : tie.Need-start-sender-requires Inv-loop μ-loop
 start-sender-requires c κs = search needs
@@ -37,7 +36,7 @@ loop-holds c = (
   refl,
   refl,
   refl,
-  going-begins (c .before .before .before .before .before .before .before .before .before .before .before .before .before .before .before .before .before .before .args .mode) (c .before .before .before .before .before .before .before .before .before .before .before .before .before .before .before .before .before .before .args .count) (c .before .before .before .before .before .before .before .before .before .before .before .before .before .before .before .before .before .before .args .n3) (c .before .before .before .before .before .before .before .before .before .before .before .before .before .before .before .before .before .before .args .n4) (now (c .before .before .before .before .before .before .before .before .before .before .before .before .before .before .before .before .before .before .args .list)) (now (c .before .before .before .before .before .before .before .before .before .before .before .before .before .before .before .before .before .before .args .bytes)) (c .before .before .before .before .before .before .before .before .before .before .before .before .before .before .before .before .before .before .args .at) _ (c .before .before .before .before .before .before .before .before .before .before .before .before .before .before .before .before .before .before .pre .0) (c .before .before .before .before .before .before .before .before .before .before .before .before .before .before .before .before .before .before .pre .4) (c .before .before .before .before .before .before .before .before .start-sender .result) _ _ (c .before .before .before .before .before .before .before .before .start-sender .ensures) (c .before .before .before .before .before .before .before .before .before .before .before .before .before .before .before .before .before .before .pre .7),
+  going-begins _ (c .before .before .before .before .before .before .before .before .before .before .before .before .before .before .before .before .before .before .args .mode) (c .before .before .before .before .before .before .before .before .before .before .before .before .before .before .before .before .before .before .args .count) (c .before .before .before .before .before .before .before .before .before .before .before .before .before .before .before .before .before .before .args .n3) (c .before .before .before .before .before .before .before .before .before .before .before .before .before .before .before .before .before .before .args .n4) (now (c .before .before .before .before .before .before .before .before .before .before .before .before .before .before .before .before .before .before .args .list)) (now (c .before .before .before .before .before .before .before .before .before .before .before .before .before .before .before .before .before .before .args .bytes)) (c .before .before .before .before .before .before .before .before .before .before .before .before .before .before .before .before .before .before .args .at) _ (c .before .before .before .before .before .before .before .before .before .before .before .before .before .before .before .before .before .before .pre .0) (c .before .before .before .before .before .before .before .before .before .before .before .before .before .before .before .before .before .before .pre .4) (c .before .before .before .before .before .before .before .before .start-sender .result) _ _ (c .before .before .before .before .before .before .before .before .start-sender .ensures) (c .before .before .before .before .before .before .before .before .before .before .before .before .before .before .before .before .before .before .pre .7),
 )
 
 add-to : tie.Need-add-to Inv-loop μ-loop
@@ -61,6 +60,9 @@ take-turn-requires c κs = (
   omega (arith, room-for (c .before .before .before .before .before .before .loop .inv .5) (c .before .before .before .before .before .loop-test .taken), c .before .before .before .before .before .before .before .before .before .before .before .before .before .before .before .before .before .before .before .before .before .before .before .before .before .pre .5, c .before .before .before .before .before .before .before .before .before .before .before .before .before .before .before .before .before .before .before .before .before .before .before .before .before .pre .6, c .before .before .before .before .before .before .loop .inv .4),
   omega (arith, c .before .before .before .before .before .before .before .before .before .before .before .before .before .before .before .before .before .before .before .before .before .before .before .before .before .pre .5),
   c .before .before .before .before .before .before .before .before .before .before .before .before .before .before .before .before .before .before .before .before .before .before .before .before .before .pre .3,
+  c .before .before .before .before .before .before .before .before .before .before .before .before .before .before .before .before .before .before .before .before .before .before .before .before .before .pre .1,
+  c .before .before .before .before .before .before .before .before .before .before .before .before .before .before .before .before .before .before .before .before .before .before .before .before .before .pre .2,
+  bytes-few _ _ _ (c .before .before .before .before .before .before .before .before .before .before .before .before .before .before .before .before .before .before .before .before .before .before .before .before .before .pre .3) (c .before .before .before .before .before .before .before .before .frame-size .ensures .1) (c .before .before .before .before .before .before .before .before .before .before .before .before .before .before .before .before .before .before .before .before .before .before .before .before .before .pre .4 ∙ ap (λ (k : ℕ). c .before .before .before .before .before .before .before .before .before .before .before .before .before .before .before .before .before .before .before .before .before .before .before .before .before .args .count * k) (sym (c .before .before .before .before .before .before .before .before .frame-size .ensures .0))),
 )
 
 number-requires : tie.Need-number-requires Inv-loop μ-loop
@@ -113,6 +115,9 @@ put-last-requires c κs = (
   c .before .before .before .before .before .before .before .before .before .before .before .before .before .before .before .before .before .before .before .before .before .pre .3,
   omega (arith, room-last (c .before .before .loop .inv .5) (c .before .loop-test .left), c .before .before .before .before .before .before .before .before .before .before .before .before .before .before .before .before .before .before .before .before .before .pre .5, c .before .before .before .before .before .before .before .before .before .before .before .before .before .before .before .before .before .before .before .before .before .pre .6, c .before .before .loop .inv .4),
   c .before .before .before .before .before .before .before .before .before .before .before .before .before .before .before .before .before .before .before .before .before .pre .5,
+  c .before .before .before .before .before .before .before .before .before .before .before .before .before .before .before .before .before .before .before .before .before .pre .1,
+  c .before .before .before .before .before .before .before .before .before .before .before .before .before .before .before .before .before .before .before .before .before .pre .2,
+  bytes-few _ _ _ (c .before .before .before .before .before .before .before .before .before .before .before .before .before .before .before .before .before .before .before .before .before .pre .3) (c .before .before .before .before .frame-size .ensures .1) (c .before .before .before .before .before .before .before .before .before .before .before .before .before .before .before .before .before .before .before .before .before .pre .4 ∙ ap (λ (k : ℕ). c .before .before .before .before .before .before .before .before .before .before .before .before .before .before .before .before .before .before .before .before .before .args .count * k) (sym (c .before .before .before .before .frame-size .ensures .0))),
 )
 
 same-length-5 : tie.Need-same-length-5 Inv-loop μ-loop

@@ -31,8 +31,8 @@ same-length : tie.Need-same-length
 same-length c = search needs
 
 returns : tie.Need-returns
-returns c = let a = c .before .before .before .before .before .before .before .before .before .before .before .before .before .before .args in
-    put-then (put-text (later-same _ (a .mode) (a .count) (lines (now (a .list)))) (c .before .before .before .before .before .before .before .put-answers .ensures))
+returns c = let a = c .before .before .before .before .before .before .before .before .before .before .before .before .before .before .before .args in
+    put-then (put-text (later-same _ _ (a .mode) (a .count) (lines (now (a .list)))) (c .before .before .before .before .before .before .before .put-answers .ensures))
     (put-text (ap ending (c .before .before .before .before .count-answers .ensures)) (c .before .before .put-end .ensures))
 
 pub put-last-spec : {M : Type 1} → statement M

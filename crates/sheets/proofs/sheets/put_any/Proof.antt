@@ -26,7 +26,7 @@ returns : tie.Need-returns
 unfolding noMode
 returns c =
     begins (put-first _ _ (omega (arith, c .before .before .before .before .before .before .before .before .before .pre))
-    (by-mode (c .before .before .before .before .before .before .before .before .before .args .mode) (c .before .before .before .before .before .before .before .before .before .args .count) (c .before .before .before .before .before .before .before .before .before .args .without3) (c .before .before .before .before .before .before .before .before .before .args .without4) (now (c .before .before .before .before .before .before .before .before .before .args .input)) (sym (c .before .before .before .before .before .before .is-older .ensures) ∙ not-true _ (c .before .before .before .before .before .if1 .taken))) (c .before .before .put .ensures))
+    (by-mode (c .before .before .before .before .before .before .before .before .before .args .mode) (c .before .before .before .before .before .before .before .before .before .args .count) (c .before .before .before .before .before .before .before .before .before .args .without3) (c .before .before .before .before .before .before .before .before .before .args .without4) (c .before .before .before .before .before .before .before .before .before .args .work) (now (c .before .before .before .before .before .before .before .before .before .args .input)) (sym (c .before .before .before .before .before .before .is-older .ensures) ∙ not-true _ (c .before .before .before .before .before .if1 .taken))) (c .before .before .put .ensures))
 
 are-named-requires : tie.Need-are-named-requires
 are-named-requires c κs = search needs
@@ -44,7 +44,7 @@ returns-2 : tie.Need-returns-2
 unfolding noWithout
 returns-2 c =
     begins (put-first _ _ (omega (arith, c .before .before .before .before .before .before .before .before .before .before .before .pre))
-    (by-without (c .before .before .before .before .before .before .before .before .before .before .before .args .mode) (c .before .before .before .before .before .before .before .before .before .before .before .args .count) (c .before .before .before .before .before .before .before .before .before .before .before .args .without3) (c .before .before .before .before .before .before .before .before .before .before .before .args .without4) (now (c .before .before .before .before .before .before .before .before .before .before .before .args .input)) (sym (c .before .before .before .before .before .before .before .before .is-older .ensures) ∙ not-false _ (c .before .before .before .before .before .before .before .if1 .left)) (sym (c .before .before .before .before .before .before .are-named .ensures) ∙ not-true _ (c .before .before .before .before .before .if2 .taken))) (c .before .before .put2 .ensures))
+    (by-without (c .before .before .before .before .before .before .before .before .before .before .before .args .mode) (c .before .before .before .before .before .before .before .before .before .before .before .args .count) (c .before .before .before .before .before .before .before .before .before .before .before .args .without3) (c .before .before .before .before .before .before .before .before .before .before .before .args .without4) (c .before .before .before .before .before .before .before .before .before .before .before .args .work) (now (c .before .before .before .before .before .before .before .before .before .before .before .args .input)) (sym (c .before .before .before .before .before .before .before .before .is-older .ensures) ∙ not-false _ (c .before .before .before .before .before .before .before .if1 .left)) (sym (c .before .before .before .before .before .before .are-named .ensures) ∙ not-true _ (c .before .before .before .before .before .if2 .taken))) (c .before .before .put2 .ensures))
 
 slice-aggregate-put-3 : tie.Need-slice-aggregate-put-3
 slice-aggregate-put-3 c = search needs
@@ -59,7 +59,7 @@ returns-3 : tie.Need-returns-3
 unfolding noCount
 returns-3 c =
     begins (put-first _ _ (omega (arith, c .before .before .before .before .before .before .before .before .before .before .before .before .pre))
-    (by-count (c .before .before .before .before .before .before .before .before .before .before .before .before .args .mode) (c .before .before .before .before .before .before .before .before .before .before .before .before .args .count) (c .before .before .before .before .before .before .before .before .before .before .before .before .args .without3) (c .before .before .before .before .before .before .before .before .before .before .before .before .args .without4) (now (c .before .before .before .before .before .before .before .before .before .before .before .before .args .input)) (sym (c .before .before .before .before .before .before .before .before .before .is-older .ensures) ∙ not-false _ (c .before .before .before .before .before .before .before .before .if1 .left)) (sym (c .before .before .before .before .before .before .before .are-named .ensures) ∙ not-false _ (c .before .before .before .before .before .before .if2 .left)) (c .before .before .before .before .before .if3 .taken)) (c .before .before .put3 .ensures))
+    (by-count (c .before .before .before .before .before .before .before .before .before .before .before .before .args .mode) (c .before .before .before .before .before .before .before .before .before .before .before .before .args .count) (c .before .before .before .before .before .before .before .before .before .before .before .before .args .without3) (c .before .before .before .before .before .before .before .before .before .before .before .before .args .without4) (c .before .before .before .before .before .before .before .before .before .before .before .before .args .work) (now (c .before .before .before .before .before .before .before .before .before .before .before .before .args .input)) (sym (c .before .before .before .before .before .before .before .before .before .is-older .ensures) ∙ not-false _ (c .before .before .before .before .before .before .before .before .if1 .left)) (sym (c .before .before .before .before .before .before .before .are-named .ensures) ∙ not-false _ (c .before .before .before .before .before .before .if2 .left)) (c .before .before .before .before .before .if3 .taken)) (c .before .before .put3 .ensures))
 
 put-input-requires : tie.Need-put-input-requires
 put-input-requires c κs =

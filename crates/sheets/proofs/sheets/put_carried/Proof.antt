@@ -40,7 +40,7 @@ returns : tie.Need-returns
 returns c = (
   c .before .before .put-sheet .ensures .0,
   c .before .before .put-sheet .ensures .1
-      ∙ ap₂ (λ (x y : ℕ). sheetFor (c .before .before .before .before .before .before .before .before .before .before .args .mode) (c .before .before .before .before .before .before .before .before .before .before .args .count) (c .before .before .before .before .before .before .before .before .before .before .args .without3) (c .before .before .before .before .before .before .before .before .before .before .args .without4) x y (now (c .before .before .before .before .before .before .before .before .before .before .args .list)) (now (c .before .before .before .before .before .before .before .before .before .before .args .bytes)))
+      ∙ ap₂ (λ (x y : ℕ). sheetFor (c .before .before .before .before .before .before .before .before .before .before .args .mode) (c .before .before .before .before .before .before .before .before .before .before .args .count) (c .before .before .before .before .before .before .before .before .before .before .args .without3) (c .before .before .before .before .before .before .before .before .before .before .args .without4) (c .before .before .before .before .before .before .before .before .before .before .args .work) x y (now (c .before .before .before .before .before .before .before .before .before .before .args .list)) (now (c .before .before .before .before .before .before .before .before .before .before .args .bytes)))
       (carried-p3 _ _ (c .before .before .before .before .before .before .sender-lengths .ensures) _ _ (c .before .before .before .before .before .carried .ensures)) (carried-p4 _ _ (c .before .before .before .before .before .before .sender-lengths .ensures) _ _ (c .before .before .before .before .carried2 .ensures)),
 )
 

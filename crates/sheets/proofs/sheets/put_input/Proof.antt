@@ -25,7 +25,7 @@ returns : tie.Need-returns
 unfolding noLongList
 returns c =
     put-first _ _ (omega (arith, c .before .before .before .before .before .before .before .before .before .pre .3))
-    (by-long (c .before .before .before .before .before .before .before .before .before .args .mode) (c .before .before .before .before .before .before .before .before .before .args .count) (c .before .before .before .before .before .before .before .before .before .args .without3) (c .before .before .before .before .before .before .before .before .before .args .without4) (now (c .before .before .before .before .before .before .before .before .before .args .input)) (c .before .before .before .before .before .before .before .before .before .pre .0) (c .before .before .before .before .before .before .before .before .before .pre .1) (c .before .before .before .before .before .before .before .before .before .pre .2) (omega (arith, c .before .before .before .before .before .if1 .taken, c .before .before .before .before .before .before .empty-line .ensures .0))) (c .before .before .put .ensures)
+    (by-long (c .before .before .before .before .before .before .before .before .before .args .mode) (c .before .before .before .before .before .before .before .before .before .args .count) (c .before .before .before .before .before .before .before .before .before .args .without3) (c .before .before .before .before .before .before .before .before .before .args .without4) (c .before .before .before .before .before .before .before .before .before .args .work) (now (c .before .before .before .before .before .before .before .before .before .args .input)) (c .before .before .before .before .before .before .before .before .before .pre .0) (c .before .before .before .before .before .before .before .before .before .pre .1) (c .before .before .before .before .before .before .before .before .before .pre .2) (omega (arith, c .before .before .before .before .before .if1 .taken, c .before .before .before .before .before .before .empty-line .ensures .0))) (c .before .before .put .ensures)
 
 slice-aggregate-put-2 : tie.Need-slice-aggregate-put-2
 slice-aggregate-put-2 c = search needs
@@ -40,7 +40,7 @@ returns-2 : tie.Need-returns-2
 unfolding noList
 returns-2 c =
     put-first _ _ (omega (arith, c .before .before .before .before .before .before .before .before .before .before .pre .3))
-    (by-open (c .before .before .before .before .before .before .before .before .before .before .args .mode) (c .before .before .before .before .before .before .before .before .before .before .args .count) (c .before .before .before .before .before .before .before .before .before .before .args .without3) (c .before .before .before .before .before .before .before .before .before .before .args .without4) (now (c .before .before .before .before .before .before .before .before .before .before .args .input)) (c .before .before .before .before .before .before .before .before .before .before .pre .0) (c .before .before .before .before .before .before .before .before .before .before .pre .1) (c .before .before .before .before .before .before .before .before .before .before .pre .2) (omega (arith, c .before .before .before .before .before .before .if1 .left, c .before .before .before .before .before .before .before .empty-line .ensures .0)) (omega (arith, c .before .before .before .before .before .if2 .taken, c .before .before .before .before .before .before .before .empty-line .ensures .0))) (c .before .before .put2 .ensures)
+    (by-open (c .before .before .before .before .before .before .before .before .before .before .args .mode) (c .before .before .before .before .before .before .before .before .before .before .args .count) (c .before .before .before .before .before .before .before .before .before .before .args .without3) (c .before .before .before .before .before .before .before .before .before .before .args .without4) (c .before .before .before .before .before .before .before .before .before .before .args .work) (now (c .before .before .before .before .before .before .before .before .before .before .args .input)) (c .before .before .before .before .before .before .before .before .before .before .pre .0) (c .before .before .before .before .before .before .before .before .before .before .pre .1) (c .before .before .before .before .before .before .before .before .before .before .pre .2) (omega (arith, c .before .before .before .before .before .before .if1 .left, c .before .before .before .before .before .before .before .empty-line .ensures .0)) (omega (arith, c .before .before .before .before .before .if2 .taken, c .before .before .before .before .before .before .before .empty-line .ensures .0))) (c .before .before .put2 .ensures)
 
 empty-at-requires : tie.Need-empty-at-requires
 empty-at-requires c κs = search needs
@@ -72,7 +72,7 @@ returns-3 : tie.Need-returns-3
 returns-3 c = (
   c .before .before .put-carried .ensures .0,
   c .before .before .put-carried .ensures .1
-      ∙ by-parts (c .before .before .before .before .before .before .before .before .before .before .before .before .args .mode) (c .before .before .before .before .before .before .before .before .before .before .before .before .args .count) (c .before .before .before .before .before .before .before .before .before .before .before .before .args .without3) (c .before .before .before .before .before .before .before .before .before .before .before .before .args .without4) (now (c .before .before .before .before .before .before .before .before .before .before .before .before .args .input)) (c .before .before .before .before .before .before .before .before .before .before .before .before .pre .0) (c .before .before .before .before .before .before .before .before .before .before .before .before .pre .1) (c .before .before .before .before .before .before .before .before .before .before .before .before .pre .2) (c .before .before .before .before .before .before .before .before .before .empty-line .result) (c .before .before .before .before .before .before .empty-at .result) _ (c .before .before .before .before .before .before .before .before .before .empty-line .ensures .0) (c .before .before .before .before .before .before .empty-at .ensures .0) refl (omega (arith, c .before .before .before .before .before .before .before .before .if1 .left)) (omega (arith, c .before .before .before .before .before .before .before .if2 .left)),
+      ∙ by-parts (c .before .before .before .before .before .before .before .before .before .before .before .before .args .mode) (c .before .before .before .before .before .before .before .before .before .before .before .before .args .count) (c .before .before .before .before .before .before .before .before .before .before .before .before .args .without3) (c .before .before .before .before .before .before .before .before .before .before .before .before .args .without4) (c .before .before .before .before .before .before .before .before .before .before .before .before .args .work) (now (c .before .before .before .before .before .before .before .before .before .before .before .before .args .input)) (c .before .before .before .before .before .before .before .before .before .before .before .before .pre .0) (c .before .before .before .before .before .before .before .before .before .before .before .before .pre .1) (c .before .before .before .before .before .before .before .before .before .before .before .before .pre .2) (c .before .before .before .before .before .before .before .before .before .empty-line .result) (c .before .before .before .before .before .before .empty-at .result) _ (c .before .before .before .before .before .before .before .before .before .empty-line .ensures .0) (c .before .before .before .before .before .before .empty-at .ensures .0) refl (omega (arith, c .before .before .before .before .before .before .before .before .if1 .left)) (omega (arith, c .before .before .before .before .before .before .before .if2 .left)),
 )
 
 pub put-input-spec : {M : Type 1} → statement M

@@ -15,8 +15,14 @@ put-requires c κs = search needs
 field-requires : tie.Need-field-requires
 field-requires c κs = search needs
 
-put-count-requires : tie.Need-put-count-requires
-put-count-requires c κs = search needs
+number-requires : tie.Need-number-requires
+number-requires c κs = search needs
+
+put-without-requires : tie.Need-put-without-requires
+put-without-requires c κs = search needs
+
+put-worded-requires : tie.Need-put-worded-requires
+put-worded-requires c κs = search needs
 
 same-length : tie.Need-same-length
 same-length c = search needs
@@ -24,9 +30,17 @@ same-length c = search needs
 returns : tie.Need-returns
 unfolding head
 returns c =
-    put-most (omega arith) (put-then (c .before .before .before .before .before .before .before .before .before .before .put .ensures) (put-then (c .before .before .before .before .before .before .field .ensures) (c .before .before .put-count .ensures)))
+    put-most (omega arith) (put-then (c .before .before .before .before .before .before .before .before .before .before .before .before .before .before .before .before .before .before .put .ensures) (put-then (c .before .before .before .before .before .before .before .before .before .before .before .before .before .before .field .ensures) (put-then (c .before .before .before .before .before .before .before .before .before .before .number .ensures) (put-then (c .before .before .before .before .before .before .put-without .ensures) (c .before .before .put-worded .ensures)))))
 
 pub put-head-spec : {M : Type 1} → statement M
 put-head-spec =
     tie.close
-    (tie.spec slice-aggregate-put put-requires field-requires put-count-requires same-length returns)
+    (tie.spec
+    slice-aggregate-put
+    put-requires
+    field-requires
+    number-requires
+    put-without-requires
+    put-worded-requires
+    same-length
+    returns)

@@ -2,7 +2,7 @@
 use native.Mathlib.Omega.{arith}
 use borrow.Author.Tests.{not-false, not-true}
 use Rattle.text.proofs.Stored.{put-most, put-text, put-then}
-use Rattle.sheettext.proofs.Said.{bit-later, bit-now}
+use Rattle.sheettext.proofs.Owned.{bit-later, bit-now}
 use borrow.Author.Needs.{needs}
 use Rattle.sheettext.proofs.lines.put_bit.Statement.{statement}
 use Rattle.sheettext.proofs.lines.put_bit.Tie as tie

@@ -32,15 +32,15 @@ slice-aggregate-send-and-put-2 : tie.Need-slice-aggregate-send-and-put-2
 slice-aggregate-send-and-put-2 c = sym (length-take-le _ _ (room-px1 _ _ (c .before .before .sender-lengths .ensures)))
 
 array-borrow-prefix-px2 : tie.Need-array-borrow-prefix-px2
-array-borrow-prefix-px2 c = room-px2 _ _ (c .before .before .sender-lengths .ensures) (c .before .before .before .before .before .before .before .before .before .pre .1)
+array-borrow-prefix-px2 c = room-px2 _ _ (c .before .before .sender-lengths .ensures) (c .before .before .before .before .before .before .before .before .before .before .pre .1)
 
 slice-aggregate-send-and-put-3 : tie.Need-slice-aggregate-send-and-put-3
 slice-aggregate-send-and-put-3 c =
-    sym (length-take-le _ _ (room-px2 _ _ (c .before .before .before .sender-lengths .ensures) (c .before .before .before .before .before .before .before .before .before .before .pre .1)))
+    sym (length-take-le _ _ (room-px2 _ _ (c .before .before .before .sender-lengths .ensures) (c .before .before .before .before .before .before .before .before .before .before .before .pre .1)))
 
 send-and-put-requires : tie.Need-send-and-put-requires
 send-and-put-requires c κs =
-    (c .before .before .before .before .before .before .before .before .before .before .before .before .before .before .pre .2, c .before .before .before .before .before .before .before .before .before .before .before .before .before .before .pre .3, c .before .before .before .before .before .before .before .before .before .before .before .before .before .before .pre .4, c .before .before .before .before .before .before .before .before .before .before .before .before .before .before .pre .5)
+    (c .before .before .before .before .before .before .before .before .before .before .before .before .before .before .before .pre .2, c .before .before .before .before .before .before .before .before .before .before .before .before .before .before .before .pre .3, c .before .before .before .before .before .before .before .before .before .before .before .before .before .before .before .pre .4, c .before .before .before .before .before .before .before .before .before .before .before .before .before .before .before .pre .5, c .before .before .before .before .before .before .before .before .before .before .before .before .before .before .before .pre .6, c .before .before .before .before .before .before .before .before .before .before .before .before .before .before .before .pre .7, c .before .before .before .before .before .before .before .before .before .before .before .before .before .before .before .pre .8)
 
 same-length : tie.Need-same-length
 same-length c = search needs
@@ -56,7 +56,7 @@ same-length-4 c = search needs
 
 returns : tie.Need-returns
 returns c =
-    turned-as _ _ (ap₂ (λ (k : ℕ) (x : Signal). handed (framesIn k (c .before .before .before .before .before .before .before .before .before .before .before .before .before .before .before .before .before .before .before .before .before .before .before .before .before .before .args .n3) (c .before .before .before .before .before .before .before .before .before .before .before .before .before .before .before .before .before .before .before .before .before .before .before .before .before .before .args .n4) (now (c .before .before .before .before .before .before .before .before .before .before .before .before .before .before .before .before .before .before .before .before .before .before .before .before .before .before .args .bytes))) x) (c .before .before .before .before .before .before .before .before .before .before .before .before .before .before .before .before .before .before .before .before .before .before .before .before .before .before .pre .0) (blank-is (c .before .before .before .before .before .before .before .before .before .before .before .before .before .before .before .before .before .before .before .before .before .before .before .before .before .before .args .mode) _ (c .before .before .before .before .before .before .before .before .before .before .before .before .before .before .before .before .before .before .before .sender-lengths .ensures) (c .before .before .before .before .before .before .before .before .before .before .before .before .before .before .before .before .before .before .before .before .before .before .before .before .before .before .pre .1))) (c .before .before .before .before .before .before .before .before .before .before .before .send-and-put .ensures)
+    turned-as _ _ (ap₂ (λ (k : ℕ) (x : Signal). handed (framesIn k (c .before .before .before .before .before .before .before .before .before .before .before .before .before .before .before .before .before .before .before .before .before .before .before .before .before .before .before .args .n3) (c .before .before .before .before .before .before .before .before .before .before .before .before .before .before .before .before .before .before .before .before .before .before .before .before .before .before .before .args .n4) (now (c .before .before .before .before .before .before .before .before .before .before .before .before .before .before .before .before .before .before .before .before .before .before .before .before .before .before .before .args .bytes))) x) (c .before .before .before .before .before .before .before .before .before .before .before .before .before .before .before .before .before .before .before .before .before .before .before .before .before .before .before .pre .0) (blank-is (c .before .before .before .before .before .before .before .before .before .before .before .before .before .before .before .before .before .before .before .before .before .before .before .before .before .before .before .args .mode) _ (c .before .before .before .before .before .before .before .before .before .before .before .before .before .before .before .before .before .before .before .sender-lengths .ensures) (c .before .before .before .before .before .before .before .before .before .before .before .before .before .before .before .before .before .before .before .before .before .before .before .before .before .before .before .pre .1))) (c .before .before .before .before .before .before .before .before .before .before .before .send-and-put .ensures)
 
 pub take-turn-spec : {M : Type 1} → statement M
 take-turn-spec =

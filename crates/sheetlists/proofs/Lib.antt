@@ -1,0 +1,2 @@
+mod Said
+pub mod Long
