@@ -21,3 +21,4 @@ pub mod scrambling;
 pub mod sets;
 pub mod sheet;
 pub mod vector;
+pub mod words;
