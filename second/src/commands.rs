@@ -340,7 +340,11 @@ pub fn judge(
         return Ok(writeln!(output, "accepted")?);
     }
     let frame = verdict.frame as u64;
-    writeln!(output, "{}", refusal_line(verdict.number, verdict.place, frame))?;
+    writeln!(
+        output,
+        "{}",
+        refusal_line(verdict.number, verdict.place, frame)
+    )?;
     Ok(writeln!(report, "{}", words::of_cause(verdict.number))?)
 }
 

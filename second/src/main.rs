@@ -203,7 +203,6 @@ fn ended(done: Result<(), Stop>) -> ExitCode {
         }
         Err(Stop::NoSheet(why)) => {
             eprintln!("{why}");
-            eprintln!("{}", words::of_no_sheet(&why));
             ExitCode::from(1)
         }
         Err(Stop::NotFound) => {

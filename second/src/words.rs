@@ -1,8 +1,5 @@
 //! House matter: the causes in words, from the one table that has them, causes.tsv. They need no place.
 
-use crate::run::Refusal;
-use crate::sheet::NoSheet;
-
 const TABLE: &str = include_str!("../../causes.tsv");
 
 /// House matter: the words of a row.
@@ -19,16 +16,4 @@ pub fn of_cause(number: u32) -> &'static str {
     row(&cause, "c")
         .or_else(|| row(&cause, "any"))
         .unwrap_or("no such cause")
-}
-
-/// House matter: the words for why there is no sheet.
-pub fn of_no_sheet(why: &NoSheet) -> String {
-    if let NoSheet::Frame(_, Refusal { number, .. }) = why {
-        return of_cause(*number).to_string();
-    }
-    let line = why.to_string();
-    let cause = line.trim_end_matches(|c: char| c.is_ascii_digit()).trim_end();
-    row(cause, "sheet")
-        .unwrap_or_default()
-        .replace("{place} ", "")
 }
