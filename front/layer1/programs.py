@@ -1,4 +1,4 @@
-"""Running the proved programs. What one prints counts only if it ended well and said nothing on standard error."""
+"""Running the proved programs. What one prints counts only if it ended well and said nothing on standard error; but for the verdict of judge, which that explains."""
 
 import contextlib
 import os
@@ -21,6 +21,9 @@ FOLDER_VARIABLE = "LAYER1_PROGRAMS"
 REFUSAL = re.compile(r"refused: number (\d+) place (\d+) frame (\d+)")
 FRAMELESS = ("vector", "nearest")
 """Programs whose refusals are of no L1 frame of a run."""
+
+EXPLAINED = ("judge",)
+"""Programs that print what they refuse, and say the cause in words."""
 
 NO_VARIABLES: Dict[str, str] = {}
 """What a program gets of our environment."""
@@ -114,7 +117,7 @@ def judged(name: str, status: int, said: IO[bytes]) -> None:
     """A program that did not end by itself, or said anything, has not done its work."""
     said.seek(0)
     text = said.read(4096).decode("utf-8", "replace").strip()
-    if text:
+    if text and name not in EXPLAINED:
         raise told(name, text)
     if status != 0:
         raise Failed(f"the program {name} ended with status {status}")

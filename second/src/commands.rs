@@ -6,7 +6,7 @@ use std::path::Path;
 use crate::coding::Rate;
 use crate::control::{control, NUMBERS};
 use crate::draw::{cell_list, Damage, Draw};
-use crate::dumps::{self, Verdict};
+use crate::dumps;
 use crate::locating;
 use crate::modes::{Mode, Without, EXTENDED_WAIT, P1_BITS, PIDS_BITS};
 use crate::nearest;
@@ -19,6 +19,7 @@ use crate::run::{
 use crate::scrambling::scramble;
 use crate::sheet::{self, take_list, Handed, NoSheet, Sheet, GREATEST_COUNT};
 use crate::vector::{self, Mapping};
+use crate::words;
 
 /// Why a command ends before its work is done.
 #[derive(Debug)]
@@ -326,15 +327,25 @@ pub fn dump(
     send_behind(header, mode, count, without, input, output)
 }
 
-/// Document 02, S-13: the verdict on a dump, as a line.
-pub fn judge(input: &mut impl Read, output: &mut impl Write) -> Result<(), Stop> {
+/// Document 02, S-13: the verdict on a dump, as a line, and the cause in words.
+pub fn judge(
+    input: &mut impl Read,
+    output: &mut impl Write,
+    report: &mut impl Write,
+) -> Result<(), Stop> {
     let mut dump = Vec::new();
     input.read_to_end(&mut dump)?;
-    let line = match dumps::judge(&dump) {
-        Verdict { number: 0, .. } => "accepted".to_string(),
-        refused => refusal_line(refused.number, refused.place, refused.frame as u64),
-    };
-    Ok(writeln!(output, "{line}")?)
+    let verdict = dumps::judge(&dump);
+    if verdict.number == 0 {
+        return Ok(writeln!(output, "accepted")?);
+    }
+    let frame = verdict.frame as u64;
+    writeln!(
+        output,
+        "{}",
+        refusal_line(verdict.number, verdict.place, frame)
+    )?;
+    Ok(writeln!(report, "{}", words::of_cause(verdict.number))?)
 }
 
 /// Document 02, S-13: dumps to be judged, as the files 0, 1 and so on of a directory.
@@ -494,6 +505,7 @@ pub fn read_on(
         let Answer { number, place, .. } = answer;
         if number != 0 {
             writeln!(report, "{}", refusal_line(number, place, frame))?;
+            writeln!(report, "{}", words::of_cause(number))?;
         }
         output.write_all(&returned)?;
         if number == 3 {

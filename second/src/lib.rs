@@ -22,3 +22,4 @@ pub mod sets;
 pub mod sheet;
 pub mod six;
 pub mod vector;
+pub mod words;

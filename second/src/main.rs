@@ -6,7 +6,7 @@ use std::process::ExitCode;
 
 use second::commands::{self, Stop};
 use second::modes::Without;
-use second::{calls, cells, nearest, places, restoring, run::Refusal, vector};
+use second::{calls, cells, nearest, places, restoring, run::Refusal, vector, words};
 
 /// The commands with their operands.
 const COMMANDS: [(&str, &str); 32] = [
@@ -160,7 +160,7 @@ fn dispatch(
         }
         ("sheet", &[mode, count]) => commands::sheet(mode, count, without, &mut input, output),
         ("dump", &[mode, count]) => commands::dump(mode, count, without, &mut input, output),
-        ("judge", _) => commands::judge(&mut input, output),
+        ("judge", _) => commands::judge(&mut input, output, &mut io::stderr().lock()),
         ("draw-dumps", &[seed, mode]) => commands::draw_dumps(seed, mode, files[0].as_ref()),
         ("draw-cells", &[seed, mode, count]) => commands::draw_cells(seed, mode, count, output),
         ("read", &[mode, count]) => commands::read(mode, count, &mut input, output),
@@ -217,6 +217,7 @@ fn ended(done: Result<(), Stop>) -> ExitCode {
         Err(Stop::Refused { refusal, frame }) => {
             let Refusal { number, place } = refusal;
             eprintln!("{}", commands::refusal_line(number, place, frame));
+            eprintln!("{}", words::of_cause(number));
             ExitCode::from(1)
         }
         Err(Stop::NoSheet(why)) => {

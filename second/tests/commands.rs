@@ -3,6 +3,7 @@
 use second::commands::{self, Stop};
 use second::control::control;
 use second::modes::Without;
+use second::words;
 
 /// Every channel with its data.
 const FULL: Without = Without {
@@ -78,7 +79,10 @@ fn reading_on() {
     let mut returned = Vec::new();
     let mut report = Vec::new();
     commands::read_on(1, 4, &mut &matrices[..], &mut returned, &mut report).unwrap();
-    assert_eq!(report, b"refused: number 5 place 0 frame 1\n");
+    let report = String::from_utf8(report).unwrap();
+    let said: Vec<&str> = report.lines().collect();
+    assert_eq!(said[0], "refused: number 5 place 0 frame 1");
+    assert_eq!(said[1..], [words::of_cause(5)]);
     let drawn: Vec<&[u8]> = frames.chunks(1 + 18_432).collect();
     assert!(returned == [drawn[0], drawn[2], drawn[3]].concat());
 }
@@ -209,6 +213,7 @@ fn damage_before() {
         let report = String::from_utf8(report).unwrap();
         let frames: Vec<&str> = report
             .lines()
+            .filter(|line| line.starts_with("refused: "))
             .filter_map(|line| line.rsplit(' ').next())
             .collect();
         assert_eq!(frames, ["0", "2", "4", "6"]);

@@ -1,4 +1,5 @@
-// judge: reads a dump from standard input, L1 frame by L1 frame, and prints one line: `accepted`, or as what it is refused (document 02, S-13).
+// judge: reads a dump from standard input, L1 frame by L1 frame, and prints one line: `accepted`, or as what it is refused (document 02, S-13), which it
+// says in words on standard error.
 use libc::STDIN_FILENO;
 ghost use Prim.Native.Nat.{_≤_};
 ghost use lib.ListN.{length};
@@ -14,7 +15,7 @@ fn judge_frames(
     delay: &mut [u8],
     line: &mut [u8],
 ) -> usize
-    requires { ⌜ 91 ≤ length (now line) ⌝ }
+    requires { ⌜ 251 ≤ length (now line) ⌝ }
     ensures { λ r. ⌜ Counts r (now (line .exit)) ⌝ }
 {
     let begun = calls::start_reader(mode, memory3, memory4, delay);
@@ -44,7 +45,7 @@ fn judge_frames(
 
 // The buffers of a run, each of its length in this mode.
 fn judge_rest(mode: u8, count: usize, line: &mut [u8]) -> usize
-    requires { ⌜ 91 ≤ length (now line) ⌝ }
+    requires { ⌜ 251 ≤ length (now line) ⌝ }
     ensures { λ r. ⌜ Counts r (now (line .exit)) ⌝ }
 {
     let want = modes::reader_lengths(mode);
@@ -69,7 +70,7 @@ fn judge_rest(mode: u8, count: usize, line: &mut [u8]) -> usize
 
 // Judges the dump on standard input, and puts the line.
 fn judge(line: &mut [u8]) -> usize
-    requires { ⌜ 91 ≤ length (now line) ⌝ }
+    requires { ⌜ 251 ≤ length (now line) ⌝ }
     ensures { λ r. ⌜ Counts r (now (line .exit)) ⌝ }
 {
     let mut head = [0u8; 8];
@@ -85,7 +86,7 @@ fn main() {
     if !programs::is_plain(b"judge <DUMP") {
         return;
     }
-    let mut line = [0u8; 91];
+    let mut line = [0u8; 251];
     let n = judge(&mut line);
-    programs::write_out(&line[..n]);
+    messages::tell(&line[..n]);
 }

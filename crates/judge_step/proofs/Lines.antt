@@ -11,7 +11,7 @@ use Rattle.runs.specs.Answers.{numberOf, onSuccess, placeOf}
 use Rattle.runs.proofs.Answered.{not-success, success-is}
 use Rattle.text.specs.Letters.{ascii}
 use Rattle.text.specs.Put.{Put}
-use Rattle.messages.specs.Lines.{refusal}
+use Rattle.messages.specs.Lines.{inWords}
 use Rattle.messages.proofs.Put.{at-start}
 use Rattle.dumps.specs.declared.Verdict.{Verdict}
 use Rattle.dumps.specs.Next.{Next}
@@ -21,18 +21,18 @@ on-success : {A : Type 0} (a : Answer) (done refused : A) → numberOf a ≡ 0 �
 unfolding onSuccess
 on-success a done refused z = rw (success-is a z)
 
-pub accepted-put : {a b : List ℕ} {end : ℕ} (v : Verdict) → 91 ≤ length a → numberOf (v .answer) ≡ 0 → Put a b 0 end 9 (ascii "accepted\n")
+pub accepted-put : {a b : List ℕ} {end : ℕ} (v : Verdict) → 251 ≤ length a → numberOf (v .answer) ≡ 0 → Put a b 0 end 9 (ascii "accepted\n")
     → Counts end b × (take end b ≡ lineOf v)
 unfolding lineOf
 accepted-put v room z p =
     let h = at-start (omega arith) p in
-    (h .0, h .1 ∙ sym (on-success (v .answer) (ascii "accepted\n") (refusal (numberOf (v .answer)) (placeOf (v .answer)) (v .frame)) z))
+    (h .0, h .1 ∙ sym (on-success (v .answer) (ascii "accepted\n") (inWords (numberOf (v .answer)) (placeOf (v .answer)) (v .frame)) z))
 
-pub said-refused : (v : Verdict) (text : List ℕ) → (numberOf (v .answer) ≡ 0 → ⊥) → text ≡ refusal (numberOf (v .answer)) (placeOf (v .answer)) (v .frame)
+pub said-refused : (v : Verdict) (text : List ℕ) → (numberOf (v .answer) ≡ 0 → ⊥) → text ≡ inWords (numberOf (v .answer)) (placeOf (v .answer)) (v .frame)
     → text ≡ lineOf v
 unfolding lineOf
 said-refused v text ne e =
-    e ∙ sym (not-success (v .answer) (ascii "accepted\n") (refusal (numberOf (v .answer)) (placeOf (v .answer)) (v .frame)) (λ z. ne (ap numberOf z)))
+    e ∙ sym (not-success (v .answer) (ascii "accepted\n") (inWords (numberOf (v .answer)) (placeOf (v .answer)) (v .frame)) (λ z. ne (ap numberOf z)))
 
 quiet : (n : Next) → numberOf (n .judged .verdict .answer) ≡ 0 → said (n .judged .state) (n .memory) [] ≡ saidOf n
 unfolding saidOf

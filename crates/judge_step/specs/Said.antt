@@ -7,14 +7,14 @@ use Rattle.runs.specs.declared.State.{State}
 use Rattle.runs.specs.Answers.{numberOf, onSuccess, placeOf}
 use Rattle.runs.specs.Lent.{Memory}
 use Rattle.text.specs.Letters.{ascii}
-use Rattle.messages.specs.Lines.{refusal}
+use Rattle.messages.specs.Lines.{inWords}
 use Rattle.dumps.specs.declared.Verdict.{Verdict}
 use Rattle.dumps.specs.Judged.{verdict}
 use Rattle.dumps.specs.Next.{Next, judgedOne}
 
--- the line of a verdict: accepted, or the answer's number and place and the L1 frame
+-- the line of a verdict: accepted, or the answer's number and place and the L1 frame, with the cause in words behind it, which goes to standard error
 unfoldable pub lineOf : Verdict → List ℕ
-lineOf v = onSuccess (v .answer) (ascii "accepted\n") (refusal (numberOf (v .answer)) (placeOf (v .answer)) (v .frame))
+lineOf v = onSuccess (v .answer) (ascii "accepted\n") (inWords (numberOf (v .answer)) (placeOf (v .answer)) (v .frame))
 
 -- after the last of `count` L1 frames: the dump is accepted, unless it goes on
 abbrev pub afterLast : (more : Bool) (count : ℕ) → Verdict

@@ -9,9 +9,9 @@ ghost use Rattle.io.specs.Counts.{Counts};
 ghost use Rattle.calls.specs.Called.{memory};
 ghost use Rattle.judge_step.specs.Said.{afterLast, judgeBytes, lineOf, said};
 
-// Puts the line of a verdict.
+// Puts the line of a verdict, and behind a refusal the cause in words.
 pub fn put_line(verdict: Verdict, out: &mut [u8]) -> usize
-    requires { ⌜ 91 ≤ length (now out) ⌝ }
+    requires { ⌜ 251 ≤ length (now out) ⌝ }
     ensures { λ r. ⌜ Counts r (now (out .exit)) × (take r (now (out .exit)) ≡ lineOf verdict) ⌝ }
 {
     let answer = verdict.answer;
@@ -21,7 +21,7 @@ pub fn put_line(verdict: Verdict, out: &mut [u8]) -> usize
     }
     let place = causes::place(answer);
     let frame = verdict.frame;
-    messages::put_refusal(out, number, place, frame as u64)
+    messages::put_in_words(out, number, place, frame as u64)
 }
 
 // The verdict after the last of `count` L1 frames.
@@ -36,7 +36,7 @@ fn after_last(more: bool, count: usize) -> Verdict
 
 // Puts the line after the last of `count` L1 frames.
 pub fn put_last(more: bool, count: usize, out: &mut [u8]) -> usize
-    requires { ⌜ 91 ≤ length (now out) ⌝ }
+    requires { ⌜ 251 ≤ length (now out) ⌝ }
     ensures { λ r. ⌜ Counts r (now (out .exit)) × (take r (now (out .exit)) ≡ lineOf (afterLast more count)) ⌝ }
 {
     put_line(after_last(more, count), out)
@@ -59,7 +59,7 @@ pub fn judge_bytes(
     delay: &mut [u8],
     out: &mut [u8],
 ) -> Judged
-    requires { ⌜ 91 ≤ length (now out) ⌝ }
+    requires { ⌜ 251 ≤ length (now out) ⌝ }
     ensures { λ r. ⌜ Counts (r .length) (now (out .exit))
         × (said (r .state) (memory (now (memory3 .exit)) (now (memory4 .exit)) (now (delay .exit))) (take (r .length) (now (out .exit)))
         ≡ judgeBytes mode t state (memory (now (memory3 .entry)) (now (memory4 .entry)) (now (delay .entry))) (now (bytes .entry))) ⌝ }

@@ -7,12 +7,13 @@ ghost use mathlib.Core.Path.{_≡_};
 ghost use Prim.Native.Nat.{_≤_};
 ghost use lib.ListN.{length, take};
 ghost use Rattle.io.specs.Counts.{Counts};
-ghost use Rattle.messages.specs.Lines.{goesOn, refusal};
+ghost use Rattle.text.specs.Put.{Put};
+ghost use Rattle.messages.specs.Lines.{goesOn, inWords, refusal};
 
 // Puts the line of a refused call: the answer's number and place, and the L1 frame, numbered from 0.
-pub fn put_refusal(out: &mut [u8], number: u8, place: usize, frame: u64) -> usize
+fn put_line(out: &mut [u8], number: u8, place: usize, frame: u64) -> usize
     requires { ⌜ 91 ≤ length (now out) ⌝ }
-    ensures { λ r. ⌜ Counts r (now (out .exit)) × (take r (now (out .exit)) ≡ refusal number place frame) ⌝ }
+    ensures { λ r. ⌜ Put (now (out .entry)) (now (out .exit)) 0 r 91 (refusal number place frame) ⌝ }
 {
     let a = put(out, 0, b"refused: number ");
     let b = field(out, a, number as u64, b' ');
@@ -22,11 +23,29 @@ pub fn put_refusal(out: &mut [u8], number: u8, place: usize, frame: u64) -> usiz
     field(out, e, frame, b'\n')
 }
 
+// Puts the line of a refused call, and the cause in words.
+pub fn put_in_words(out: &mut [u8], number: u8, place: usize, frame: u64) -> usize
+    requires { ⌜ 251 ≤ length (now out) ⌝ }
+    ensures { λ r. ⌜ Counts r (now (out .exit)) × (take r (now (out .exit)) ≡ inWords number place frame) ⌝ }
+{
+    let n = put_line(out, number, place, frame);
+    cause_words::put_words(out, n, number as u64)
+}
+
+// Prints the first line of a text, and says the rest on standard error.
+pub fn tell(lines: &[u8]) {
+    let end = text::end_of(lines, 0, b'\n');
+    let n = programs::within(end + 1, lines);
+    if write_out(&lines[..n]) {
+        io::write_all(STDERR_FILENO, &lines[n..]);
+    }
+}
+
 // Says with which answer an L1 frame was refused.
 pub fn refuse(number: u8, place: usize, frame: u64) {
-    let mut line = [0u8; 91];
-    let n = put_refusal(&mut line, number, place, frame);
-    io::write_all(STDERR_FILENO, &line[..n]);
+    let mut lines = [0u8; 251];
+    let n = put_in_words(&mut lines, number, place, frame);
+    io::write_all(STDERR_FILENO, &lines[..n]);
 }
 
 // Puts the line for an input that goes on behind its last L1 frame, where L1 frame `frame` would stand.

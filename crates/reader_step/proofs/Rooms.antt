@@ -35,7 +35,7 @@ module _ (mode : ℕ) (want : List ℕ) (lengths : want ≡ wanted mode (readerL
 
   -- and what is written has room
   pub rooms-fit : (n : ℕ) → 41313 ≤ n
-      → (91 ≤ n)
+      → (251 ≤ n)
       × (1 + length (take (getD want 0 0) (replicate {A = ℕ} 18272 0)) + length {A = ℕ} (replicate 160 0)
       + length (take (getD want 2 0) (replicate {A = ℕ} 13664 0)) + length (take (getD want 3 0) (replicate {A = ℕ} 4608 0)) + length (take (getD want 4 0) (replicate {A = ℕ} 4608 0)) ≤ n)
   rooms-fit n h =

@@ -68,7 +68,7 @@ fn put_returned(
     put_unless(late3, out, e, p4)
 }
 
-// Reads L1 frame `frame` into buffers of its frames, and puts what is written: what it returns, or the line of the refusal.
+// Reads L1 frame `frame` into buffers of its frames, and puts what is written: what it returns, or the lines of the refusal.
 fn read_lent(
     state: State,
     frame: u64,
@@ -83,7 +83,7 @@ fn read_lent(
     memory4: &mut [u8],
     delay: &mut [u8],
 ) -> Stepped
-    requires { ⌜ (91 ≤ length (now out))
+    requires { ⌜ (251 ≤ length (now out))
         × (1 + length (now p1) + length (now pids) + length (now p2) + length (now p3) + length (now p4) ≤ length (now out)) ⌝ }
     ensures { λ r. ⌜ Counts (r .length) (now (out .exit))
         × (step (r .state) (memory (now (memory3 .exit)) (now (memory4 .exit)) (now (delay .exit))) (r .done) (take (r .length) (now (out .exit)))
@@ -111,7 +111,7 @@ fn read_lent(
     let number = causes::number(answer);
     if number != 0 {
         let place = causes::place(answer);
-        let length = messages::put_refusal(out, number, place, frame);
+        let length = messages::put_in_words(out, number, place, frame);
         return Stepped {
             state: next,
             done: false,

@@ -36,6 +36,10 @@ taken text times = go (isScale text)
     go true e = e
     go false e = never times e
 
+-- what is taken is a number of single precision
+pub single-typed : (text : List ℕ) (times : ℕ) → scaleOf text ≡ Times times → isSingle times ≡ true
+single-typed text times e = exact-times (decimals text) times (taken text times e) .0
+
 -- times 2^-16 is n times 10^-16
 in-decimal : (x : Float) (n times : ℕ) → n ≡ times * 152587890625 → HasValue x false times 65536 → HasValue x false n (10 ^ 16)
 in-decimal nan n times e h = absurd h

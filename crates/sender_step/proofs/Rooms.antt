@@ -49,7 +49,7 @@ module _ (mode : ℕ) (want : List ℕ) (lengths : want ≡ wanted mode (senderL
 
   -- and what is written has room
   pub rooms-fit : (n : ℕ) → 77824 ≤ n
-      → (91 ≤ n)
+      → (251 ≤ n)
       × (length {A = ℕ} (replicate 46080 0) + length (take (getD want 6 0) (replicate {A = ℕ} 9216 0))
       + length (take (getD want 7 0) (replicate {A = ℕ} 18432 0)) + length {A = ℕ} (replicate 4096 0) ≤ n)
   rooms-fit n h = (

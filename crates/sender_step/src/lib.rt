@@ -23,7 +23,7 @@ fn put_signal(out: &mut [u8], pm: &[u8], px1: &[u8], px2: &[u8], control: &[u8])
     text::put(out, c, control)
 }
 
-// Sends L1 frame `frame` into buffers of its signal, and puts what is written: PM, PX1, PX2 and control, or the line of the refusal.
+// Sends L1 frame `frame` into buffers of its signal, and puts what is written: PM, PX1, PX2 and control, or the lines of the refusal.
 fn send_lent(
     state: State,
     n3: usize,
@@ -39,7 +39,7 @@ fn send_lent(
     memory4: &mut [u8],
     delay: &mut [u8],
 ) -> Stepped
-    requires { ⌜ (91 ≤ length (now out)) × (length (now pm) + length (now px1) + length (now px2) + length (now control) ≤ length (now out)) ⌝ }
+    requires { ⌜ (251 ≤ length (now out)) × (length (now pm) + length (now px1) + length (now px2) + length (now control) ≤ length (now out)) ⌝ }
     ensures { λ r. ⌜ Counts (r .length) (now (out .exit))
         × (step (r .state) (memory (now (memory3 .exit)) (now (memory4 .exit)) (now (delay .exit))) (r .done) (take (r .length) (now (out .exit)))
         ≡ stepOf signalBytes frame (inputStep n3 n4 state (memory (now (memory3 .entry)) (now (memory4 .entry)) (now (delay .entry)))
@@ -63,7 +63,7 @@ fn send_lent(
     let number = causes::number(answer);
     if number != 0 {
         let place = causes::place(answer);
-        let length = messages::put_refusal(out, number, place, frame);
+        let length = messages::put_in_words(out, number, place, frame);
         return Stepped {
             state: next,
             done: false,

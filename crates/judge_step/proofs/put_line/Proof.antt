@@ -1,6 +1,6 @@
 -- `put_line` meets its contract. Assumes nothing.
 use mathlib.Core.Path.{_∙_, sym}
-use Rattle.messages.specs.Lines.{refusal}
+use Rattle.messages.specs.Lines.{inWords}
 use Rattle.judge_step.proofs.Lines.{accepted-put, said-refused}
 use borrow.Author.Needs.{needs}
 use Rattle.judge_step.proofs.put_line.Statement.{statement}
@@ -24,8 +24,8 @@ returns c = accepted-put (c .before .before .before .before .before .before .bef
 place-requires : tie.Need-place-requires
 place-requires c κs = search needs
 
-put-refusal-requires : tie.Need-put-refusal-requires
-put-refusal-requires c κs = search needs
+put-in-words-requires : tie.Need-put-in-words-requires
+put-in-words-requires c κs = search needs
 
 same-length-2 : tie.Need-same-length-2
 same-length-2 c = search needs
@@ -34,7 +34,7 @@ returns-2 : tie.Need-returns-2
 returns-2 c =
     let v = c .before .before .before .before .before .before .before .before .args .verdict in
     let n = c .before .before .before .before .before .before .number .ensures in
-    (c .before .before .put-refusal .ensures .0, said-refused v _ (λ z. c .before .before .before .before .before .if1 .left (n ∙ z)) (c .before .before .put-refusal .ensures .1 ∙ (λ i. refusal (n i) (c .before .before .before .before .place .ensures i) (v .frame))))
+    (c .before .before .put-in-words .ensures .0, said-refused v _ (λ z. c .before .before .before .before .before .if1 .left (n ∙ z)) (c .before .before .put-in-words .ensures .1 ∙ (λ i. inWords (n i) (c .before .before .before .before .place .ensures i) (v .frame))))
 
 pub put-line-spec : {M : Type 1} → statement M
 put-line-spec =
@@ -46,6 +46,6 @@ put-line-spec =
     same-length
     returns
     place-requires
-    put-refusal-requires
+    put-in-words-requires
     same-length-2
     returns-2)

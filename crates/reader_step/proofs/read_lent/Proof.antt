@@ -1,7 +1,7 @@
 -- `read_lent` meets its contract: the L1 frame was read, or it was refused. Assumes nothing.
 use mathlib.Core.Path.{_∙_, sym}
 use native.Mathlib.Omega.{arith}
-use Rattle.messages.specs.Lines.{refusal}
+use Rattle.messages.specs.Lines.{inWords}
 use Rattle.steps.proofs.Taken.{was-done, was-refused}
 use Rattle.reader_step.specs.Returned.{frameBytes}
 use borrow.Author.Needs.{needs}
@@ -17,8 +17,8 @@ number-requires c κs = search needs
 place-requires : tie.Need-place-requires
 place-requires c κs = search needs
 
-put-refusal-requires : tie.Need-put-refusal-requires
-put-refusal-requires c κs = c .before .before .before .before .before .before .before .before .before .before .before .before .before .before .before .before .before .before .before .before .before .before .before .before .before .before .before .before .before .before .before .before .before .before .before .before .before .before .before .before .pre .0
+put-in-words-requires : tie.Need-put-in-words-requires
+put-in-words-requires c κs = c .before .before .before .before .before .before .before .before .before .before .before .before .before .before .before .before .before .before .before .before .before .before .before .before .before .before .before .before .before .before .before .before .before .before .before .before .before .before .before .before .pre .0
 
 same-length : tie.Need-same-length
 same-length c = search needs
@@ -51,9 +51,9 @@ returns : tie.Need-returns
 returns c =
     let a = c .before .before .before .before .before .before .before .before .before .before .before .before .before .before .before .before .before .before .before .before .before .before .before .before .before .before .before .before .before .before .before .before .before .before .before .before .before .before .before .before .before .before .before .args in
     let n = c .before .before .before .before .before .before .number .ensures in (
-      c .before .before .put-refusal .ensures .0,
+      c .before .before .put-in-words .ensures .0,
       was-refused (frameBytes (a .state .age)) (a .frame) _ _ _ (c .before .before .before .before .before .before .before .before .before .before .before .before .before .before .before .before .before .before .before .before .before .before .before .before .read-bytes .ensures) (λ z. c .before .before .before .before .before .if1 .taken (n ∙ z))
-          (c .before .before .put-refusal .ensures .1 ∙ (λ i. refusal (n i) (c .before .before .before .before .place .ensures i) (a .frame))),
+          (c .before .before .put-in-words .ensures .1 ∙ (λ i. inWords (n i) (c .before .before .before .before .place .ensures i) (a .frame))),
     )
 
 put-returned-requires : tie.Need-put-returned-requires
@@ -98,7 +98,7 @@ read-lent-spec =
     read-bytes-requires
     number-requires
     place-requires
-    put-refusal-requires
+    put-in-words-requires
     same-length
     same-length-2
     same-length-3

@@ -2,7 +2,7 @@
 use borrow.Author.Needs.{needs}
 use mathlib.Core.Path.{_∙_, sym}
 use native.Mathlib.Omega.{arith}
-use Rattle.messages.specs.Lines.{refusal}
+use Rattle.messages.specs.Lines.{inWords}
 use Rattle.steps.proofs.Taken.{was-done, was-refused}
 use Rattle.sender_step.specs.Written.{signalBytes}
 use Rattle.sender_step.proofs.send_lent.Statement.{statement}
@@ -17,8 +17,8 @@ number-requires c κs = search needs
 place-requires : tie.Need-place-requires
 place-requires c κs = search needs
 
-put-refusal-requires : tie.Need-put-refusal-requires
-put-refusal-requires c κs = c .before .before .before .before .before .before .before .before .before .before .before .before .before .before .before .before .before .before .before .before .before .before .before .before .before .before .before .before .before .before .before .before .before .before .before .before .pre .0
+put-in-words-requires : tie.Need-put-in-words-requires
+put-in-words-requires c κs = c .before .before .before .before .before .before .before .before .before .before .before .before .before .before .before .before .before .before .before .before .before .before .before .before .before .before .before .before .before .before .before .before .before .before .before .before .pre .0
 
 same-length : tie.Need-same-length
 same-length c = search needs
@@ -46,9 +46,9 @@ same-length-8 c = search needs
 
 returns : tie.Need-returns
 returns c = (
-  c .before .before .put-refusal .ensures .0,
+  c .before .before .put-in-words .ensures .0,
   was-refused signalBytes (c .before .before .before .before .before .before .before .before .before .before .before .before .before .before .before .before .before .before .before .before .before .before .before .before .before .before .before .before .before .before .before .before .before .before .before .before .before .before .before .args .frame) _ _ _ (c .before .before .before .before .before .before .before .before .before .before .before .before .before .before .before .before .before .before .before .before .before .before .send-input .ensures) (λ z. c .before .before .before .before .before .if1 .taken (c .before .before .before .before .before .before .number .ensures ∙ z))
-      (c .before .before .put-refusal .ensures .1 ∙ (λ i. refusal (c .before .before .before .before .before .before .number .ensures i) (c .before .before .before .before .place .ensures i) (c .before .before .before .before .before .before .before .before .before .before .before .before .before .before .before .before .before .before .before .before .before .before .before .before .before .before .before .before .before .before .before .before .before .before .before .before .before .before .before .args .frame))),
+      (c .before .before .put-in-words .ensures .1 ∙ (λ i. inWords (c .before .before .before .before .before .before .number .ensures i) (c .before .before .before .before .place .ensures i) (c .before .before .before .before .before .before .before .before .before .before .before .before .before .before .before .before .before .before .before .before .before .before .before .before .before .before .before .before .before .before .before .before .before .before .before .before .before .before .before .args .frame))),
 )
 
 put-signal-requires : tie.Need-put-signal-requires
@@ -91,7 +91,7 @@ send-lent-spec =
     send-input-requires
     number-requires
     place-requires
-    put-refusal-requires
+    put-in-words-requires
     same-length
     same-length-2
     same-length-3

@@ -1,0 +1,4 @@
+pub mod Digits
+pub mod Parts
+pub mod Printable
+pub mod Texts
