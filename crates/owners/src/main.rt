@@ -1,7 +1,5 @@
 // owners MODE: reads lines that ask for a cell or for a coded bit of an L1 frame, and prints whose bit stands in the cell, or in which cell the bit stands.
-use libc::STDERR_FILENO;
 use libc::STDIN_FILENO;
-use libc::STDOUT_FILENO;
 use operands::Operand;
 use ownerlines::Progress;
 ghost use mathlib.Core.Path.{_≡_};
@@ -28,18 +26,6 @@ fn room() -> [u8; 819200]
     [0; 819200]
 }
 
-// Writes a text, and says where that failed.
-fn write(text: &[u8]) -> bool {
-    if io::write_all(STDOUT_FILENO, text) {
-        return true;
-    }
-    io::write_all(
-        STDERR_FILENO,
-        b"not written: standard output takes no more\n",
-    );
-    false
-}
-
 // Reads a block of the input, and writes what is printed for the lines that end in it. Where it cannot be written, nothing more is answered.
 fn answer_block(mode: u8, at: Progress, line: &mut [u8], out: &mut [u8]) -> Turn
     requires { ⌜ (at .held ≤ 4096) × (length (now line) ≡ 4096) × (length (now out) ≡ 819200) × (at .number + 4096 < 2 ^ 64) ⌝ }
@@ -53,7 +39,7 @@ fn answer_block(mode: u8, at: Progress, line: &mut [u8], out: &mut [u8]) -> Turn
     let n = io::count(got, &block);
     let next = ownerlines::answer(mode, at, &block[..n], line, out);
     let end = next.end;
-    if !write(&out[..end]) {
+    if !programs::write_out(&out[..end]) {
         return Turn {
             at: ownerlines::start(),
             more: false,
@@ -91,34 +77,33 @@ fn run(mode: u8) {
     let mut out = room();
     let last = answer_all(mode, ownerlines::start(), &mut line, &mut out);
     let end = ownerlines::finish(mode, last, &line, &mut out);
-    write(&out[..end]);
-}
-
-// Says how the program is started.
-fn usage() {
-    io::write_all(STDERR_FILENO, b"usage: owners MODE (1, 2, 3 or 11)\n");
+    programs::write_out(&out[..end]);
 }
 
 // Answers in a mode that has a finder.
-fn run_in(mode: u64) {
+fn run_in(mode: u64, line: &[u8]) {
     match mode {
         1 => run(1),
         2 => run(2),
         3 => run(3),
         11 => run(11),
-        _ => usage(),
+        _ => programs::usage(line),
     }
 }
 
 fn main() {
+    let line = b"owners MODE (1, 2, 3 or 11)";
+    if programs::gives_help(line) {
+        return;
+    }
     if os::arg_count() != 2 {
-        usage();
+        programs::usage(line);
         return;
     }
     let mut text = io::buffer();
     let n = os::arg(1, &mut text);
     match operands::decimal(&text[..n]) {
-        Operand::Number(mode) => run_in(mode),
-        Operand::NotDecimal => usage(),
+        Operand::Number(mode) => run_in(mode, line),
+        Operand::NotDecimal => programs::usage(line),
     }
 }
