@@ -1,3 +1,4 @@
+pub mod Cells
 pub mod Cases
 pub mod Turned
 pub mod Said

@@ -3,6 +3,7 @@ mod finder;
 mod locator;
 mod older;
 mod second;
+mod writing;
 
 pub use finder::FoundPxIn;
 pub use finder::find_px_in;

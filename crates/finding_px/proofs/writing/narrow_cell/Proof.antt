@@ -1,0 +1,126 @@
+-- `writing::narrow_cell` meets its contract: the law `narrow-place`. Assumes nothing.
+use native.Mathlib.Omega.{arith}
+use Rattle.finding_px.proofs.Cells.{narrow-place, narrow-lt}
+use borrow.Author.Needs.{needs}
+use Rattle.finding_px.proofs.writing.narrow_cell.Statement.{statement}
+use Rattle.finding_px.proofs.writing.narrow_cell.Tie as tie
+
+array-read-partition-of-4 : tie.Need-array-read-partition-of-4
+array-read-partition-of-4 c = search needs
+
+div-partition-of-4 : tie.Need-div-partition-of-4
+div-partition-of-4 c = search needs
+
+array-read-partition-of-4-2 : tie.Need-array-read-partition-of-4-2
+array-read-partition-of-4-2 c = search needs
+
+rem-partition-of-4 : tie.Need-rem-partition-of-4
+rem-partition-of-4 c = search needs
+
+partition-of-4-requires : tie.Need-partition-of-4-requires
+partition-of-4-requires c κs = search needs
+
+array-read-k : tie.Need-array-read-k
+array-read-k c = search needs
+
+array-read-k-2 : tie.Need-array-read-k-2
+array-read-k-2 c = search needs
+
+mul-k : tie.Need-mul-k
+mul-k c = search needs
+
+div-k : tie.Need-div-k
+div-k c = search needs
+
+add-b : tie.Need-add-b
+add-b c = search needs
+
+array-read-b : tie.Need-array-read-b
+array-read-b c = search needs
+
+rem-b : tie.Need-rem-b
+rem-b c = search needs
+
+mul-result : tie.Need-mul-result
+mul-result c = search needs
+
+mul-result-2 : tie.Need-mul-result-2
+mul-result-2 c = search needs
+
+add-result : tie.Need-add-result
+add-result c = search needs
+
+array-read-result : tie.Need-array-read-result
+array-read-result c = search needs
+
+array-read-result-2 : tie.Need-array-read-result-2
+array-read-result-2 c = search needs
+
+mul-result-3 : tie.Need-mul-result-3
+mul-result-3 c = search needs
+
+mul-result-4 : tie.Need-mul-result-4
+mul-result-4 c = search needs
+
+array-read-result-3 : tie.Need-array-read-result-3
+array-read-result-3 c = search needs
+
+mul-result-5 : tie.Need-mul-result-5
+mul-result-5 c = search needs
+
+mul-result-6 : tie.Need-mul-result-6
+mul-result-6 c = search needs
+
+add-result-2 : tie.Need-add-result-2
+add-result-2 c = search needs
+
+array-read-result-4 : tie.Need-array-read-result-4
+array-read-result-4 c = search needs
+
+rem-result : tie.Need-rem-result
+rem-result c = search needs
+
+add-result-3 : tie.Need-add-result-3
+add-result-3 c = search needs
+
+add-result-4 : tie.Need-add-result-4
+add-result-4 c = search needs
+
+returns : tie.Need-returns
+returns c =
+    let i = c .before .args .i in
+    let e = narrow-place i _ (c .partition-of-4 .ensures .0) in
+    (e, omega (arith, e, narrow-lt i (c .before .pre)))
+
+pub narrow-cell-spec : {M : Type 1} → statement M
+narrow-cell-spec =
+    tie.close
+    (tie.spec
+    array-read-partition-of-4
+    div-partition-of-4
+    array-read-partition-of-4-2
+    rem-partition-of-4
+    partition-of-4-requires
+    array-read-k
+    array-read-k-2
+    mul-k
+    div-k
+    add-b
+    array-read-b
+    rem-b
+    mul-result
+    mul-result-2
+    add-result
+    array-read-result
+    array-read-result-2
+    mul-result-3
+    mul-result-4
+    array-read-result-3
+    mul-result-5
+    mul-result-6
+    add-result-2
+    array-read-result-4
+    rem-result
+    add-result-3
+    add-result-4
+    returns)
