@@ -1,7 +1,6 @@
 -- The cells of a P1' frame's bits in closed form, and their bounds. Assumes nothing.
 use mathlib.Core.Path.{_≡_, refl, ap}
 use Prim.Native.Nat.{ℕ, zero, suc, _+_, _*_, _/_, _%_, _≤_, _<_}
-use native.Mathlib.Nat.{mul-le-mul-right}
 use native.Mathlib.Omega.{arith}
 use lib.ListN.{getD}
 use Rattle.interleaving.specs.Matrix.{matrixRow, matrixColumn, cellOf}
@@ -57,7 +56,3 @@ unfolding frameBits
 bits-le zero h = omega arith
 bits-le (suc zero) h = omega arith
 bits-le (suc (suc row)) h = absurd (omega arith)
-
--- the frames below f, and frame f, have room among the eight
-pub frame-le : (f n : ℕ) → f < 8 → f * n + n ≤ 8 * n
-frame-le f n h = let l : f + 1 ≤ 8 = omega arith in omega (arith, mul-le-mul-right n l)
