@@ -166,7 +166,7 @@ uint64_t layer1_pm_row(size_t row, const uint8_t *pm, size_t pm_len);
 uint64_t layer1_px_row(uint8_t channel, size_t row, const uint8_t *px1, size_t px1_len, const uint8_t *px2, size_t px2_len);
 
 /* The answer sheet for an input: a list of cells, an empty line, and count L1 frames, each its reserved number and its transfer frames, as
- * README.md says under "A sheet for a sitting". without_p3 and without_p4: a channel has no bytes in the L1 frames (0: it has). work: below each
+ * docs/MANUAL.md says of the program sheet. without_p3 and without_p4: a channel has no bytes in the L1 frames (0: it has). work: below each
  * answer that names a coded bit stands the line of its working (0: none does). Writes the text to out, or the one line, NO SHEET and why, and
  * zeros behind it, so that it is a C string. out has at least LAYER1_SHEET_ROOM bytes; a shorter one is refused under 3 at place 1, and nothing
  * is written. Returns an answer word. Text of any kind is a success. */
