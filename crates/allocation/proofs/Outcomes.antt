@@ -9,11 +9,11 @@ use lib.Dec.{eqb, ltb}
 use lib.ListN.{get_or, length, length-append, length-replicate, replicate}
 use Rattle.runs.specs.declared.Answer.TheVariants.{Success, WrongLength, SharesTooMany}
 use Rattle.runs.specs.Answers.{number_of}
-use Rattle.allocation.specs.Allocation.{granted, outcome, places_of, bySource, shared, total}
+use Rattle.allocation.specs.Allocation.{granted, outcome, places_of, by_source, shared, total}
 use Rattle.bits.specs.Listed.{listed}
-use Rattle.allocation.specs.Owners.{ownerOf}
+use Rattle.allocation.specs.Owners.{owner_of}
 use Rattle.allocation.specs.Promises.{Owner, Promises, count}
-use Rattle.bits.proofs.Listed.{getD-listed}
+use Rattle.bits.proofs.Listed.{get_or-listed}
 use Rattle.allocation.proofs.Owned.{owner-range, owner-rises}
 use Rattle.allocation.proofs.Turns.{Sound, sound}
 use Rattle.allocation.proofs.Even.{Even, all-even, none_left}
@@ -32,19 +32,19 @@ module _ (shares waiting : List ℕ) (few : total 8 shares ≤ 16) where
   unfolding granted
   left = none_left shares waiting few 128 (omega arith)
 
-  full : length (bySource 8 0 (granted shares waiting).given) + (granted shares waiting).left ≡ 16
+  full : length (by_source 8 0 (granted shares waiting).given) + (granted shares waiting).left ≡ 16
   unfolding total
   full = omega (arith, by-source-length 8 0 (granted shares waiting).given, end.sixteen)
 
-  pub by-owner : listed 16 (ownerOf 8 0 (granted shares waiting).given) ≡ places_of (granted shares waiting)
+  pub by-owner : listed 16 (owner_of 8 0 (granted shares waiting).given) ≡ places_of (granted shares waiting)
   unfolding places_of
   by-owner =
-      ap (λ (n : ℕ). listed n (ownerOf 8 0 (granted shares waiting).given)) (sym full)
+      ap (λ (n : ℕ). listed n (owner_of 8 0 (granted shares waiting).given)) (sym full)
       ∙ owned 8 0 (granted shares waiting).given (granted shares waiting).left
 
-  place_at : (q : ℕ) → q < 16 → get_or (places_of (granted shares waiting)) q 0 ≡ ownerOf 8 0 (granted shares waiting).given q
+  place_at : (q : ℕ) → q < 16 → get_or (places_of (granted shares waiting)) q 0 ≡ owner_of 8 0 (granted shares waiting).given q
   place_at q h =
-      ap (λ (l : List ℕ). get_or l q 0) (sym by-owner) ∙ getD-listed 16 (ownerOf 8 0 (granted shares waiting).given) q 0 h
+      ap (λ (l : List ℕ). get_or l q 0) (sym by-owner) ∙ get_or-listed 16 (owner_of 8 0 (granted shares waiting).given) q 0 h
 
   ordered : (q r : ℕ) → q ≤ r → r < 16 → get_or (places_of (granted shares waiting)) q 0 ≤ get_or (places_of (granted shares waiting)) r 0
   ordered q r l h = omega (arith, place_at q (omega arith), place_at r h, owner-rises 8 0 (granted shares waiting).given q r (omega arith) l)
@@ -54,7 +54,7 @@ module _ (shares waiting : List ℕ) (few : total 8 shares ≤ 16) where
   counted d h =
       let given = (granted shares waiting).given in
       let left = (granted shares waiting).left in
-      omega (arith, count-both d (bySource 8 0 given) (replicate left 255), count-idle-other d left (λ z. omega arith), count-run d 8 0 given h, zero_left d, ap (λ (x : ℕ). count x (bySource 8 0 given)) (zero_left d), ap (λ (x : ℕ). get_or given x 0) (zero_left d))
+      omega (arith, count-both d (by_source 8 0 given) (replicate left 255), count-idle-other d left (λ z. omega arith), count-run d 8 0 given h, zero_left d, ap (λ (x : ℕ). count x (by_source 8 0 given)) (zero_left d), ap (λ (x : ℕ). get_or given x 0) (zero_left d))
     where
       zero_left : (x : ℕ) → 0 + x ≡ x
       zero_left x = omega arith
@@ -64,14 +64,14 @@ module _ (shares waiting : List ℕ) (few : total 8 shares ≤ 16) where
   idle =
       let given = (granted shares waiting).given in
       let left = (granted shares waiting).left in
-      omega (arith, count-both 255 (bySource 8 0 given) (replicate left 255), count-idle left, count_none 255 8 0 given (λ j l z. omega arith))
+      omega (arith, count-both 255 (by_source 8 0 given) (replicate left 255), count-idle left, count_none 255 8 0 given (λ j l z. omega arith))
 
   pub promised : Promises shares waiting (places_of (granted shares waiting))
   unfolding places_of
   promised =
       record {
-        sixteen = length-append (bySource 8 0 (granted shares waiting).given) (replicate (granted shares waiting).left 255)
-            ∙ ap (λ (n : ℕ). length (bySource 8 0 (granted shares waiting).given) + n) (length-replicate (granted shares waiting).left 255) ∙ full;
+        sixteen = length-append (by_source 8 0 (granted shares waiting).given) (replicate (granted shares waiting).left 255)
+            ∙ ap (λ (n : ℕ). length (by_source 8 0 (granted shares waiting).given) + n) (length-replicate (granted shares waiting).left 255) ∙ full;
         owned = λ q h. subst Owner (sym (place_at q h)) (owner-range (granted shares waiting).given q);
         in_order = ordered;
         not-fewer = λ d h. omega (arith, counted d h, end.fewest d h);
@@ -95,12 +95,12 @@ module _ (shares waiting places : List ℕ) where
     unfolding shared
     too_many h = rw (eq-eqb (length places) 16 e, lt-ltb 16 (total 8 shares) h)
 
-    pub done : total 8 shares ≤ 16 → (given out : List ℕ) → out ≡ listed 16 (ownerOf 8 0 given) → given ≡ (granted shares waiting).given
+    pub done : total 8 shares ≤ 16 → (given out : List ℕ) → out ≡ listed 16 (owner_of 8 0 given) → given ≡ (granted shares waiting).given
         → outcome Success out ≡ shared shares waiting places
     unfolding shared
     done h given out o g =
         rw (eq-eqb (length places) 16 e, le-ltb 16 (total 8 shares) h)
-        (ap (outcome Success) (o ∙ ap (λ (l : List ℕ). listed 16 (ownerOf 8 0 l)) g ∙ by-owner shares waiting h))
+        (ap (outcome Success) (o ∙ ap (λ (l : List ℕ). listed 16 (owner_of 8 0 l)) g ∙ by-owner shares waiting h))
 
   -- every call whose answer has the number 0 keeps the promises
   pub promises : number_of (shared shares waiting places).answer ≡ 0 → Promises shares waiting (shared shares waiting places).places

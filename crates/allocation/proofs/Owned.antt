@@ -8,12 +8,12 @@ use native.Mathlib.Omega.{arith}
 use borrow.Author.Tests.{ltb-true, ltb-false}
 use lib.Dec.{ltb}
 use lib.ListN.{get_or}
-use Rattle.allocation.specs.Owners.{ownerOf}
+use Rattle.allocation.specs.Owners.{owner_of}
 use Rattle.allocation.specs.Promises.{Owner}
 
 -- k sources from source d on
-range : (k d : ℕ) (given : List ℕ) (q : ℕ) → (ownerOf k d given q < d + k) ⊎ (ownerOf k d given q ≡ 255)
-unfolding ownerOf
+range : (k d : ℕ) (given : List ℕ) (q : ℕ) → (owner_of k d given q < d + k) ⊎ (owner_of k d given q ≡ 255)
+unfolding owner_of
 range zero d given q = inr refl
 range (suc k) d given q = go (ltb q (get_or given d 0)) (range k (suc d) given (q - get_or given d 0))
   where
@@ -22,11 +22,11 @@ range (suc k) d given q = go (ltb q (get_or given d 0)) (range k (suc d) given (
     go false (inl l) = inl (omega arith)
     go false (inr e) = inr e
 
-pub owner-range : (given : List ℕ) (q : ℕ) → Owner (ownerOf 8 0 given q)
+pub owner-range : (given : List ℕ) (q : ℕ) → Owner (owner_of 8 0 given q)
 owner-range given q = range 8 0 given q
 
-at_least : (k d : ℕ) (given : List ℕ) (q : ℕ) → d + k ≤ 255 → d ≤ ownerOf k d given q
-unfolding ownerOf
+at_least : (k d : ℕ) (given : List ℕ) (q : ℕ) → d + k ≤ 255 → d ≤ owner_of k d given q
+unfolding owner_of
 at_least zero d given q h = omega arith
 at_least (suc k) d given q h = go (ltb q (get_or given d 0)) (at_least k (suc d) given (q - get_or given d 0) (omega arith))
   where
@@ -34,8 +34,8 @@ at_least (suc k) d given q h = go (ltb q (get_or given d 0)) (at_least k (suc d)
     go true l = omega arith
     go false l = omega arith
 
-pub owner-rises : (k d : ℕ) (given : List ℕ) (q r : ℕ) → d + k ≤ 255 → q ≤ r → ownerOf k d given q ≤ ownerOf k d given r
-unfolding ownerOf
+pub owner-rises : (k d : ℕ) (given : List ℕ) (q r : ℕ) → d + k ≤ 255 → q ≤ r → owner_of k d given q ≤ owner_of k d given r
+unfolding owner_of
 owner-rises zero d given q r h l = omega arith
 owner-rises (suc k) d given q r h l =
     let n = get_or given d 0 in

@@ -9,7 +9,7 @@ use borrow.Author.Tests.{lt-ltb, le-ltb}
 use lib.ListN.{get_or, set}
 use Rattle.allocation.specs.declared.Grants.{Grants}
 use Rattle.allocation.specs.Allocation.{total, turn, turns, first}
-use Rattle.allocation.specs.Owners.{ownerOf}
+use Rattle.allocation.specs.Owners.{owner_of}
 
 pub total-more : (k : ℕ) (l : List ℕ) → total (k + 1) l ≡ total k l + get_or l k 0
 unfolding total
@@ -23,16 +23,16 @@ module _ (given : List ℕ) (d rest : ℕ) (h : d < 8) where
   one_left : 8 - d ≡ suc (8 - (d + 1))
   one_left = omega arith
 
-  pub here : rest < get_or given d 0 → ownerOf (8 - d) d given rest ≡ d
-  unfolding ownerOf
-  here l = ap (λ (k : ℕ). ownerOf k d given rest) one_left ∙ rw (lt-ltb rest (get_or given d 0) l)
+  pub here : rest < get_or given d 0 → owner_of (8 - d) d given rest ≡ d
+  unfolding owner_of
+  here l = ap (λ (k : ℕ). owner_of k d given rest) one_left ∙ rw (lt-ltb rest (get_or given d 0) l)
 
-  pub further : get_or given d 0 ≤ rest → ownerOf (8 - d) d given rest ≡ ownerOf (8 - (d + 1)) (d + 1) given (rest - get_or given d 0)
-  unfolding ownerOf
-  further l = ap (λ (k : ℕ). ownerOf k d given rest) one_left ∙ rw (le-ltb rest (get_or given d 0) l, add-one d)
+  pub further : get_or given d 0 ≤ rest → owner_of (8 - d) d given rest ≡ owner_of (8 - (d + 1)) (d + 1) given (rest - get_or given d 0)
+  unfolding owner_of
+  further l = ap (λ (k : ℕ). owner_of k d given rest) one_left ∙ rw (le-ltb rest (get_or given d 0) l, add-one d)
 
-pub nobody : (given : List ℕ) (d rest : ℕ) → 8 ≤ d → ownerOf (8 - d) d given rest ≡ 255
-unfolding ownerOf
+pub nobody : (given : List ℕ) (d rest : ℕ) → 8 ≤ d → owner_of (8 - d) d given rest ≡ 255
+unfolding owner_of
 nobody given d rest h = let e : 8 - d ≡ 0 = omega arith in rw e
 
 -- ---- a turn

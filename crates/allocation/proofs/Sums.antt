@@ -8,11 +8,11 @@ use native.Mathlib.Omega.{arith}
 use lib.ListN.{get_or, length, set}
 use lib.Seq.{get_or-set_same, get_or-set_other}
 use Rattle.allocation.specs.Allocation.{total, smaller}
-use Rattle.bits.proofs.Listed.{getD-listed}
+use Rattle.bits.proofs.Listed.{get_or-listed}
 
 pub smaller-at : (shares waiting : List ℕ) (d : ℕ) → d < 8 → get_or (smaller shares waiting) d 0 ≡ min (get_or shares d 0) (get_or waiting d 0)
 unfolding smaller
-smaller-at shares waiting d h = getD-listed 8 (λ d. min (get_or shares d 0) (get_or waiting d 0)) d 0 h
+smaller-at shares waiting d h = get_or-listed 8 (λ d. min (get_or shares d 0) (get_or waiting d 0)) d 0 h
 
 pub total-smaller : (shares waiting : List ℕ) (k : ℕ) → k ≤ 8 → total k (smaller shares waiting) ≤ total k shares
 unfolding total

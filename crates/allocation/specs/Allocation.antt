@@ -36,13 +36,13 @@ unfoldable pub granted : (shares waiting : List ℕ) → Grants
 granted shares waiting = turns shares waiting 128
 
 -- source by source, the lowest first: k sources from source d on
-unfoldable pub bySource : ℕ → ℕ → List ℕ → List ℕ
-bySource zero d given = []
-bySource (suc k) d given = replicate (get_or given d 0) d ++ bySource k (suc d) given
+unfoldable pub by_source : ℕ → ℕ → List ℕ → List ℕ
+by_source zero d given = []
+by_source (suc k) d given = replicate (get_or given d 0) d ++ by_source k (suc d) given
 
 -- remaining places carry a frame of zeros: 255
 unfoldable pub places_of : Grants → List ℕ
-places_of s = bySource 8 0 s.given ++ replicate s.left 255
+places_of s = by_source 8 0 s.given ++ replicate s.left 255
 
 -- ---- the call
 

@@ -1,7 +1,7 @@
 // Document 02, S-4: eight sources share the sixteen PIDS places of an L1 frame.
 ghost use Rattle.std.specs.Prelude.{◌≡◌, List, ℕ, ◌+◌, ◌<◌, ◌≤◌, min, length};
 ghost use Rattle.allocation.specs.Allocation.{granted, first, outcome, shared, smaller, total, turn};
-ghost use Rattle.allocation.specs.Owners.{ownerOf};
+ghost use Rattle.allocation.specs.Owners.{owner_of};
 ghost use Rattle.bits.specs.Listed.{listed};
 
 use runs::Answer;
@@ -112,7 +112,7 @@ fn rounds(start: Grants, waiting: [u8; 8]) -> Grants
 
 // Whose place q is: the places go source by source, and past the last source's is 255.
 fn owner(given: [u8; 8], q: usize) -> u8
-    ensures { result ≡ ownerOf 8 0 given q }
+    ensures { result ≡ owner_of 8 0 given q }
 {
     let mut rest = q;
     let mut d: usize = 0;
@@ -130,7 +130,7 @@ fn owner(given: [u8; 8], q: usize) -> u8
 // Writes the sixteen places.
 fn write_places(given: [u8; 8], places: &mut [u8])
     requires { length places.old ≡ 16 }
-    ensures { places.new ≡ listed 16 (ownerOf 8 0 given) }
+    ensures { places.new ≡ listed 16 (owner_of 8 0 given) }
 {
     let mut q: usize = 0;
     while q < 16 {

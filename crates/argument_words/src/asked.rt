@@ -1,6 +1,6 @@
 // What the words of a program ask for.
 ghost use Rattle.std.specs.Prelude.{◌≡◌};
-ghost use Rattle.argument_words.specs.Asked.{channelsIn, fourth, modeAndCount, noneIn, number_in, oddOf, readingIn, scaledIn, sendingIn, summingIn, third};
+ghost use Rattle.argument_words.specs.Asked.{channels_in, fourth, mode_and_count, none_in, number_in, odd_of, reading_in, scaled_in, sending_in, summing_in, third};
 ghost use Rattle.argument_words.specs.Asked.{asked as «asked_by»};
 
 use crate::cut::{before_last, ends_with, first_word, other_words};
@@ -30,7 +30,7 @@ pub enum Asked {
 
 // MODE and COUNT.
 pub fn mode_and_count(text: &[u8]) -> Arguments
-    ensures { result ≡ modeAndCount text.now }
+    ensures { result ≡ mode_and_count text.now }
 {
     let mode = decimal(first_word(text));
     let count = decimal(first_word(other_words(text)));
@@ -39,7 +39,7 @@ pub fn mode_and_count(text: &[u8]) -> Arguments
 
 // The words for channels without data.
 fn channels_in(text: &[u8]) -> Channels
-    ensures { result ≡ channelsIn text.now }
+    ensures { result ≡ channels_in text.now }
 {
     if same(text, b"") {
         return Channels::Without {
@@ -67,7 +67,7 @@ fn channels_in(text: &[u8]) -> Channels
 
 // No words.
 fn none_in(text: &[u8]) -> Channels
-    ensures { result ≡ noneIn text.now }
+    ensures { result ≡ none_in text.now }
 {
     if same(text, b"") {
         return Channels::Without {
@@ -101,7 +101,7 @@ fn join(arguments: Arguments, channels: Channels, last: bool) -> Asked
 
 // MODE COUNT [without P3|P4|P3 P4] [LAST]: the last word is lent with the zero byte that ends it.
 pub fn sending(last: &[u8], text: &[u8]) -> Asked
-    ensures { result ≡ sendingIn last.now text.now }
+    ensures { result ≡ sending_in last.now text.now }
 {
     let behind = other_words(other_words(text));
     let channels = channels_in(before_last(last, behind));
@@ -110,7 +110,7 @@ pub fn sending(last: &[u8], text: &[u8]) -> Asked
 
 // MODE COUNT [LAST].
 pub fn reading(last: &[u8], text: &[u8]) -> Asked
-    ensures { result ≡ readingIn last.now text.now }
+    ensures { result ≡ reading_in last.now text.now }
 {
     let behind = other_words(other_words(text));
     let channels = none_in(before_last(last, behind));
@@ -150,7 +150,7 @@ pub enum Summed {
 
 // A mode, a count and an odd number of runs.
 fn odd_of(arguments: Arguments, number: Operand) -> Summed
-    ensures { result ≡ oddOf arguments number }
+    ensures { result ≡ odd_of arguments number }
 {
     match arguments {
         Arguments::Run { mode, count } => {
@@ -170,7 +170,7 @@ fn odd_of(arguments: Arguments, number: Operand) -> Summed
 
 // MODE COUNT N, N odd (document 02, S-14).
 pub fn summing(text: &[u8]) -> Summed
-    ensures { result ≡ summingIn text.now }
+    ensures { result ≡ summing_in text.now }
 {
     if same(other_words(other_words(other_words(text))), b"") {
         return odd_of(mode_and_count(text), decimal(third_word(text)));
@@ -180,7 +180,7 @@ pub fn summing(text: &[u8]) -> Summed
 
 // MODE SYMBOL and two words more (document 02, S-7).
 pub fn scaled(text: &[u8]) -> Arguments
-    ensures { result ≡ scaledIn text.now }
+    ensures { result ≡ scaled_in text.now }
 {
     if same(
         other_words(other_words(other_words(other_words(text)))),

@@ -5,37 +5,37 @@ use mathlib.Core.List.{List}
 use Prim.Native.Nat.{ℕ}
 use lib.ListN.{get_or}
 use Rattle.runs.specs.declared.Extended.TheVariants.{P3, P4}
-use Rattle.runs.specs.Lengths.{kind_of, frameLen}
+use Rattle.runs.specs.Lengths.{kind_of, frame_len}
 use Rattle.modes.specs.Sizes.{wanted}
 use Rattle.arguments.specs.declared.Sending.TheVariants.{Run, Wrong}
-use Rattle.arguments.specs.Arguments.{carried_of, misnamed, sendingOf}
+use Rattle.arguments.specs.Arguments.{carried_of, misnamed, sending_of}
 
 module _ (mode count m3 m4 : ℕ) (want : List ℕ) (w : want ≡ wanted mode m3 m4) (without3 without4 : Bool) where
-  third : get_or want 3 0 ≡ frameLen (kind_of mode P3)
+  third : get_or want 3 0 ≡ frame_len (kind_of mode P3)
   third = ap (λ (l : List ℕ). get_or l 3 0) w
 
-  fourth : get_or want 4 0 ≡ frameLen (kind_of mode P4)
+  fourth : get_or want 4 0 ≡ frame_len (kind_of mode P4)
   fourth = ap (λ (l : List ℕ). get_or l 4 0) w
 
   module _ (b : Bool) (e : b ≡ misnamed (get_or want 3 0) without3) where
-    found3 : (v : Bool) → b ≡ v → misnamed (frameLen (kind_of mode P3)) without3 ≡ v
+    found3 : (v : Bool) → b ≡ v → misnamed (frame_len (kind_of mode P3)) without3 ≡ v
     found3 v h = sym (ap (λ (n : ℕ). misnamed n without3) third) ∙ sym e ∙ h
 
-    pub p3-misnamed : b ≡ true → Wrong ≡ sendingOf mode count without3 without4
-    unfolding sendingOf
+    pub p3-misnamed : b ≡ true → Wrong ≡ sending_of mode count without3 without4
+    unfolding sending_of
     p3-misnamed h = rw (found3 true h)
 
     module _ (h : b ≡ false) (d : Bool) (f : d ≡ misnamed (get_or want 4 0) without4) where
-      found4 : (v : Bool) → d ≡ v → misnamed (frameLen (kind_of mode P4)) without4 ≡ v
+      found4 : (v : Bool) → d ≡ v → misnamed (frame_len (kind_of mode P4)) without4 ≡ v
       found4 v g = sym (ap (λ (n : ℕ). misnamed n without4) fourth) ∙ sym f ∙ g
 
-      pub p4-misnamed : d ≡ true → Wrong ≡ sendingOf mode count without3 without4
-      unfolding sendingOf
+      pub p4-misnamed : d ≡ true → Wrong ≡ sending_of mode count without3 without4
+      unfolding sending_of
       p4-misnamed g = rw (found3 false h, found4 true g)
 
       pub both-named : d ≡ false → (n3 n4 : ℕ) → n3 ≡ carried_of (get_or want 3 0) without3 → n4 ≡ carried_of (get_or want 4 0) without4
-          → Run mode count n3 n4 ≡ sendingOf mode count without3 without4
-      unfolding sendingOf
+          → Run mode count n3 n4 ≡ sending_of mode count without3 without4
+      unfolding sending_of
       both-named g n3 n4 e3 e4 =
           rw (found3 false h, found4 false g)
           (λ i. Run mode count ((e3 ∙ ap (λ (n : ℕ). carried_of n without3) third) i) ((e4 ∙ ap (λ (n : ℕ). carried_of n without4) fourth) i))

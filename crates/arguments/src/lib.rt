@@ -1,6 +1,6 @@
 // What the arguments of a run's program say: a mode and a count of L1 frames; of a sender's also the channels without data.
 ghost use Rattle.std.specs.Prelude.{◌≡◌};
-ghost use Rattle.arguments.specs.Arguments.{argumentsOf, carried_of, misnamed, mode_of, sendingOf};
+ghost use Rattle.arguments.specs.Arguments.{arguments_of, carried_of, misnamed, mode_of, sending_of};
 
 use operands::Operand;
 
@@ -22,7 +22,7 @@ pub fn mode_of(number: u64) -> u8
 
 // The arguments from each alone.
 pub fn arguments_of(mode: Operand, count: Operand) -> Arguments
-    ensures { result ≡ argumentsOf mode count }
+    ensures { result ≡ arguments_of mode count }
 {
     match mode {
         Operand::Number(number) => {
@@ -72,7 +72,7 @@ pub fn is_misnamed(want: usize, without: bool) -> bool
 
 // What a sender's program is to do, from the mode, the count and the channels without data.
 pub fn sending_of(mode: u8, count: u64, without3: bool, without4: bool) -> Sending
-    ensures { result ≡ sendingOf mode count without3 without4 }
+    ensures { result ≡ sending_of mode count without3 without4 }
 {
     let want = modes::sender_lengths(mode);
     if is_misnamed(want[3], without3) {

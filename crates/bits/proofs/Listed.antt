@@ -15,11 +15,11 @@ unfolding listed
 length-listed zero f = refl
 length-listed (suc n) f = ap suc (length-listed n (λ k. f (suc k)))
 
-pub getD-listed : {A : Type 0} (n : ℕ) (f : ℕ → A) (k : ℕ) (d : A) → k < n → get_or (listed n f) k d ≡ f k
+pub get_or-listed : {A : Type 0} (n : ℕ) (f : ℕ → A) (k : ℕ) (d : A) → k < n → get_or (listed n f) k d ≡ f k
 unfolding listed
-getD-listed zero f k d h = absurd (omega arith)
-getD-listed (suc n) f zero d h = refl
-getD-listed (suc n) f (suc k) d h = getD-listed n (λ j. f (suc j)) k d (omega arith)
+get_or-listed zero f k d h = absurd (omega arith)
+get_or-listed (suc n) f zero d h = refl
+get_or-listed (suc n) f (suc k) d h = get_or-listed n (λ j. f (suc j)) k d (omega arith)
 
 pub listed-cong : {A : Type 0} (n : ℕ) (f g : ℕ → A) → ((k : ℕ) → k < n → f k ≡ g k) → listed n f ≡ listed n g
 unfolding listed

@@ -15,12 +15,12 @@ unfolding packed
 length-packed zero f = refl
 length-packed (suc n) f = ap suc (length-packed n (λ i. f (8 + i)))
 
-pub getD-packed : (n : ℕ) (f : ℕ → ℕ) (j : ℕ) → j < n → get_or (packed n f) j 0 ≡ byte_of f j
+pub get_or-packed : (n : ℕ) (f : ℕ → ℕ) (j : ℕ) → j < n → get_or (packed n f) j 0 ≡ byte_of f j
 unfolding packed
-getD-packed zero f j h = omega arith
-getD-packed (suc n) f zero h = number-cong 8 f _ (λ i l. ap f (omega arith))
-getD-packed (suc n) f (suc j) h =
-    getD-packed n (λ i. f (8 + i)) j (omega arith) ∙ number-cong 8 _ _ (λ i l. ap f (omega arith))
+get_or-packed zero f j h = omega arith
+get_or-packed (suc n) f zero h = number-cong 8 f _ (λ i l. ap f (omega arith))
+get_or-packed (suc n) f (suc j) h =
+    get_or-packed n (λ i. f (8 + i)) j (omega arith) ∙ number-cong 8 _ _ (λ i l. ap f (omega arith))
 
 pub packed-cong : (n : ℕ) (f g : ℕ → ℕ) → ((i : ℕ) → i < 8 * n → f i ≡ g i) → packed n f ≡ packed n g
 unfolding packed
@@ -33,7 +33,7 @@ pub packed-bytes : (n : ℕ) (f : ℕ → ℕ) → ((i : ℕ) → i < 8 * n → 
 packed-bytes n f h j = go (dec_lt j n)
   where
     go : Dec (j < n) → get_or (packed n f) j 0 < 256
-    go (yes m) = rw (getD-packed n f j m) (number_lt 8 _ (λ k l. h (8 * j + k) (omega arith)))
+    go (yes m) = rw (get_or-packed n f j m) (number_lt 8 _ (λ k l. h (8 * j + k) (omega arith)))
     go (no m) =
         let e : length (packed n f) ≤ j = omega (arith, length-packed n f) in
         rw (get_or-eq_default (packed n f) 0 e) (omega arith)
@@ -43,31 +43,31 @@ unfolding bit_at
 bit_at_lt l i = omega arith
 
 -- bit k of byte j
-pub bitAt-digit : (l : List ℕ) (j k : ℕ) → k < 8 → bit_at l (8 * j + k) ≡ digit (get_or l j 0) (7 - k)
+pub bit_at-digit : (l : List ℕ) (j k : ℕ) → k < 8 → bit_at l (8 * j + k) ≡ digit (get_or l j 0) (7 - k)
 unfolding bit_at digit
-bitAt-digit l j k h =
+bit_at-digit l j k h =
     let q : (8 * j + k) / 8 ≡ j = omega arith in
     let r : (8 * j + k) % 8 ≡ k = omega arith in
     rw (q, r)
 
-pub bitAt-packed : (n : ℕ) (f : ℕ → ℕ) → ((i : ℕ) → i < 8 * n → f i < 2) → (i : ℕ) → i < 8 * n → bit_at (packed n f) i ≡ f i
-bitAt-packed n f h i l =
+pub bit_at-packed : (n : ℕ) (f : ℕ → ℕ) → ((i : ℕ) → i < 8 * n → f i < 2) → (i : ℕ) → i < 8 * n → bit_at (packed n f) i ≡ f i
+bit_at-packed n f h i l =
     let e : 8 * (i / 8) + i % 8 ≡ i = omega arith in
     rw (← e)
-    (bitAt-digit (packed n f) (i / 8) (i % 8) (omega arith)
-    ∙ ap (λ (x : ℕ). digit x (7 - i % 8)) (getD-packed n f (i / 8) (omega arith))
+    (bit_at-digit (packed n f) (i / 8) (i % 8) (omega arith)
+    ∙ ap (λ (x : ℕ). digit x (7 - i % 8)) (get_or-packed n f (i / 8) (omega arith))
     ∙ number-digit 8 (λ k. f (8 * (i / 8) + k)) (λ k m. h (8 * (i / 8) + k) (omega arith)) (i % 8) (omega arith))
 
-pub packed-bitAt : (n : ℕ) (l : List ℕ) → length l ≡ n → Bytes l → packed n (bit_at l) ≡ l
-packed-bitAt n l e b =
+pub packed-bit_at : (n : ℕ) (l : List ℕ) → length l ≡ n → Bytes l → packed n (bit_at l) ≡ l
+packed-bit_at n l e b =
     ext_get_or 0 (packed n (bit_at l)) l (length-packed n (bit_at l) ∙ sym e)
-    (λ j h. getD-packed n (bit_at l) j (omega (arith, length-packed n (bit_at l)))
-    ∙ number-cong 8 _ _ (λ k m. bitAt-digit l j k m)
+    (λ j h. get_or-packed n (bit_at l) j (omega (arith, length-packed n (bit_at l)))
+    ∙ number-cong 8 _ _ (λ k m. bit_at-digit l j k m)
     ∙ byte-digits (get_or l j 0) (b j))
 
 -- bytes whose bits are f's are f packed: what a function that wrote them bit by bit returns
 pub packed-of : (n : ℕ) (l : List ℕ) (f : ℕ → ℕ) → length l ≡ n → Bytes l → ((i : ℕ) → i < 8 * n → bit_at l i ≡ f i) → l ≡ packed n f
-packed-of n l f e b h = sym (packed-bitAt n l e b) ∙ packed-cong n (bit_at l) f h
+packed-of n l f e b h = sym (packed-bit_at n l e b) ∙ packed-cong n (bit_at l) f h
 
 -- the same from an equation of streams
 pub packed-as : (n : ℕ) (l : List ℕ) (f : ℕ → ℕ) → length l ≡ n → Bytes l → bit_at l ≡ f → l ≡ packed n f

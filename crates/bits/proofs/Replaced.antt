@@ -16,13 +16,13 @@ use Rattle.bits.proofs.Tests.{all-at}
 use Rattle.bits.proofs.Written.{put_same, put_other}
 use Rattle.bits.proofs.Numbers.{digit, digit_lt}
 
-pub bitAt-set-here : (l : List ℕ) (j x i : ℕ) → j < length l → i / 8 ≡ j → bit_at (set l j x) i ≡ digit x (7 - i % 8)
+pub bit_at-set-here : (l : List ℕ) (j x i : ℕ) → j < length l → i / 8 ≡ j → bit_at (set l j x) i ≡ digit x (7 - i % 8)
 unfolding bit_at digit
-bitAt-set-here l j x i h e = ap (λ (y : ℕ). y / 2 ^ (7 - i % 8) % 2) (rw (e, get_or-set_same l j x 0 h))
+bit_at-set-here l j x i h e = ap (λ (y : ℕ). y / 2 ^ (7 - i % 8) % 2) (rw (e, get_or-set_same l j x 0 h))
 
-pub bitAt-set-there : (l : List ℕ) (j x i : ℕ) → (i / 8 ≡ j → ⊥) → bit_at (set l j x) i ≡ bit_at l i
+pub bit_at-set-there : (l : List ℕ) (j x i : ℕ) → (i / 8 ≡ j → ⊥) → bit_at (set l j x) i ≡ bit_at l i
 unfolding bit_at
-bitAt-set-there l j x i h = ap (λ (y : ℕ). y / 2 ^ (7 - i % 8) % 2) (get_or-set_other l j (i / 8) x 0 h)
+bit_at-set-there l j x i h = ap (λ (y : ℕ). y / 2 ^ (7 - i % 8) % 2) (get_or-set_other l j (i / 8) x 0 h)
 
 digit_and : (a b t : ℕ) → digit (bit_and a b) t ≡ min (digit a t) (digit b t)
 unfolding digit
@@ -77,7 +77,7 @@ module _ (l : List ℕ) (n b : ℕ) (h : n < 8 * length l) (hb : b < 2) where
 
   in-byte : (i : ℕ) → i / 8 ≡ n / 8 → bit_at (set l (n / 8) byte) i ≡ cond (eqb (7 - i % 8) (7 - n % 8)) b (digit (get_or l (n / 8) 0) (7 - i % 8))
   in-byte i e =
-      bitAt-set-here l (n / 8) byte i (omega arith) e
+      bit_at-set-here l (n / 8) byte i (omega arith) e
       ∙ stored-digit (get_or l (n / 8) 0) (7 - n % 8) b (7 - i % 8) (omega arith) hb (omega arith)
 
   this-bit : bit_at (set l (n / 8) byte) n ≡ b
@@ -96,4 +96,4 @@ module _ (l : List ℕ) (n b : ℕ) (h : n < 8 * length l) (hb : b < 2) where
       go : (i : ℕ) → Dec (i ≡ n) → Dec (i / 8 ≡ n / 8) → bit_at (set l (n / 8) byte) i ≡ put n b (bit_at l) i
       go i (yes d) q = rw d (this-bit ∙ sym (put_same n b (bit_at l)))
       go i (no d) (yes e) = other-bit i e d ∙ sym (put_other n b (bit_at l) i d)
-      go i (no d) (no e) = bitAt-set-there l (n / 8) byte i e ∙ sym (put_other n b (bit_at l) i d)
+      go i (no d) (no e) = bit_at-set-there l (n / 8) byte i e ∙ sym (put_other n b (bit_at l) i d)

@@ -11,7 +11,7 @@ use lib.Bits.{bit_xor, bit_or, differ, xor_step}
 use Rattle.bits.specs.Bits.{bit_at, number, byte_of, packed}
 use Rattle.bits.proofs.Words.{push-bit}
 use Rattle.bits.proofs.Numbers.{number-cong, number_lt, byte-digits}
-use Rattle.bits.proofs.Packed.{bitAt-digit, packed_more}
+use Rattle.bits.proofs.Packed.{bit_at-digit, packed_more}
 
 differ-bits : (x y : ℕ) → x < 2 → y < 2 → differ x y ≡ (x + y) % 2
 differ-bits zero zero h l = refl
@@ -43,7 +43,7 @@ number-xor (suc k) f h b d =
 
 -- the eight bits of a byte are the byte
 pub byte-number : (bytes : List ℕ) (i : ℕ) → get_or bytes i 0 < 256 → number 8 (λ k. bit_at bytes (8 * i + k)) ≡ get_or bytes i 0
-byte-number bytes i h = number-cong 8 _ _ (λ k m. bitAt-digit bytes i k m) ∙ byte-digits (get_or bytes i 0) h
+byte-number bytes i h = number-cong 8 _ _ (λ k m. bit_at-digit bytes i k m) ∙ byte-digits (get_or bytes i 0) h
 
 -- one turn of a loop that makes a byte: the next bit is pushed in
 pub number-turn : (f : ℕ → ℕ) → ((i : ℕ) → f i < 2) → (n k a b : ℕ) → k < 8 → a ≡ number k (λ i. f (n + i)) → b ≡ f (n + k)

@@ -11,8 +11,8 @@ use lib.ListN.{take, drop}
 use Rattle.bits.specs.Tests.{lowest}
 use Rattle.bits.proofs.Tests.{lowest-at, lowest-below, lowest-passes, lowest-none, lowest-up-to}
 use Rattle.control.specs.Departs.{block_at}
-use Rattle.control.specs.Lookup.{lookedUp}
-use Rattle.blockset.specs.LookupFrame.{no_block, fitting, named, says, faulty, unfit, lookedUpFrame}
+use Rattle.control.specs.Lookup.{looked_up}
+use Rattle.blockset.specs.LookupFrame.{no_block, fitting, named, says, faulty, unfit, looked_up_frame}
 use Rattle.control.specs.declared.Looked.{Looked}
 use Rattle.blockset.specs.declared.LookedFrame.{LookedFrame}
 use Rattle.blockset.specs.declared.LookedFrame.TheVariants.{Faulty, Unfit}
@@ -45,11 +45,11 @@ unfolding lowest
 none-fitted p = refl
 
 -- the part that is lent for block c
-pub says-part : (c : ℕ) (control : List ℕ) → lookedUp (take (c * 256 + 256 - c * 256) (drop (c * 256) control)) ≡ says control c
+pub says-part : (c : ℕ) (control : List ℕ) → looked_up (take (c * 256 + 256 - c * 256) (drop (c * 256) control)) ≡ says control c
 unfolding says block_at
 says-part c control =
     let e : c * 256 + 256 - c * 256 ≡ 256 = omega arith in
-    ap (λ (n : ℕ). lookedUp (take n (drop (c * 256) control))) e
+    ap (λ (n : ℕ). looked_up (take n (drop (c * 256) control))) e
 
 module _ (control : List ℕ) where
   -- block c, which says b, is looked at
@@ -61,8 +61,8 @@ module _ (control : List ℕ) where
     pub not-faulty : t ≡ false → faulty control c ≡ false
     not-faulty f = is-faulty ∙ f
 
-    pub first-faulty : c < 16 → ((i : ℕ) → i < c → faulty control i ≡ false) → t ≡ true → Faulty c ≡ lookedUpFrame control
-    unfolding lookedUpFrame
+    pub first-faulty : c < 16 → ((i : ℕ) → i < c → faulty control i ≡ false) → t ≡ true → Faulty c ≡ looked_up_frame control
+    unfolding looked_up_frame
     first-faulty h below f = rw (lowest-at 16 c (faulty control) h below (is-faulty ∙ f), lt-ltb c 16 h)
 
   -- and compared with the first
@@ -81,10 +81,10 @@ module _ (control : List ℕ) where
     fitted-is : lowest 16 (unfit control) ≡ fitted
     fitted-is = ap (λ (n : ℕ). lowest n (unfit control)) (sym e) ∙ sym g
 
-    pub first-unfit : fitted < 16 → Unfit fitted ≡ lookedUpFrame control
-    unfolding lookedUpFrame
+    pub first-unfit : fitted < 16 → Unfit fitted ≡ looked_up_frame control
+    unfolding looked_up_frame
     first-unfit h = rw (none-faulty, fitted-is, lt-ltb fitted 16 h)
 
-    pub all_fit : (first : Looked) (r : LookedFrame) → first ≡ says control 0 → r ≡ named first → 16 ≤ fitted → r ≡ lookedUpFrame control
-    unfolding lookedUpFrame
+    pub all_fit : (first : Looked) (r : LookedFrame) → first ≡ says control 0 → r ≡ named first → 16 ≤ fitted → r ≡ looked_up_frame control
+    unfolding looked_up_frame
     all_fit first r s n h = rw (none-faulty, fitted-is, le-ltb fitted 16 h) (n ∙ ap named s)

@@ -9,10 +9,10 @@ use lib.Dec.{eqb}
 use lib.ListN.{length, take, drop, length-append, length-drop}
 use lib.Seq.{take_at, drop-append-add, drop-drop}
 use Rattle.bits.proofs.Tests.{lowest-at, lowest-none}
-use Rattle.control.specs.Control.{block_of, controlOf}
+use Rattle.control.specs.Control.{block_of, control_of}
 use Rattle.control.specs.Departs.{block_at}
 use Rattle.control.specs.Modes.{modes, one_of, covered}
-use Rattle.blockset.specs.LookupFrame.{no_block, fitting, says, faulty, unfit, lookedUpFrame}
+use Rattle.blockset.specs.LookupFrame.{no_block, fitting, says, faulty, unfit, looked_up_frame}
 use Rattle.control.specs.declared.Looked.{Looked}
 use Rattle.control.specs.declared.Looked.TheVariants.{Found}
 use Rattle.blockset.specs.declared.LookedFrame.TheVariants.{Unfit}
@@ -21,24 +21,24 @@ use Rattle.control.proofs.Sent.{block-at, block-length, control-length}
 
 -- a first block and the fifteen others of a control
 abbrev pub mixed : (m z m' z' : ℕ) → List ℕ
-mixed m z m' z' = block_of m 0 z ++ drop 256 (controlOf m' z')
+mixed m z m' z' = block_of m 0 z ++ drop 256 (control_of m' z')
 
 -- Sixteen blocks, none faulty by itself, that are refused as a set.
 pub record OneByOne (control : List ℕ) (place : ℕ) : Type 0 where
   pub long : length control ≡ 4096
   pub each : (c : ℕ) → c < 16 → faulty control c ≡ false
-  pub refused : lookedUpFrame control ≡ Unfit place
+  pub refused : looked_up_frame control ≡ Unfit place
 
 module _ (m z m' z' : ℕ) (cov : covered m ≡ true) (hz : z < 8) (cov' : covered m' ≡ true) (hz' : z' < 8) where
   abbrev w : List ℕ
   w = mixed m z m' z'
 
-  rest-length : length (drop 256 (controlOf m' z')) ≡ 3840
-  rest-length = omega (arith, length-drop 256 (controlOf m' z'), control-length m' z')
+  rest-length : length (drop 256 (control_of m' z')) ≡ 3840
+  rest-length = omega (arith, length-drop 256 (control_of m' z'), control-length m' z')
 
   first-is : block_at w 0 ≡ block_of m 0 z
   unfolding block_at
-  first-is = take_at (block_of m 0 z) (drop 256 (controlOf m' z')) 256 (block-length m 0 z)
+  first-is = take_at (block_of m 0 z) (drop 256 (control_of m' z')) 256 (block-length m 0 z)
 
   other-is : (k : ℕ) → k < 15 → block_at w (suc k) ≡ block_of m' (suc k) z'
   unfolding block_at
@@ -46,7 +46,7 @@ module _ (m z m' z' : ℕ) (cov : covered m ≡ true) (hz : z < 8) (cov' : cover
       let e : suc k * 256 ≡ length (block_of m 0 z) + k * 256 = omega (arith, block-length m 0 z) in
       let d : 256 + k * 256 ≡ suc k * 256 = omega arith in
       ap (λ (n : ℕ). take 256 (drop n w)) e
-      ∙ ap (take 256) (drop-append-add (block_of m 0 z) (drop 256 (controlOf m' z')) (k * 256) ∙ drop-drop (k * 256) 256 (controlOf m' z') ∙ ap (λ (n : ℕ). drop n (controlOf m' z')) d)
+      ∙ ap (take 256) (drop-append-add (block_of m 0 z) (drop 256 (control_of m' z')) (k * 256) ∙ drop-drop (k * 256) 256 (control_of m' z') ∙ ap (λ (n : ℕ). drop n (control_of m' z')) d)
       ∙ block-at m' z' (suc k) (omega arith)
 
   says_first : says w 0 ≡ Found m 0 z
@@ -81,10 +81,10 @@ module _ (m z m' z' : ℕ) (cov : covered m ≡ true) (hz : z < 8) (cov' : cover
         ∙ rw (tests (eqb m' m) (eqb z' z) refl refl)
 
     pub one_by_one : OneByOne w 1
-    unfolding lookedUpFrame
+    unfolding looked_up_frame
     one_by_one =
         record {
-          long = length-append (block_of m 0 z) (drop 256 (controlOf m' z')) ∙ omega (arith, block-length m 0 z, rest-length);
+          long = length-append (block_of m 0 z) (drop 256 (control_of m' z')) ∙ omega (arith, block-length m 0 z, rest-length);
           each = none-faulty;
           refused =
               rw (

@@ -9,10 +9,10 @@ use lib.Dec.{eqb, ltb}
 use lib.ListN.{length}
 use Rattle.bits.specs.Tests.{lowest}
 use Rattle.bits.proofs.Tests.{and-true, same_true, lowest-below, lowest-none}
-use Rattle.control.specs.Control.{block_of, controlOf}
+use Rattle.control.specs.Control.{block_of, control_of}
 use Rattle.control.specs.Departs.{block_at, number_in, departs, strays}
 use Rattle.control.specs.Modes.{covered}
-use Rattle.blockset.specs.LookupFrame.{no_block, fitting, named, says, faulty, unfit, lookedUpFrame}
+use Rattle.blockset.specs.LookupFrame.{no_block, fitting, named, says, faulty, unfit, looked_up_frame}
 use Rattle.control.specs.declared.Looked.{Looked}
 use Rattle.control.specs.declared.Looked.TheVariants.{Found, NotABlock}
 use Rattle.blockset.specs.declared.LookedFrame.{LookedFrame}
@@ -39,18 +39,18 @@ module _ (control : List ℕ) (m z : ℕ) (cov : covered m ≡ true) (hz : z < 8
   unfolding unfit
   never-unfit c hc = ap₂ (λ (x y : Looked). not (fitting x c y)) (says_so 0 (omega arith)) (says_so c hc) ∙ ap not (fitting-itself m z c)
 
-  pub of-its-blocks : lookedUpFrame control ≡ Of m z
-  unfolding lookedUpFrame
+  pub of-its-blocks : looked_up_frame control ≡ Of m z
+  unfolding looked_up_frame
   of-its-blocks =
       rw (lowest-none 16 (faulty control) never-faulty, lowest-none 16 (unfit control) never-unfit) (ap named (says_so 0 (omega arith)))
 
 -- The control of a covered mode and a number is accepted with them.
-pub control-accepted : (m z : ℕ) → covered m ≡ true → z < 8 → lookedUpFrame (controlOf m z) ≡ Of m z
-control-accepted m z cov hz = of-its-blocks (controlOf m z) m z cov hz (block-at m z)
+pub control-accepted : (m z : ℕ) → covered m ≡ true → z < 8 → looked_up_frame (control_of m z) ≡ Of m z
+control-accepted m z cov hz = of-its-blocks (control_of m z) m z cov hz (block-at m z)
 
 -- What strays nowhere in a reading is accepted with its mode and its number.
 pub reading-accepted : (m : ℕ) (control : List ℕ) → covered m ≡ true → ((c : ℕ) → c < 16 → strays m control c ≡ false)
-    → lookedUpFrame control ≡ Of m (number_in m control)
+    → looked_up_frame control ≡ Of m (number_in m control)
 unfolding strays departs
 reading-accepted m control cov h =
     of-its-blocks control m (number_in m control) cov (number-in-lt m control) (λ c hc. same_true _ _ (not-false _ (h c hc)))
@@ -76,9 +76,9 @@ accepted-cases true t a b x m z e = let z : ◌≡◌ {A = ℕ} 0 1 = cc in absu
 accepted-cases false true a b x m z e = let z : ◌≡◌ {A = ℕ} 0 1 = cc in absurd (omega arith)
 accepted-cases false false a b x m z e = (refl, e)
 
-module _ (control : List ℕ) (m z : ℕ) (e : lookedUpFrame control ≡ Of m z) where
+module _ (control : List ℕ) (m z : ℕ) (e : looked_up_frame control ≡ Of m z) where
   cases : (ltb (lowest 16 (unfit control)) 16 ≡ false) × (named (says control 0) ≡ Of m z)
-  unfolding lookedUpFrame
+  unfolding looked_up_frame
   cases =
       let bad : ℕ = lowest 16 (faulty control) in
       let odd : ℕ = lowest 16 (unfit control) in
@@ -97,7 +97,7 @@ module _ (control : List ℕ) (m z : ℕ) (e : lookedUpFrame control ≡ Of m z)
   pub accepted-number : z < 8
   accepted-number = (each 0 (omega arith)).number-low
 
-  pub accepted-is : length control ≡ 4096 → control ≡ controlOf m z
+  pub accepted-is : length control ≡ 4096 → control ≡ control_of m z
   accepted-is l = control-is m z control l (λ c hc. (each c hc).block-is)
 
 -- ---- what is refused: a block that is faulty by itself is the block of no covered mode, count and number

@@ -2,7 +2,7 @@
 use Rattle.std.specs.Prelude.{ℕ, List, Bool, true, false, cond, not, ◌&&◌, eqb, ltb}
 use Rattle.bits.specs.Tests.{lowest}
 use Rattle.control.specs.Departs.{block_at}
-use Rattle.control.specs.Lookup.{lookedUp}
+use Rattle.control.specs.Lookup.{looked_up}
 use Rattle.control.specs.declared.Looked.{Looked}
 use Rattle.control.specs.declared.Looked.TheVariants.{Found, NotABlock}
 use Rattle.blockset.specs.declared.LookedFrame.{LookedFrame}
@@ -21,7 +21,7 @@ fitting (Found mode₀ count₀ reserved₀) c (Found mode count reserved) = eqb
 
 -- What block c of the control of an L1 frame says by itself.
 unfoldable pub says : List ℕ → ℕ → Looked
-says control c = lookedUp (block_at control c)
+says control c = looked_up (block_at control c)
 
 -- A block that is faulty by itself, and one that does not fit block 0's mode and number and its own position.
 unfoldable pub faulty : List ℕ → ℕ → Bool
@@ -36,8 +36,8 @@ named (Found mode count reserved) = Of mode reserved
 named NotABlock = Faulty 0
 
 -- The lowest faulty block; where there is none, the lowest that does not fit; and where all fit, block 0's mode and number.
-unfoldable pub lookedUpFrame : List ℕ → LookedFrame
-lookedUpFrame control =
+unfoldable pub looked_up_frame : List ℕ → LookedFrame
+looked_up_frame control =
     let bad : ℕ = lowest 16 (faulty control) in
     let odd : ℕ = lowest 16 (unfit control) in
     cond (ltb bad 16) (Faulty bad) (cond (ltb odd 16) (Unfit odd) (named (says control 0)))

@@ -1,6 +1,6 @@
 // S-8: the sixteen control blocks of an L1 frame, looked up as a set. An internal crate: the length is required, and the crate above gives document 02's numbers.
 ghost use Rattle.std.specs.Prelude.{◌≡◌, ◌<◌, length};
-ghost use Rattle.blockset.specs.LookupFrame.{no_block, fitting, named, says, lookedUpFrame};
+ghost use Rattle.blockset.specs.LookupFrame.{no_block, fitting, named, says, looked_up_frame};
 ghost use Rattle.blockset.specs.Words.{onward};
 
 use control::Looked;
@@ -87,7 +87,7 @@ fn name(first: Looked) -> LookedFrame
 // The sixteen blocks of an L1 frame as a set, in one pass.
 pub fn lookup_frame(control: &[u8]) -> LookedFrame
     requires { length control.now ≡ 4096 }
-    ensures { result ≡ lookedUpFrame control.now }
+    ensures { result ≡ looked_up_frame control.now }
 {
     let first = lookup_at(control, 0);
     if is_no_block(first) {

@@ -17,42 +17,42 @@ use Rattle.runs.specs.declared.Kind.{Kind}
 use Rattle.runs.specs.declared.State.{State}
 use Rattle.runs.specs.Answers.{number_of}
 use Rattle.runs.specs.Causes.{at, judge, when, wrong}
-use Rattle.runs.specs.MainChannels.{mainOf, lastAge}
-use Rattle.runs.specs.Lengths.{kind_of, pidsLen, pmLen, controlLen}
+use Rattle.runs.specs.MainChannels.{main_of, last_age}
+use Rattle.runs.specs.Lengths.{kind_of, pids_len, pm_len, control_len}
 use Rattle.runs.specs.Lent.{Lent, Memory}
-use Rattle.runs.specs.Starting.{aged, memorySizes, valid}
-use Rattle.runs.specs.Sending.{lentSizes}
+use Rattle.runs.specs.Starting.{aged, memory_sizes, valid}
+use Rattle.runs.specs.Sending.{lent_sizes}
 use Rattle.runs.proofs.Passing.{wrong-head}
-use Rattle.calls.specs.Admitted.{admitted, firstCause}
+use Rattle.calls.specs.Admitted.{admitted, first_cause}
 use Rattle.calls.specs.Fits.{Fits}
-use Rattle.modes.specs.Sizes.{lengthsOf, placed, sizes, wanted}
+use Rattle.modes.specs.Sizes.{lengths_of, placed, sizes, wanted}
 
 module _ (v : Bool) (z : ℕ) where
-  pub state-refused : (o : Option ℕ) → v ≡ false → StateNotValid ≡ firstCause v z o
-  unfolding firstCause judge
+  pub state-refused : (o : Option ℕ) → v ≡ false → StateNotValid ≡ first_cause v z o
+  unfolding first_cause judge
   state-refused o h = rw h
 
   module _ (h : v ≡ true) where
-    pub number-refused : (o : Option ℕ) → 8 ≤ z → ReservedTooHigh ≡ firstCause v z o
-    unfolding firstCause judge
+    pub number-refused : (o : Option ℕ) → 8 ≤ z → ReservedTooHigh ≡ first_cause v z o
+    unfolding first_cause judge
     number-refused o high = rw (h, le-ltb z 8 high)
 
     module _ (low : z < 8) (n place : ℕ) where
-      pub length-refused : place < n → WrongLength place ≡ firstCause v z (placed n place)
-      unfolding firstCause judge
+      pub length-refused : place < n → WrongLength place ≡ first_cause v z (placed n place)
+      unfolding first_cause judge
       length-refused l = rw (h, lt-ltb z 8 low, lt-ltb place n l)
 
-      pub accepted : n ≤ place → Success ≡ firstCause v z (placed n place)
-      unfolding firstCause judge
+      pub accepted : n ≤ place → Success ≡ first_cause v z (placed n place)
+      unfolding first_cause judge
       accepted l = rw (h, lt-ltb z 8 low, le-ltb place n l)
 
 -- the same cause from what is shown equal
-pub cause-alike : (a : Answer) (v w : Bool) (z : ℕ) (o p : Option ℕ) → a ≡ firstCause v z o → v ≡ w → o ≡ p → a ≡ firstCause w z p
-cause-alike a v w z o p e h k = e ∙ (λ i. firstCause (h i) z (k i))
+pub cause-alike : (a : Answer) (v w : Bool) (z : ℕ) (o p : Option ℕ) → a ≡ first_cause v z o → v ≡ w → o ≡ p → a ≡ first_cause w z p
+cause-alike a v w z o p e h k = e ∙ (λ i. first_cause (h i) z (k i))
 
 -- an answer of number 0 says that the state is valid, the number up to 7 and each length right
 pub clear : (s : State) (z : ℕ) (o : Option ℕ) → number_of (admitted s z o) ≡ 0 → (valid s ≡ true) × (z < 8) × (o ≡ none)
-unfolding firstCause judge
+unfolding first_cause judge
 clear s z o e = let (v, low, none-wrong) = go (valid s) (ltb z 8) o e in (v, ltb-true z 8 low, none-wrong)
   where
     go : (b c : Bool) (o : Option ℕ)
@@ -75,19 +75,19 @@ half_of last half age = go (ltb age last)
 pub valid-says : (s : State) → valid s ≡ true → (covered s.mode ≡ true) × (s.half < 2)
 unfolding valid
 valid-says s v =
-    let old = aged (lastAge (mainOf s.mode)) s.half s.age in
+    let old = aged (last_age (main_of s.mode)) s.half s.age in
     let (cov, e) = and-true (covered s.mode) old (and-true (covered s.mode && old) (ltb s.reserved 8) v).0 in
-    (cov, half_of (lastAge (mainOf s.mode)) s.half s.age e)
+    (cov, half_of (last_age (main_of s.mode)) s.half s.age e)
 
 module _ (len : Kind → ℕ) (s : State) (m : Memory) (l : Lent) where
   -- the lengths that the code compares are the table's
-  pub compared : (have want : List ℕ) → have ≡ lengthsOf l m → want ≡ wanted s.mode (len (kind_of s.mode P3)) (len (kind_of s.mode P4))
-      → sizes have want ≡ lentSizes s.mode l ++ memorySizes len s.mode m
-  unfolding memorySizes sizes lentSizes
+  pub compared : (have want : List ℕ) → have ≡ lengths_of l m → want ≡ wanted s.mode (len (kind_of s.mode P3)) (len (kind_of s.mode P4))
+      → sizes have want ≡ lent_sizes s.mode l ++ memory_sizes len s.mode m
+  unfolding memory_sizes sizes lent_sizes
   compared have want h w = rw (h, w)
 
-  pub fits : valid s ≡ true → l.frames.reserved < 8 → wrong 0 (lentSizes s.mode l ++ memorySizes len s.mode m) ≡ none → Fits len s m l
-  unfolding lentSizes memorySizes pidsLen pmLen controlLen
+  pub fits : valid s ≡ true → l.frames.reserved < 8 → wrong 0 (lent_sizes s.mode l ++ memory_sizes len s.mode m) ≡ none → Fits len s m l
+  unfolding lent_sizes memory_sizes pids_len pm_len control_len
   fits v low e =
       let (cov, half) = valid-says s v in
       let (e₀, r₁) = wrong-head _ _ _ _ e in

@@ -8,10 +8,10 @@ use Rattle.runs.specs.Causes.{at, judge, when}
 use Rattle.runs.specs.Starting.{valid}
 
 -- the first cause that applies, from whether the state is valid, the number handed in and the first wrong length
-unfoldable pub firstCause : Bool → ℕ → Option ℕ → Answer
-firstCause v reserved place =
+unfoldable pub first_cause : Bool → ℕ → Option ℕ → Answer
+first_cause v reserved place =
     judge (when (not v) StateNotValid ∷ when (not (ltb reserved 8)) ReservedTooHigh ∷ at WrongLength place ∷ [])
 
 -- a reading is handed no number, and 0 stands for it
 abbrev pub admitted : State → ℕ → Option ℕ → Answer
-admitted s reserved place = firstCause (valid s) reserved place
+admitted s reserved place = first_cause (valid s) reserved place

@@ -26,11 +26,11 @@ lent reserved p1 pids p2 p3 p4 pm px1 px2 control =
     record { frames = frames reserved p1 pids p2 p3 p4; signal = signal pm px1 px2 control }
 
 -- what a start, a sending, a reading gave
-abbrev pub startGave : Outcome → Memory → Started
-startGave o m = record { answer = o.answer; state = o.state; memory = m }
+abbrev pub start_gave : Outcome → Memory → Started
+start_gave o m = record { answer = o.answer; state = o.state; memory = m }
 
 abbrev pub gave : Outcome → Memory → Lent → Result
 gave o m l = record { answer = o.answer; state = o.state; memory = m; lent = l }
 
-abbrev pub readGave : ReadOutcome → Memory → Lent → Result
-readGave o m l = record { answer = o.answer; state = o.state; memory = m; lent = l }
+abbrev pub read_gave : ReadOutcome → Memory → Lent → Result
+read_gave o m l = record { answer = o.answer; state = o.state; memory = m; lent = l }

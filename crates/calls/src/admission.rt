@@ -1,7 +1,7 @@
 // Documents 01 and 02, the causes that a sending and a reading meet first: the state, the number handed in, the lengths.
 ghost use Rattle.std.specs.Prelude.{◌≡◌, length};
 ghost use Rattle.runs.specs.Causes.{wrong};
-ghost use Rattle.calls.specs.Admitted.{admitted, firstCause};
+ghost use Rattle.calls.specs.Admitted.{admitted, first_cause};
 ghost use Rattle.modes.specs.Sizes.{placed, sizes};
 
 use crate::states::is_valid;
@@ -10,7 +10,7 @@ use runs::{Answer, State};
 
 // The first cause that applies: the state before the number handed in, and that before the lengths.
 fn first_cause(is_valid: bool, reserved: u8, place: usize, places: usize) -> Answer
-    ensures { result ≡ firstCause is_valid reserved (placed places place) }
+    ensures { result ≡ first_cause is_valid reserved (placed places place) }
 {
     if !is_valid {
         return Answer::StateNotValid;

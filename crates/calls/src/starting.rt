@@ -2,9 +2,9 @@
 ghost use Rattle.std.specs.Prelude.{◌≡◌, ℕ};
 ghost use Rattle.runs.specs.declared.Extended.TheVariants.{P3, P4};
 ghost use Rattle.runs.specs.declared.Kind.{Kind};
-ghost use Rattle.runs.specs.Lengths.{kind_of, readerLen, senderLen};
+ghost use Rattle.runs.specs.Lengths.{kind_of, reader_len, sender_len};
 ghost use Rattle.runs.specs.Starting.{start};
-ghost use Rattle.calls.specs.Called.{memory, startGave};
+ghost use Rattle.calls.specs.Called.{memory, start_gave};
 
 use crate::states::{Outcome, fresh_state};
 use modes::{delay_len, first_wrong, kind_of, main_of, reader_len, sender_len};
@@ -20,7 +20,7 @@ fn start_side(
     delay: &mut [u8],
 ) -> Outcome
     ensures { (len : Kind → ℕ) → want3 ≡ len (kind_of mode P3) → want4 ≡ len (kind_of mode P4)
-        → startGave result (memory memory3.new memory4.new delay.new) ≡ start len mode (memory memory3.old memory4.old delay.old) }
+        → start_gave result (memory memory3.new memory4.new delay.new) ≡ start len mode (memory memory3.old memory4.old delay.old) }
 {
     if !control::is_covered(mode) {
         return Outcome {
@@ -48,8 +48,8 @@ fn start_side(
 
 // Starts a sender: zeroes its memory and returns the state before the first L1 frame.
 pub fn start_sender(mode: u8, memory3: &mut [u8], memory4: &mut [u8], delay: &mut [u8]) -> Outcome
-    ensures { startGave result (memory memory3.new memory4.new delay.new)
-        ≡ start senderLen mode (memory memory3.old memory4.old delay.old) }
+    ensures { start_gave result (memory memory3.new memory4.new delay.new)
+        ≡ start sender_len mode (memory memory3.old memory4.old delay.old) }
 {
     let want3 = sender_len(kind_of(mode, Extended::P3));
     let want4 = sender_len(kind_of(mode, Extended::P4));
@@ -58,8 +58,8 @@ pub fn start_sender(mode: u8, memory3: &mut [u8], memory4: &mut [u8], delay: &mu
 
 // Starts a reader.
 pub fn start_reader(mode: u8, memory3: &mut [u8], memory4: &mut [u8], delay: &mut [u8]) -> Outcome
-    ensures { startGave result (memory memory3.new memory4.new delay.new)
-        ≡ start readerLen mode (memory memory3.old memory4.old delay.old) }
+    ensures { start_gave result (memory memory3.new memory4.new delay.new)
+        ≡ start reader_len mode (memory memory3.old memory4.old delay.old) }
 {
     let want3 = reader_len(kind_of(mode, Extended::P3));
     let want4 = reader_len(kind_of(mode, Extended::P4));

@@ -16,7 +16,7 @@ use Rattle.bits.proofs.Tests.{all-at, both, same_true}
 use Rattle.text.specs.Put.{Put}
 use Rattle.text.proofs.Stored.{put-most, put-text}
 use Rattle.cause_words.specs.Table.{causes, count, known, sheets, size}
-use Rattle.cause_words.specs.Words.{noCause, words}
+use Rattle.cause_words.specs.Words.{no_cause, words}
 use Rattle.cause_words.specs.Rows.{joined, rows, start_of}
 
 -- ---- in any rows
@@ -40,20 +40,20 @@ row-there (x ∷ t) (suc n) h =
     ap (take (length (get_or t n []))) (drop-append-add x (joined t) (start_of t n)) ∙ row-there t n (le_of_suc-le-suc h)
 
 -- where the rows begin, one after the other, and where the last ends
-unfoldable pub startsFrom : ℕ → List (List ℕ) → List ℕ
-startsFrom at [] = at ∷ []
-startsFrom at (x ∷ t) = at ∷ startsFrom (at + length x) t
+unfoldable pub starts_from : ℕ → List (List ℕ) → List ℕ
+starts_from at [] = at ∷ []
+starts_from at (x ∷ t) = at ∷ starts_from (at + length x) t
 
 -- ---- in the table
 
 unfoldable pub starts : List ℕ
-starts = startsFrom 0 rows
+starts = starts_from 0 rows
 
 is-start : ℕ → Bool
 is-start n = eqb (get_or starts n 0) (start_of rows n)
 
 pub starts-are : (n : ℕ) → n ≤ count → get_or starts n 0 ≡ start_of rows n
-unfolding is-start all starts startsFrom rows causes sheets start_of
+unfolding is-start all starts starts_from rows causes sheets start_of
 starts-are n h = eqb→eq (get_or starts n 0) (start_of rows n) (all-at (suc count) is-start tt n (omega arith))
 
 -- a row is no longer than 160 bytes, and the text has it whole
@@ -85,7 +85,7 @@ pub cause-row : (n : ℕ) → n < length causes → get_or rows (suc n) [] ≡ w
 unfolding is_row all same rows causes sheets words
 cause-row n h =
     same_true (get_or rows (suc n) []) (get_or causes n []) (is_true _ (all-at (length causes) is_row tt n h))
-    ∙ sym (ap (λ (b : Bool). cond b (get_or causes n []) noCause) (lt-ltb n (length causes) h))
+    ∙ sym (ap (λ (b : Bool). cond b (get_or causes n []) no_cause) (lt-ltb n (length causes) h))
 
 pub cause-at : (n : ℕ) → n < known → get_or rows (n + 1) [] ≡ words n
 unfolding causes
@@ -93,7 +93,7 @@ cause-at n h = ap (λ (k : ℕ). get_or rows k []) (add-one n) ∙ cause-row n h
 
 pub no_row : (n : ℕ) → known ≤ n → get_or rows 0 [] ≡ words n
 unfolding rows words causes
-no_row n h = sym (ap (λ (b : Bool). cond b (get_or causes n []) noCause) (le-ltb n (length causes) h))
+no_row n h = sym (ap (λ (b : Bool). cond b (get_or causes n []) no_cause) (le-ltb n (length causes) h))
 
 -- what `put_row` puts is the row
 pub row_put : {a b : List ℕ} {at end : ℕ} (n s e : ℕ) → n < count → s ≡ start_of rows n → e ≡ start_of rows (n + 1)

@@ -10,9 +10,9 @@ use Rattle.bits.specs.Tests.{same}
 use Rattle.bits.proofs.Tests.{same_true}
 use Rattle.text.specs.Letters.{ascii}
 use Rattle.operands.specs.declared.Operand.{Operand}
-use Rattle.operands.specs.Operands.{operandOf}
+use Rattle.operands.specs.Operands.{operand_of}
 use Rattle.cause_words.specs.Table.{names, sheets}
-use Rattle.cause_words.specs.NoSheet.{begins, row_in, sixth, why, wordsFor}
+use Rattle.cause_words.specs.NoSheet.{begins, row_in, sixth, why, words_for}
 
 -- a shorter text does not begin with a longer one
 pub too_short : (start text : List ℕ) → length text < length start → false ≡ begins start text
@@ -27,8 +27,8 @@ too_short start text h = go (same (take (length start) text) start) refl
         absurd (omega arith)
 
 module _ (text : List ℕ) where
-  pub by_number : {number : Operand} {word : List ℕ} → begins (ascii "NO SHEET FRAME ") text ≡ true → word ≡ sixth text → number ≡ operandOf word
-      → wordsFor number ≡ why text
+  pub by_number : {number : Operand} {word : List ℕ} → begins (ascii "NO SHEET FRAME ") text ≡ true → word ≡ sixth text → number ≡ operand_of word
+      → words_for number ≡ why text
   unfolding why
   by_number e p q = rw (e, q, p)
 

@@ -1,11 +1,11 @@
 -- For the code alone: the words as rows of one text.
 use Rattle.std.specs.Prelude.{ℕ, zero, suc, ◌+◌, List, [], ◌∷◌, ◌++◌, length}
 use Rattle.cause_words.specs.Table.{causes, sheets}
-use Rattle.cause_words.specs.Words.{noCause}
+use Rattle.cause_words.specs.Words.{no_cause}
 
 -- the words for no cause, of each cause, and why there is no sheet
 unfoldable pub rows : List (List ℕ)
-rows = noCause ∷ (causes ++ sheets)
+rows = no_cause ∷ (causes ++ sheets)
 
 -- the text that the rows are
 unfoldable pub joined : List (List ℕ) → List ℕ

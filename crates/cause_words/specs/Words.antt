@@ -4,9 +4,9 @@ use Rattle.text.specs.Letters.{ascii}
 use Rattle.cause_words.specs.Table.{causes}
 
 -- of a number that stands for no cause
-abbrev pub noCause : List ℕ
-noCause = ascii "no such cause\n"
+abbrev pub no_cause : List ℕ
+no_cause = ascii "no such cause\n"
 
 -- of the cause of this number
 unfoldable pub words : (number : ℕ) → List ℕ
-words number = cond (ltb number (length causes)) (get_or causes number []) noCause
+words number = cond (ltb number (length causes)) (get_or causes number []) no_cause

@@ -3,7 +3,7 @@ ghost use Rattle.std.specs.Prelude.{◌≡◌, [], ◌+◌, ◌≤◌, ◌<◌, 
 ghost use Rattle.text.specs.Put.{Put};
 ghost use Rattle.cause_words.specs.Table.{count, names, sheets};
 ghost use Rattle.cause_words.specs.Rows.{rows};
-ghost use Rattle.cause_words.specs.NoSheet.{row_in, sixth, why, wordsFor};
+ghost use Rattle.cause_words.specs.NoSheet.{row_in, sixth, why, words_for};
 ghost use Rattle.cause_words.specs.NoSheet.{begins as «begins-with»};
 
 use crate::table::CAUSES;
@@ -60,7 +60,7 @@ fn sixth_word(text: &[u8]) -> &[u8]
 // Puts the words of a cause whose number is written.
 fn put_written(out: &mut [u8], at: usize, number: Operand) -> usize
     requires { at + 160 ≤ length out.old }
-    ensures { Put out.old out.new at result 160 (wordsFor number) }
+    ensures { Put out.old out.new at result 160 (words_for number) }
 {
     match number {
         Operand::Number(number) => put_words(out, at, number),

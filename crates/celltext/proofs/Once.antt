@@ -14,17 +14,17 @@ use Rattle.decoding.proofs.Outcomes.{answered-once}
 use Rattle.restoring.specs.Restored.{Restored}
 use Rattle.restoring.proofs.Outcomes.{restored-once}
 use Rattle.celltext.specs.Found.{found}
-use Rattle.celltext.specs.Lines.{isFrame, CellsOf}
+use Rattle.celltext.specs.Lines.{is_frame, CellsOf}
 use Rattle.celltext.specs.Nearest.{Named, NearestLine}
 use Rattle.celltext.specs.Restored.{told, Fitted, RestoredLine}
 
 cells-once : (line x y : List ℕ) → CellsOf line x → CellsOf line y → x ≡ y
 cells-once line x y a b = ext_get_or 0 x y (a.count ∙ sym b.count) (λ n l. a.each n (omega arith) ∙ sym (b.each n (omega arith)))
 
-by-line : (line x y : List ℕ) → (isFrame line ≡ true → x ≡ y) → (isFrame line ≡ false → x ≡ y) → x ≡ y
-by-line line x y f g = go (isFrame line) refl
+by-line : (line x y : List ℕ) → (is_frame line ≡ true → x ≡ y) → (is_frame line ≡ false → x ≡ y) → x ≡ y
+by-line line x y f g = go (is_frame line) refl
   where
-    go : (t : Bool) → isFrame line ≡ t → x ≡ y
+    go : (t : Bool) → is_frame line ≡ t → x ≡ y
     go true e = f e
     go false e = g e
 

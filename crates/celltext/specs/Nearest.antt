@@ -4,7 +4,7 @@ use Rattle.decoding.specs.declared.Decoded.{Decoded}
 use Rattle.decoding.specs.Outcomes.{Answered}
 use Rattle.text.specs.Refused.{refused}
 use Rattle.celltext.specs.Found.{found}
-use Rattle.celltext.specs.Lines.{isFrame, CellsOf}
+use Rattle.celltext.specs.Lines.{is_frame, CellsOf}
 
 -- the nearest frame of the line's cells, in a buffer that was empty before
 pub record Named (budget : ℕ) (line text : List ℕ) : Type 0 where
@@ -17,5 +17,5 @@ pub record Named (budget : ℕ) (line text : List ℕ) : Type 0 where
 
 -- a line that is no frame's is refused with its number
 pub record NearestLine (budget number : ℕ) (line text : List ℕ) : Type 0 where
-  pub named : isFrame line ≡ true → Named budget line text
-  pub unnamed : isFrame line ≡ false → text ≡ refused number
+  pub named : is_frame line ≡ true → Named budget line text
+  pub unnamed : is_frame line ≡ false → text ≡ refused number

@@ -7,10 +7,10 @@ use Rattle.restoring.specs.Restored.{Restored}
 use Rattle.text.specs.Letters.{ascii}
 use Rattle.text.specs.Refused.{refused}
 use Rattle.celltext.specs.Found.{hexadecimal}
-use Rattle.celltext.specs.Lines.{isFrame, CellsOf}
+use Rattle.celltext.specs.Lines.{is_frame, CellsOf}
 
-abbrev pub noFrame : List ℕ
-noFrame = ascii "NO FRAME FITS\n"
+abbrev pub no_frame : List ℕ
+no_frame = ascii "NO FRAME FITS\n"
 
 abbrev pub several : List ℕ
 several = ascii "SEVERAL FRAMES FIT\n"
@@ -18,7 +18,7 @@ several = ascii "SEVERAL FRAMES FIT\n"
 -- for the number of an answer: the frame's ten bytes in hexadecimal, or why there is none
 unfoldable pub told : (number : ℕ) (frame : List ℕ) → List ℕ
 told number frame =
-    cond (eqb number (number_of Success)) (hexadecimal frame ++ ascii "\n") (cond (eqb number (number_of NoFrameFits)) noFrame several)
+    cond (eqb number (number_of Success)) (hexadecimal frame ++ ascii "\n") (cond (eqb number (number_of NoFrameFits)) no_frame several)
 
 -- what fits the line's cells, in a buffer that was empty before
 pub record Fitted (line text : List ℕ) : Type 0 where
@@ -31,5 +31,5 @@ pub record Fitted (line text : List ℕ) : Type 0 where
 
 -- a line that is no frame's is refused with its number
 pub record RestoredLine (number : ℕ) (line text : List ℕ) : Type 0 where
-  pub fitted : isFrame line ≡ true → Fitted line text
-  pub unfitted : isFrame line ≡ false → text ≡ refused number
+  pub fitted : is_frame line ≡ true → Fitted line text
+  pub unfitted : is_frame line ≡ false → text ≡ refused number

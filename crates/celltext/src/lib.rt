@@ -5,13 +5,13 @@ ghost use Rattle.io.specs.Counts.{IsPrefixLen};
 ghost use Rattle.text.specs.Letters.{ascii};
 ghost use Rattle.text.specs.Put.{Put};
 ghost use Rattle.celltext.specs.Found.{digit as «digit-of», found, hexadecimal};
-ghost use Rattle.celltext.specs.Lines.{cell_of, CellsOf, isCell, Read};
+ghost use Rattle.celltext.specs.Lines.{cell_of, CellsOf, is_cell, Read};
 ghost use Rattle.celltext.specs.Nearest.{NearestLine};
 ghost use Rattle.celltext.specs.Restored.{RestoredLine, told};
 
 // Whether a character stands for a cell.
 fn is_cell(b: u8) -> bool
-    ensures { result ≡ isCell b }
+    ensures { result ≡ is_cell b }
 {
     if b == b'0' {
         return true;
@@ -38,7 +38,7 @@ fn cell_of(b: u8) -> u8
 // Whether each of 200 characters stands for a cell.
 fn are_cells(line: &[u8]) -> bool
     requires { length line.now ≡ 200 }
-    ensures { result ≡ all 200 (λ n. isCell (get_or line.now n 0)) }
+    ensures { result ≡ all 200 (λ n. is_cell (get_or line.now n 0)) }
 {
     let mut i: usize = 0;
     while i < 200 {

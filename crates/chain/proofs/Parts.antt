@@ -7,8 +7,8 @@ use lib.ListN.{length, take, drop, length-append, length-drop, length-take, drop
 use lib.Seq.{take_at}
 use borrow.Rule.Slice.PartMut.{put_mid, post_of}
 use Rattle.runs.specs.declared.Kind.{Kind}
-use Rattle.runs.specs.Chain.{Buffer, pxOf}
-use Rattle.runs.specs.Lengths.{matrixLen}
+use Rattle.runs.specs.Chain.{Buffer, px_of}
+use Rattle.runs.specs.Lengths.{matrix_len}
 use Rattle.runs.proofs.PX.{matrix-length}
 
 pub nothing : (l : Buffer) → length l ≡ 0 → l ≡ []
@@ -34,6 +34,6 @@ module _ (k : ℕ) (o₁ o₂ u : Buffer) (h : length o₁ ≡ k) where
   behind-long l = simp (length-take, length-drop, length-append) (omega arith)
 
 -- PX2: P4's matrices, and behind them x
-pub put-px2 : (kind : Kind) (half : ℕ) (m p4 : Buffer) (k : ℕ) (o₁ o₂ u x : Buffer) → k ≡ matrixLen kind → o₁ ≡ pxOf kind half m p4 → o₂ ≡ x
-    → put_mid k (length (o₁ ++ drop k u) - k) (o₁ ++ drop k u) o₂ ≡ pxOf kind half m p4 ++ x
+pub put-px2 : (kind : Kind) (half : ℕ) (m p4 : Buffer) (k : ℕ) (o₁ o₂ u x : Buffer) → k ≡ matrix_len kind → o₁ ≡ px_of kind half m p4 → o₂ ≡ x
+    → put_mid k (length (o₁ ++ drop k u) - k) (o₁ ++ drop k u) o₂ ≡ px_of kind half m p4 ++ x
 put-px2 kind half m p4 k o₁ o₂ u x l e₁ e₂ = put-parts k o₁ o₂ u (ap length e₁ ∙ matrix-length kind half m p4 ∙ sym l) _ _ e₁ e₂

@@ -1,19 +1,19 @@
 -- For the code alone: the buffers of the work on a channel.
 use Rattle.std.specs.Prelude.{◌≡◌, List, ℕ, ◌+◌, ◌*◌, ◌/◌, ◌%◌, ◌≤◌, ◌<◌, length, replicate}
 use Rattle.runs.specs.declared.Kind.{Kind}
-use Rattle.runs.specs.Lengths.{frameLen, matrixLen, tableRow}
-use Rattle.runs.specs.Lent.{orZeros}
+use Rattle.runs.specs.Lengths.{frame_len, matrix_len, table_row}
+use Rattle.runs.specs.Lent.{or_zeros}
 
 -- the frames of an extended channel, or nothing for zeros (S-5), and room for them scrambled
 abbrev pub Meant : (frames scrambled : List ℕ) → Type 0
-Meant frames scrambled = length (orZeros (length scrambled) frames) ≡ length scrambled
+Meant frames scrambled = length (or_zeros (length scrambled) frames) ≡ length scrambled
 
 -- the eight frames of a channel that a mode uses, or nothing; the channel's matrices, in whose first bytes they are scrambled; room for their coded bits, zeros
 pub record Room (kind : Kind) (frames px coded : List ℕ) : Type 0 where
-  pub used : tableRow kind < 2
-  pub plain : length (orZeros (frameLen kind) frames) ≡ frameLen kind
-  pub long : length px ≡ matrixLen kind
-  pub blank : coded ≡ replicate (matrixLen kind) 0
+  pub used : table_row kind < 2
+  pub plain : length (or_zeros (frame_len kind) frames) ≡ frame_len kind
+  pub long : length px ≡ matrix_len kind
+  pub blank : coded ≡ replicate (matrix_len kind) 0
 
 -- eight P1 frames of n bytes, P2, room for both scrambled, and for their coded bits
 pub record Split (n : ℕ) (p1 p2 mixed u : List ℕ) : Type 0 where

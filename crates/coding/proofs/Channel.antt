@@ -16,8 +16,8 @@ use Rattle.coding.specs.declared.Rate.{Rate}
 use Rattle.coding.specs.declared.Rate.TheVariants.{TwoFifths, Half}
 use Rattle.coding.specs.Coder.{coded}
 use Rattle.coding.specs.Inverse.{uncoded}
-use Rattle.coding.specs.Rates.{patternOf, recipeOf, codedLength, isCoded}
-use Rattle.coding.specs.Channel.{part, channel, unchannel, noFrame, Agree, IsCoded, IsFrame}
+use Rattle.coding.specs.Rates.{pattern_of, recipe_of, coded_length, is_coded}
+use Rattle.coding.specs.Channel.{part, channel, unchannel, no_frame, Agree, IsCoded, IsFrame}
 use Rattle.coding.specs.Buffers.{Long}
 use Rattle.coding.proofs.Coder.{coded-bit, coded-same, uncoded-same, uncoded-coded, coded-again}
 use Rattle.coding.proofs.Inverts.{inverts}
@@ -26,13 +26,13 @@ pub channel-bit : (rate : Rate) (n : ℕ) (f : ℕ → ℕ) (m : ℕ) → channe
 unfolding channel
 channel-bit rate n f m = coded-bit _ _ _ _
 
-pub length-pos : (rate : Rate) (n : ℕ) → 12 ≤ n → 0 < codedLength rate n
+pub length-pos : (rate : Rate) (n : ℕ) → 12 ≤ n → 0 < coded_length rate n
 length-pos TwoFifths n h = omega arith
 length-pos Half n h = omega arith
 
 -- a channel that brings no bits
-pub empty-passes : (rate : Rate) (y : ℕ → ℕ) (k : ℕ) → noFrame rate 0 y k ≡ false
-unfolding noFrame isCoded all
+pub empty-passes : (rate : Rate) (y : ℕ → ℕ) (k : ℕ) → no_frame rate 0 y k ≡ false
+unfolding no_frame is_coded all
 empty-passes TwoFifths y k = refl
 empty-passes Half y k = refl
 
@@ -48,15 +48,15 @@ not-true : (b : Bool) → (b ≡ true → ⊥) → not b ≡ true
 not-true true f = absurd (f refl)
 not-true false f = refl
 
-no-frame-is : (rate : Rate) (n : ℕ) (y : ℕ → ℕ) (k : ℕ) → (isCoded rate n (part (codedLength rate n) k y) ≡ true → ⊥) → noFrame rate n y k ≡ true
-unfolding noFrame
-no-frame-is rate n y k f = not-true (isCoded rate n (part (codedLength rate n) k y)) f
+no-frame-is : (rate : Rate) (n : ℕ) (y : ℕ → ℕ) (k : ℕ) → (is_coded rate n (part (coded_length rate n) k y) ≡ true → ⊥) → no_frame rate n y k ≡ true
+unfolding no_frame
+no-frame-is rate n y k f = not-true (is_coded rate n (part (coded_length rate n) k y)) f
 
 -- cells are the coding of a frame exactly where the test says so
-pub is-coded : (rate : Rate) (n : ℕ) → Long n → (y : ℕ → ℕ) → isCoded rate n y ≡ true ↔ IsCoded (patternOf rate) n y
-unfolding isCoded
+pub is-coded : (rate : Rate) (n : ℕ) → Long n → (y : ℕ → ℕ) → is_coded rate n y ≡ true ↔ IsCoded (pattern_of rate) n y
+unfolding is_coded
 is-coded rate n l y =
-    let again = coded-again (patternOf rate) (recipeOf rate) (inverts rate) n l y in (
+    let again = coded-again (pattern_of rate) (recipe_of rate) (inverts rate) n l y in (
       (λ e. again.1 (λ m h. eqb→eq _ _ (all-at _ _ (is_true _ e) m h))),
       (λ w. all_true _ _ (λ m h. eq-eqb _ _ (again.0 w m h))),
     )
@@ -66,15 +66,15 @@ module _ (rate : Rate) (n : ℕ) (l : Long n) where
   pos = omega (arith, l.enough)
 
   -- coded bit m of transfer frame k
-  channel-at : (f : ℕ → ℕ) (k m : ℕ) → m < codedLength rate n
-      → channel rate n f (k * codedLength rate n + m) ≡ coded (patternOf rate) n (scrambled (part n k f)) m
+  channel-at : (f : ℕ → ℕ) (k m : ℕ) → m < coded_length rate n
+      → channel rate n f (k * coded_length rate n + m) ≡ coded (pattern_of rate) n (scrambled (part n k f)) m
   unfolding channel
   channel-at f k m h = rw (digits_div k h, digits_mod k h)
 
   -- the coded bits of K transfer frames
-  module _ (f y : ℕ → ℕ) (K : ℕ) (bits : (i : ℕ) → f i < 2) (same : (m : ℕ) → m < K * codedLength rate n → y m ≡ channel rate n f m) where
-    part-is : (k : ℕ) → k < K → Agree (codedLength rate n) (part (codedLength rate n) k y) (coded (patternOf rate) n (scrambled (part n k f)))
-    part-is k h m j = same (k * codedLength rate n + m) (digits_lt h j) ∙ channel-at f k m j
+  module _ (f y : ℕ → ℕ) (K : ℕ) (bits : (i : ℕ) → f i < 2) (same : (m : ℕ) → m < K * coded_length rate n → y m ≡ channel rate n f m) where
+    part-is : (k : ℕ) → k < K → Agree (coded_length rate n) (part (coded_length rate n) k y) (coded (pattern_of rate) n (scrambled (part n k f)))
+    part-is k h m j = same (k * coded_length rate n + m) (digits_lt h j) ∙ channel-at f k m j
 
     -- the frames come back
     pub unchannel-is : (i : ℕ) → i < K * n → unchannel rate n y i ≡ f i
@@ -84,33 +84,33 @@ module _ (rate : Rate) (n : ℕ) (l : Long n) where
         let r : ℕ = i % n in
         let hk : k < K = (div-lt_iff_lt-mul pos).1 h in
         let hr : r < n = mod-lt i pos in
-        unscrambled (part n k f) (uncoded (patternOf rate) (recipeOf rate) n (part (codedLength rate n) k y)) r (bits _)
-        (uncoded-same (patternOf rate) (recipeOf rate) (inverts rate).entries n _ _ pos l.even (part-is k hk) r
-        ∙ uncoded-coded (patternOf rate) (recipeOf rate) (inverts rate) n (scrambled (part n k f)) r l.enough hr (scrambled-bit _ r))
+        unscrambled (part n k f) (uncoded (pattern_of rate) (recipe_of rate) n (part (coded_length rate n) k y)) r (bits _)
+        (uncoded-same (pattern_of rate) (recipe_of rate) (inverts rate).entries n _ _ pos l.even (part-is k hk) r
+        ∙ uncoded-coded (pattern_of rate) (recipe_of rate) (inverts rate) n (scrambled (part n k f)) r l.enough hr (scrambled-bit _ r))
         ∙ ap f (div-add-mod' i n)
 
     pub frame-there : (k : ℕ) → k < K → IsFrame rate n y k
     frame-there k h = (part n k f, (λ i _. bits _), part-is k h)
 
   -- part k is a coded transfer frame exactly where the test says so
-  coded-frame : (y : ℕ → ℕ) (k : ℕ) → IsFrame rate n y k ↔ IsCoded (patternOf rate) n (part (codedLength rate n) k y)
+  coded-frame : (y : ℕ → ℕ) (k : ℕ) → IsFrame rate n y k ↔ IsCoded (pattern_of rate) n (part (coded_length rate n) k y)
   coded-frame y k = (
     (λ w. (scrambled w.0, (λ i h. scrambled-bit w.0 i), w.2)),
     (λ w. (
       scrambled w.0,
       (λ i h. scrambled-bit w.0 i),
-      (λ m h. w.2 m h ∙ sym (coded-same (patternOf rate) n (scrambled (scrambled w.0)) w.0 pos (λ i j. scrambled-twice w.0 i (w.1 i j)) m)),
+      (λ m h. w.2 m h ∙ sym (coded-same (pattern_of rate) n (scrambled (scrambled w.0)) w.0 pos (λ i j. scrambled-twice w.0 i (w.1 i j)) m)),
     )),
   )
 
-  pub frame-passes : (y : ℕ → ℕ) (k : ℕ) → IsFrame rate n y k → noFrame rate n y k ≡ false
-  unfolding noFrame
-  frame-passes y k w = ap not ((is-coded rate n l (part (codedLength rate n) k y)).1 ((coded-frame y k).0 w))
+  pub frame-passes : (y : ℕ → ℕ) (k : ℕ) → IsFrame rate n y k → no_frame rate n y k ≡ false
+  unfolding no_frame
+  frame-passes y k w = ap not ((is-coded rate n l (part (coded_length rate n) k y)).1 ((coded-frame y k).0 w))
 
-  pub no-frame : (y : ℕ → ℕ) (k : ℕ) → noFrame rate n y k ≡ true ↔ (IsFrame rate n y k → ⊥)
+  pub no-frame : (y : ℕ → ℕ) (k : ℕ) → no_frame rate n y k ≡ true ↔ (IsFrame rate n y k → ⊥)
   no-frame y k = (
     (λ e w. true≢false (sym e ∙ frame-passes y k w)),
-    (λ f. no-frame-is rate n y k (λ e. f ((coded-frame y k).1 ((is-coded rate n l (part (codedLength rate n) k y)).0 e)))),
+    (λ f. no-frame-is rate n y k (λ e. f ((coded-frame y k).1 ((is-coded rate n l (part (coded_length rate n) k y)).0 e)))),
   )
 
   -- there and back
@@ -119,25 +119,25 @@ module _ (rate : Rate) (n : ℕ) (l : Long n) where
 
   -- ---- the way back reads the coded bits of K frames alone
 
-  coded-test-same : (y z : ℕ → ℕ) → Agree (codedLength rate n) y z → isCoded rate n y ≡ isCoded rate n z
-  unfolding isCoded
+  coded-test-same : (y z : ℕ → ℕ) → Agree (coded_length rate n) y z → is_coded rate n y ≡ is_coded rate n z
+  unfolding is_coded
   coded-test-same y z e =
       all-cong _ _ _
       (λ m h. ap₂ eqb (e m h)
-      (coded-same (patternOf rate) n _ _ pos
-      (λ j _. uncoded-same (patternOf rate) (recipeOf rate) (inverts rate).entries n y z pos l.even e j) m))
+      (coded-same (pattern_of rate) n _ _ pos
+      (λ j _. uncoded-same (pattern_of rate) (recipe_of rate) (inverts rate).entries n y z pos l.even e j) m))
 
-  module _ (y z : ℕ → ℕ) (K : ℕ) (e : Agree (K * codedLength rate n) y z) where
-    parts_same : (k : ℕ) → k < K → Agree (codedLength rate n) (part (codedLength rate n) k y) (part (codedLength rate n) k z)
-    parts_same k h m j = e (k * codedLength rate n + m) (digits_lt h j)
+  module _ (y z : ℕ → ℕ) (K : ℕ) (e : Agree (K * coded_length rate n) y z) where
+    parts_same : (k : ℕ) → k < K → Agree (coded_length rate n) (part (coded_length rate n) k y) (part (coded_length rate n) k z)
+    parts_same k h m j = e (k * coded_length rate n + m) (digits_lt h j)
 
     pub unchannel-same : (i : ℕ) → i < K * n → unchannel rate n y i ≡ unchannel rate n z i
     unfolding unchannel
     unchannel-same i h =
         scrambled-same _ _ (i % n)
-        (uncoded-same (patternOf rate) (recipeOf rate) (inverts rate).entries n _ _ pos l.even
+        (uncoded-same (pattern_of rate) (recipe_of rate) (inverts rate).entries n _ _ pos l.even
         (parts_same (i / n) ((div-lt_iff_lt-mul pos).1 h)) (i % n))
 
-    pub no-frame-same : (k : ℕ) → k < K → noFrame rate n y k ≡ noFrame rate n z k
-    unfolding noFrame
+    pub no-frame-same : (k : ℕ) → k < K → no_frame rate n y k ≡ no_frame rate n z k
+    unfolding no_frame
     no-frame-same k h = ap not (coded-test-same _ _ (parts_same k h))

@@ -7,7 +7,7 @@ use native.Mathlib.Omega.{arith}
 use lib.ListN.{length}
 use Rattle.coding.specs.declared.Rate.{Rate}
 use Rattle.coding.specs.Buffers.{Buffers}
-use Rattle.coding.specs.Units.{groupSize}
+use Rattle.coding.specs.Units.{group_size}
 
 pub next-unit : (l u : ℕ) → l * u + l ≡ l * (u + 1)
 next-unit l u = omega (arith, mul-add l u 1)
@@ -18,8 +18,8 @@ module _ {rate : Rate} {n count : ℕ} {frames coded : List ℕ} (b : Buffers ra
       let e : n ≡ 2 * (n / 2) = omega (arith, b.even) in
       b.plain ∙ ap (λ (x : ℕ). count * x) e ∙ mul_left_comm count 2 (n / 2)
 
-  coded-units : length coded ≡ groupSize rate * (count * (n / 2))
-  coded-units = b.long ∙ sym (mul_assoc count (n / 2) (groupSize rate)) ∙ mul_comm (count * (n / 2)) (groupSize rate)
+  coded-units : length coded ≡ group_size rate * (count * (n / 2))
+  coded-units = b.long ∙ sym (mul_assoc count (n / 2) (group_size rate)) ∙ mul_comm (count * (n / 2)) (group_size rate)
 
   module _ (u : ℕ) (h : u < length frames / 2) where
     pub unit-frame : u / (n / 2) < count
@@ -28,18 +28,18 @@ module _ {rate : Rate} {n count : ℕ} {frames coded : List ℕ} (b : Buffers ra
     pub frame-there : u / (n / 2) * n + n ≤ length frames
     frame-there = omega (arith, b.plain, mul-le-mul_right n unit-frame)
 
-    pub coded-frame-there : u / (n / 2) * (n / 2 * groupSize rate) + n / 2 * groupSize rate ≤ length coded
-    coded-frame-there = omega (arith, b.long, mul-le-mul_right (n / 2 * groupSize rate) unit-frame)
+    pub coded-frame-there : u / (n / 2) * (n / 2 * group_size rate) + n / 2 * group_size rate ≤ length coded
+    coded-frame-there = omega (arith, b.long, mul-le-mul_right (n / 2 * group_size rate) unit-frame)
 
-    pub coded-unit-there : {l : ℕ} → l ≡ groupSize rate → l * u + l ≤ length coded
+    pub coded-unit-there : {l : ℕ} → l ≡ group_size rate → l * u + l ≤ length coded
     coded-unit-there {l} e =
         let m : u + 1 ≤ count * (n / 2) = omega (arith, units) in
-        rw e (omega (arith, coded-units, mul-le-mul_left (groupSize rate) m, mul-add (groupSize rate) u 1))
+        rw e (omega (arith, coded-units, mul-le-mul_left (group_size rate) m, mul-add (group_size rate) u 1))
 
-  pub all_coded : (u : ℕ) → length frames / 2 ≤ u → {l : ℕ} → l ≡ groupSize rate → length coded ≤ l * u
+  pub all_coded : (u : ℕ) → length frames / 2 ≤ u → {l : ℕ} → l ≡ group_size rate → length coded ≤ l * u
   all_coded u h {l} e =
       let m : count * (n / 2) ≤ u = omega (arith, units) in
-      rw e (omega (arith, coded-units, mul-le-mul_left (groupSize rate) m))
+      rw e (omega (arith, coded-units, mul-le-mul_left (group_size rate) m))
 
   pub all_plain : (u : ℕ) → length frames / 2 ≤ u → length frames ≤ 2 * u
   all_plain u h = omega (arith, units)

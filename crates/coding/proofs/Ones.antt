@@ -10,13 +10,13 @@ use Rattle.bits.specs.Bits.{number}
 use Rattle.bits.specs.Tests.{all}
 use Rattle.bits.proofs.Tests.{all-at}
 use Rattle.coding.specs.declared.Rate.TheVariants.{TwoFifths, Half}
-use Rattle.coding.specs.Units.{masked, unitCoded, unitBit, word_of, placed, seedsOf}
+use Rattle.coding.specs.Units.{masked, unit_coded, unit_bit, word_of, placed, seeds_of}
 
 abbrev coded-one-25-at : ℕ → ℕ
-coded-one-25-at e = get_or (seedsOf TwoFifths false) (e % 2) 0 * 2 ^ (e / 2 * 5) % 2 ^ 64
+coded-one-25-at e = get_or (seeds_of TwoFifths false) (e % 2) 0 * 2 ^ (e / 2 * 5) % 2 ^ 64
 
 pub coded-one-25 : (k e : ℕ) → k < 3 → e < 8 → placed TwoFifths false k (coded-one-25-at e) ≡ word_of TwoFifths false (2 ^ (8 * k + e))
-unfolding all number unitCoded masked ones placed word_of
+unfolding all number unit_coded masked ones placed word_of
 coded-one-25 k e l h =
     let q : (8 * k + e) / 8 ≡ k = omega arith in
     let r : (8 * k + e) % 8 ≡ e = omega arith in
@@ -24,10 +24,10 @@ coded-one-25 k e l h =
     ∙ eqb→eq _ _ (all-at 24 (λ m. eqb (placed TwoFifths false (m / 8) (coded-one-25-at (m % 8))) (word_of TwoFifths false (2 ^ m))) tt (8 * k + e) (omega arith))
 
 abbrev coded-one-12-at : ℕ → ℕ
-coded-one-12-at e = get_or (seedsOf Half false) (e % 2) 0 * 2 ^ (e / 2 * 4) % 2 ^ 64
+coded-one-12-at e = get_or (seeds_of Half false) (e % 2) 0 * 2 ^ (e / 2 * 4) % 2 ^ 64
 
 pub coded-one-12 : (k e : ℕ) → k < 3 → e < 8 → placed Half false k (coded-one-12-at e) ≡ word_of Half false (2 ^ (8 * k + e))
-unfolding all number unitCoded masked ones placed word_of
+unfolding all number unit_coded masked ones placed word_of
 coded-one-12 k e l h =
     let q : (8 * k + e) / 8 ≡ k = omega arith in
     let r : (8 * k + e) % 8 ≡ e = omega arith in
@@ -35,10 +35,10 @@ coded-one-12 k e l h =
     ∙ eqb→eq _ _ (all-at 24 (λ m. eqb (placed Half false (m / 8) (coded-one-12-at (m % 8))) (word_of Half false (2 ^ m))) tt (8 * k + e) (omega arith))
 
 abbrev bits-one-25-at : ℕ → ℕ
-bits-one-25-at e = get_or (seedsOf TwoFifths true) e 0
+bits-one-25-at e = get_or (seeds_of TwoFifths true) e 0
 
 pub bits-one-25 : (k e : ℕ) → k < 7 → e < 8 → placed TwoFifths true k (bits-one-25-at e) ≡ word_of TwoFifths true (2 ^ (8 * k + e))
-unfolding all number unitBit masked ones placed word_of
+unfolding all number unit_bit masked ones placed word_of
 bits-one-25 k e l h =
     let q : (8 * k + e) / 8 ≡ k = omega arith in
     let r : (8 * k + e) % 8 ≡ e = omega arith in
@@ -46,10 +46,10 @@ bits-one-25 k e l h =
     ∙ eqb→eq _ _ (all-at 56 (λ m. eqb (placed TwoFifths true (m / 8) (bits-one-25-at (m % 8))) (word_of TwoFifths true (2 ^ m))) tt (8 * k + e) (omega arith))
 
 abbrev bits-one-12-at : ℕ → ℕ
-bits-one-12-at e = get_or (seedsOf Half true) e 0
+bits-one-12-at e = get_or (seeds_of Half true) e 0
 
 pub bits-one-12 : (k e : ℕ) → k < 7 → e < 8 → placed Half true k (bits-one-12-at e) ≡ word_of Half true (2 ^ (8 * k + e))
-unfolding all number unitBit masked ones placed word_of
+unfolding all number unit_bit masked ones placed word_of
 bits-one-12 k e l h =
     let q : (8 * k + e) / 8 ≡ k = omega arith in
     let r : (8 * k + e) % 8 ≡ e = omega arith in

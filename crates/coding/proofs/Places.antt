@@ -102,28 +102,28 @@ module _ (n u : ℕ) (long : 12 ≤ 8 * n) (even : n % 2 ≡ 0) where
 
     -- coded bit i of the frame's coding, which has 8 * n / 2 groups
     module _ (i : ℕ) (h : i < 8 * l) where
-      abbrev pub groupAt : ℕ
-      groupAt = 8 * unit_of + i / l
+      abbrev pub group_at : ℕ
+      group_at = 8 * unit_of + i / l
 
-      pub group-inside : groupAt < 8 * n / 2
+      pub group-inside : group_at < 8 * n / 2
       group-inside =
           let q : i / l < 8 = (div-lt_iff_lt-mul pos).1 h in
           omega (arith, unit-inside)
 
-      pub coded-bit : 8 * (l * u) + i ≡ frame_of * (8 * n / 2 * l) + (groupAt * l + i % l)
+      pub coded-bit : 8 * (l * u) + i ≡ frame_of * (8 * n / 2 * l) + (group_at * l + i % l)
       coded-bit =
           let q : frame_of * (8 * n / 2 * l) ≡ 8 * (frame_of * (n / 2 * l)) =
           ap (λ (x : ℕ). frame_of * x) (sym (coded-bytes n l even)) ∙ mul_left_comm frame_of 8 (n / 2 * l) in
-          let r : groupAt * l ≡ 8 * (unit_of * l) + i / l * l = add-mul (8 * unit_of) (i / l) l ∙ ap (λ (x : ℕ). x + i / l * l) (mul_assoc 8 unit_of l) in
+          let r : group_at * l ≡ 8 * (unit_of * l) + i / l * l = add-mul (8 * unit_of) (i / l) l ∙ ap (λ (x : ℕ). x + i / l * l) (mul_assoc 8 unit_of l) in
           omega (arith, coded-twice, div-add-mod' i l)
 
-      pub coded-bit-inside : groupAt * l + i % l < 8 * n / 2 * l
+      pub coded-bit-inside : group_at * l + i % l < 8 * n / 2 * l
       coded-bit-inside = digits_lt group-inside (mod-lt i pos)
 
       pub frame-coded-bit : (8 * (l * u) + i) / (8 * n / 2 * l) ≡ frame_of
       frame-coded-bit = ap (λ (x : ℕ). x / (8 * n / 2 * l)) coded-bit ∙ digits_div frame_of coded-bit-inside
 
-      pub unit-coded-bit : (8 * (l * u) + i) % (8 * n / 2 * l) ≡ groupAt * l + i % l
+      pub unit-coded-bit : (8 * (l * u) + i) % (8 * n / 2 * l) ≡ group_at * l + i % l
       unit-coded-bit = ap (λ (x : ℕ). x % (8 * n / 2 * l)) coded-bit ∙ digits_mod frame_of coded-bit-inside
 
 -- what reading a coded unit of l bytes and the two bytes before it asks

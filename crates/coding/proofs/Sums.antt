@@ -16,9 +16,9 @@ use Rattle.bits.proofs.Stores.{number-xor}
 use Rattle.bits.proofs.Words.{xor_low}
 use Rattle.coding.specs.declared.Rate.{Rate}
 use Rattle.coding.specs.declared.Rate.TheVariants.{TwoFifths, Half}
-use Rattle.coding.specs.Units.{groupSize, masksOf, masked, unitCoded, unitBit, word_of, bytes_of, length_of, downs, ups, placed, Words}
+use Rattle.coding.specs.Units.{group_size, masks_of, masked, unit_coded, unit_bit, word_of, bytes_of, length_of, downs, ups, placed, Words}
 use Rattle.coding.proofs.Windows.{and-ones}
-use Rattle.coding.proofs.Masks.{unitCoded-bit, unitBit-bit}
+use Rattle.coding.proofs.Masks.{unit_coded-bit, unit_bit-bit}
 
 -- ---- the parity under a mask
 
@@ -55,22 +55,22 @@ below_power (suc n) = omega (arith, below_power n, pow-suc 2 n)
 module _ (rate : Rate) (x y : ℕ) where
   masked-xor : (k : ℕ) → masked rate (bit_xor x y) k ≡ (masked rate x k + masked rate y k) % 2
   unfolding masked
-  masked-xor k = let g : ℕ = get_or (masksOf rate) k 0 in parity-xor g x y g (below_power g)
+  masked-xor k = let g : ℕ = get_or (masks_of rate) k 0 in parity-xor g x y g (below_power g)
 
 module _ (rate : Rate) (x y i : ℕ) where
-  unitCoded-xor : unitCoded rate (bit_xor x y) i ≡ (unitCoded rate x i + unitCoded rate y i) % 2
-  unfolding unitCoded
-  unitCoded-xor =
-      let s : ℕ = 14 - 2 * (i / groupSize rate) in
-      let k : ℕ = i % groupSize rate in
+  unit_coded-xor : unit_coded rate (bit_xor x y) i ≡ (unit_coded rate x i + unit_coded rate y i) % 2
+  unfolding unit_coded
+  unit_coded-xor =
+      let s : ℕ = 14 - 2 * (i / group_size rate) in
+      let k : ℕ = i % group_size rate in
       ap (λ (w : ℕ). masked rate w k) (ap (λ (w : ℕ). w % 256) (xor_shr x y s) ∙ xor_mod (x / 2 ^ s) (y / 2 ^ s) 8)
       ∙ masked-xor rate (x / 2 ^ s % 256) (y / 2 ^ s % 256) k
 
-  unitBit-xor : unitBit rate (bit_xor x y) i ≡ (unitBit rate x i + unitBit rate y i) % 2
-  unfolding unitBit
-  unitBit-xor =
-      let s : ℕ = (7 - i / 2) * groupSize rate in
-      let k : ℕ = groupSize rate + i % 2 in
+  unit_bit-xor : unit_bit rate (bit_xor x y) i ≡ (unit_bit rate x i + unit_bit rate y i) % 2
+  unfolding unit_bit
+  unit_bit-xor =
+      let s : ℕ = (7 - i / 2) * group_size rate in
+      let k : ℕ = group_size rate + i % 2 in
       ap (λ (w : ℕ). masked rate w k) (xor_shr x y s) ∙ masked-xor rate (x / 2 ^ s) (y / 2 ^ s) k
 
 -- ---- the word
@@ -87,10 +87,10 @@ module _ (rate : Rate) where
   word-xor : (inverse : Bool) (x y : ℕ) → word_of rate inverse (bit_xor x y) ≡ bit_xor (word_of rate inverse x) (word_of rate inverse y)
   unfolding word_of
   word-xor true x y =
-      number-cong 16 _ _ (λ i _. unitBit-xor rate x y i) ∙ sym (number-xor 16 (unitBit rate x) (unitBit rate y) (unitBit-bit rate x) (unitBit-bit rate y))
+      number-cong 16 _ _ (λ i _. unit_bit-xor rate x y i) ∙ sym (number-xor 16 (unit_bit rate x) (unit_bit rate y) (unit_bit-bit rate x) (unit_bit-bit rate y))
   word-xor false x y =
-      number-cong _ _ _ (λ i _. unitCoded-xor rate x y i)
-      ∙ sym (number-xor (8 * groupSize rate) (unitCoded rate x) (unitCoded rate y) (unitCoded-bit rate x) (unitCoded-bit rate y))
+      number-cong _ _ _ (λ i _. unit_coded-xor rate x y i)
+      ∙ sym (number-xor (8 * group_size rate) (unit_coded rate x) (unit_coded rate y) (unit_coded-bit rate x) (unit_coded-bit rate y))
 
   module _ (inverse : Bool) where
     pub word-zero : (from : ℕ) → word_of rate inverse (0 * 2 ^ from) ≡ 0
@@ -190,7 +190,7 @@ module _ (rate : Rate) (t : ℕ) where
   unfolding placed
   place-6 = mod-mod-pow (t / 2 ^ 32 * 2 ^ 14) 48 16
 
-cut : (rate : Rate) (n : ℕ) → n % 2 ^ 64 % 2 ^ (8 * groupSize rate) ≡ n % 2 ^ (8 * groupSize rate)
+cut : (rate : Rate) (n : ℕ) → n % 2 ^ 64 % 2 ^ (8 * group_size rate) ≡ n % 2 ^ (8 * group_size rate)
 cut TwoFifths n = mod-mod-pow n 24 40
 cut Half n = mod-mod-pow n 32 32
 
@@ -198,23 +198,23 @@ over-one : (n : ℕ) → n ≡ n / 2 ^ 0
 over-one n = omega arith
 
 module _ (rate : Rate) (t : ℕ) where
-  coded-0 : t / 2 ^ (3 * groupSize rate) % 2 ^ (8 * groupSize rate) ≡ placed rate false 0 t
+  coded-0 : t / 2 ^ (3 * group_size rate) % 2 ^ (8 * group_size rate) ≡ placed rate false 0 t
   unfolding placed
-  coded-0 = ap (λ (n : ℕ). n % 2 ^ (8 * groupSize rate)) (omega arith)
+  coded-0 = ap (λ (n : ℕ). n % 2 ^ (8 * group_size rate)) (omega arith)
 
-  coded-1 : t * 2 ^ groupSize rate % 2 ^ 64 % 2 ^ (8 * groupSize rate) ≡ placed rate false 1 t
+  coded-1 : t * 2 ^ group_size rate % 2 ^ 64 % 2 ^ (8 * group_size rate) ≡ placed rate false 1 t
   unfolding placed
-  coded-1 = cut rate _ ∙ ap (λ (n : ℕ). n * 2 ^ groupSize rate % 2 ^ (8 * groupSize rate)) (over-one t)
+  coded-1 = cut rate _ ∙ ap (λ (n : ℕ). n * 2 ^ group_size rate % 2 ^ (8 * group_size rate)) (over-one t)
 
-  coded-2 : t * 2 ^ (5 * groupSize rate) % 2 ^ 64 % 2 ^ (8 * groupSize rate) ≡ placed rate false 2 t
+  coded-2 : t * 2 ^ (5 * group_size rate) % 2 ^ 64 % 2 ^ (8 * group_size rate) ≡ placed rate false 2 t
   unfolding placed
-  coded-2 = cut rate _ ∙ ap (λ (n : ℕ). n * 2 ^ (5 * groupSize rate) % 2 ^ (8 * groupSize rate)) (over-one t)
+  coded-2 = cut rate _ ∙ ap (λ (n : ℕ). n * 2 ^ (5 * group_size rate) % 2 ^ (8 * group_size rate)) (over-one t)
 
 -- the coded bits of a unit from the entries of its two bytes and of the one before
 pub coded-sum : (rate : Rate) (x a b c : ℕ) → x < 2 ^ 24
     → placed rate false 0 a ≡ word_of rate false (x / 2 ^ 0 % 256 * 2 ^ 0) → placed rate false 1 b ≡ word_of rate false (x / 2 ^ 8 % 256 * 2 ^ 8)
     → placed rate false 2 c ≡ word_of rate false (x / 2 ^ 16 % 256 * 2 ^ 16)
-    → bit_xor (bit_xor (c * 2 ^ (5 * groupSize rate) % 2 ^ 64) (b * 2 ^ groupSize rate % 2 ^ 64)) (a / 2 ^ (3 * groupSize rate)) % 2 ^ (8 * groupSize rate)
+    → bit_xor (bit_xor (c * 2 ^ (5 * group_size rate) % 2 ^ 64) (b * 2 ^ group_size rate % 2 ^ 64)) (a / 2 ^ (3 * group_size rate)) % 2 ^ (8 * group_size rate)
     ≡ word_of rate false x
 coded-sum rate x a b c h p q r =
     let s₁ = word_first rate false x 16 _ h (coded-2 rate c ∙ r) in

@@ -6,20 +6,20 @@ use Rattle.coding.specs.declared.Rate.TheVariants.{TwoFifths, Half}
 use Rattle.coding.specs.Coder.{Pattern, rate25, rate12, coded, cells}
 use Rattle.coding.specs.Inverse.{recipe25, recipe12, uncoded}
 
-abbrev pub patternOf : Rate → Pattern
-patternOf TwoFifths = rate25
-patternOf Half = rate12
+abbrev pub pattern_of : Rate → Pattern
+pattern_of TwoFifths = rate25
+pattern_of Half = rate12
 
-abbrev pub recipeOf : Rate → List (ℕ × ℕ)
-recipeOf TwoFifths = recipe25
-recipeOf Half = recipe12
+abbrev pub recipe_of : Rate → List (ℕ × ℕ)
+recipe_of TwoFifths = recipe25
+recipe_of Half = recipe12
 
 -- how many coded bits a frame of N bits has
-abbrev pub codedLength : Rate → ℕ → ℕ
-codedLength rate N = cells (patternOf rate) N
+abbrev pub coded_length : Rate → ℕ → ℕ
+coded_length rate N = cells (pattern_of rate) N
 
 -- y is the coding of a frame of N bits: what y decodes to codes to y again
-unfoldable pub isCoded : Rate → ℕ → (ℕ → ℕ) → Bool
-isCoded rate N y =
-    let s = uncoded (patternOf rate) (recipeOf rate) N y in
-    all (codedLength rate N) (λ m. eqb (y m) (coded (patternOf rate) N s m))
+unfoldable pub is_coded : Rate → ℕ → (ℕ → ℕ) → Bool
+is_coded rate N y =
+    let s = uncoded (pattern_of rate) (recipe_of rate) N y in
+    all (coded_length rate N) (λ m. eqb (y m) (coded (pattern_of rate) N s m))

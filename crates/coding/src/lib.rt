@@ -4,11 +4,11 @@ ghost use Rattle.std.specs.Prelude.{◌≡◌, ℕ, ◌+◌, ◌*◌, ◌/◌, �
 ghost use Rattle.std.specs.Int.Bits.{bit_xor};
 ghost use Rattle.bits.specs.Bits.{bit_at, number, packed};
 ghost use Rattle.bits.specs.Tests.{lowest};
-ghost use Rattle.scrambling.specs.Scrambler.{scrambledEach};
+ghost use Rattle.scrambling.specs.Scrambler.{scrambled_each};
 ghost use Rattle.coding.specs.Coder.{back};
-ghost use Rattle.coding.specs.Channel.{channel, noFrame};
-ghost use Rattle.coding.specs.Buffers.{Buffers, codedEach, uncodedEach};
-ghost use Rattle.coding.specs.Units.{groupSize, bytes_of, placed, word_of, Words, Within, around as «around-of»};
+ghost use Rattle.coding.specs.Channel.{channel, no_frame};
+ghost use Rattle.coding.specs.Buffers.{Buffers, coded_each, uncoded_each};
+ghost use Rattle.coding.specs.Units.{group_size, bytes_of, placed, word_of, Words, Within, around as «around-of»};
 
 // The code rates 2/5 and 1/2 of Table 9-1.
 #[derive(Drop)]
@@ -192,8 +192,8 @@ fn around(n: usize, j: usize, r: usize, d: usize, m: usize, bytes: &[u8]) -> u64
 
 // The coded bytes of unit u.
 fn load_unit(rate: Rate, coded: &[u8], u: usize) -> u64
-    requires { groupSize rate * u + groupSize rate ≤ length coded.now }
-    ensures { result ≡ number (8 * groupSize rate) (λ i. bit_at coded.now (8 * (groupSize rate * u) + i)) }
+    requires { group_size rate * u + group_size rate ≤ length coded.now }
+    ensures { result ≡ number (8 * group_size rate) (λ i. bit_at coded.now (8 * (group_size rate * u) + i)) }
 {
     match rate {
         Rate::TwoFifths => load(coded, 5 * u, 5),
@@ -203,10 +203,10 @@ fn load_unit(rate: Rate, coded: &[u8], u: usize) -> u64
 
 // Stores the coded bytes of unit u.
 fn store_unit(rate: Rate, word: u64, u: usize, out: &mut [u8])
-    requires { groupSize rate * u + groupSize rate ≤ length out.old }
-    ensures { (f : ℕ → ℕ) → ((i : ℕ) → f i < 2) → word ≡ number (8 * groupSize rate) (λ i. f (8 * (groupSize rate * u) + i))
-        → take (groupSize rate * u) out.old ≡ packed (groupSize rate * u) f → take (groupSize rate * u + groupSize rate) out.new
-        ≡ packed (groupSize rate * u + groupSize rate) f }
+    requires { group_size rate * u + group_size rate ≤ length out.old }
+    ensures { (f : ℕ → ℕ) → ((i : ℕ) → f i < 2) → word ≡ number (8 * group_size rate) (λ i. f (8 * (group_size rate * u) + i))
+        → take (group_size rate * u) out.old ≡ packed (group_size rate * u) f → take (group_size rate * u + group_size rate) out.new
+        ≡ packed (group_size rate * u + group_size rate) f }
 {
     match rate {
         Rate::TwoFifths => store(word, 5, 5 * u, out),
@@ -218,7 +218,7 @@ fn store_unit(rate: Rate, word: u64, u: usize, out: &mut [u8])
 fn coded_unit(rate: Rate, table: &[u64; 256], n: usize, frames: &[u8], u: usize, v: usize) -> u64
     requires words { Words rate false table.now }
     requires bound { (12 ≤ 8 * n) × (n % 2 ≡ 0) × (u / (n / 2) * n + n ≤ length frames.now) × (v ≡ u % (n / 2)) }
-    ensures { result ≡ number (8 * groupSize rate) (λ i. codedEach rate (8 * n) (bit_at frames.now) (8 * (groupSize rate * u) + i)) }
+    ensures { result ≡ number (8 * group_size rate) (λ i. coded_each rate (8 * n) (bit_at frames.now) (8 * (group_size rate * u) + i)) }
 {
     unit_coded(rate, table, around(n, 2 * u, 2 * v, 1, 2, frames))
 }
@@ -226,8 +226,8 @@ fn coded_unit(rate: Rate, table: &[u64; 256], n: usize, frames: &[u8], u: usize,
 // The bits of unit u of the frames whose codings are `coded`, which is unit v of its frame.
 fn frame_unit(rate: Rate, table: &[u64; 256], n: usize, coded: &[u8], u: usize, v: usize) -> u64
     requires words { Words rate true table.now }
-    requires bound { (12 ≤ 8 * n) × (n % 2 ≡ 0) × (u / (n / 2) * (n / 2 * groupSize rate) + n / 2 * groupSize rate ≤ length coded.now) × (v ≡ u % (n / 2)) }
-    ensures { result ≡ number 16 (λ i. uncodedEach rate (8 * n) (bit_at coded.now) (8 * (2 * u) + i)) }
+    requires bound { (12 ≤ 8 * n) × (n % 2 ≡ 0) × (u / (n / 2) * (n / 2 * group_size rate) + n / 2 * group_size rate ≤ length coded.now) × (v ≡ u % (n / 2)) }
+    ensures { result ≡ number 16 (λ i. uncoded_each rate (8 * n) (bit_at coded.now) (8 * (2 * u) + i)) }
 {
     match rate {
         Rate::TwoFifths => unit_bits(rate, table, around(n / 2 * 5, 5 * u, 5 * v, 2, 5, coded)),
@@ -238,7 +238,7 @@ fn frame_unit(rate: Rate, table: &[u64; 256], n: usize, coded: &[u8], u: usize, 
 // Codes frames of n bytes (section 9.3), each by itself.
 pub fn encode(rate: Rate, n: usize, count: usize, frames: &[u8], out: &mut [u8])
     requires { Buffers rate n count frames.now out.old }
-    ensures { out.new ≡ packed (length out.old) (codedEach rate (8 * n) (bit_at frames.now)) }
+    ensures { out.new ≡ packed (length out.old) (coded_each rate (8 * n) (bit_at frames.now)) }
 {
     let mut table = [0u64; 256];
     fill_words(rate, false, &mut table);
@@ -254,7 +254,7 @@ pub fn encode(rate: Rate, n: usize, count: usize, frames: &[u8], out: &mut [u8])
 // The frames of n bytes whose codings are `coded`, by the inverse of the coder.
 pub fn decode(rate: Rate, n: usize, count: usize, coded: &[u8], out: &mut [u8])
     requires { Buffers rate n count out.old coded.now }
-    ensures { out.new ≡ packed (length out.old) (uncodedEach rate (8 * n) (bit_at coded.now)) }
+    ensures { out.new ≡ packed (length out.old) (uncoded_each rate (8 * n) (bit_at coded.now)) }
 {
     let mut table = [0u64; 256];
     fill_words(rate, true, &mut table);
@@ -270,8 +270,8 @@ pub fn decode(rate: Rate, n: usize, count: usize, coded: &[u8], out: &mut [u8])
 // The lowest frame whose part of `coded` is no coding, or `count`: `frames` is what `decode` found, and is coded again.
 pub fn first_bad(rate: Rate, n: usize, count: usize, coded: &[u8], frames: &[u8]) -> usize
     requires buffers { Buffers rate n count frames.now coded.now }
-    requires frames_value { frames.now ≡ packed (count * n) (uncodedEach rate (8 * n) (bit_at coded.now)) }
-    ensures { result ≡ lowest count (noFrame rate (8 * n) (bit_at coded.now)) }
+    requires frames_value { frames.now ≡ packed (count * n) (uncoded_each rate (8 * n) (bit_at coded.now)) }
+    ensures { result ≡ lowest count (no_frame rate (8 * n) (bit_at coded.now)) }
 {
     let mut table = [0u64; 256];
     fill_words(rate, false, &mut table);
@@ -298,7 +298,7 @@ pub fn encode_channel(
     out: &mut [u8],
 )
     requires { Buffers rate n count frames.now out.old × (length between.old ≡ length frames.now) }
-    ensures between_after { between.new ≡ packed (length between.old) (scrambledEach (8 * n) (bit_at frames.now)) }
+    ensures between_after { between.new ≡ packed (length between.old) (scrambled_each (8 * n) (bit_at frames.now)) }
     ensures out_after { out.new ≡ packed (length out.old) (channel rate (8 * n) (bit_at frames.now)) }
 {
     scrambling::scramble_each(n, frames, between);
@@ -309,8 +309,8 @@ pub fn encode_channel(
 // no coding, or `count`.
 pub fn judge_channel(rate: Rate, n: usize, count: usize, coded: &[u8], between: &mut [u8]) -> usize
     requires { Buffers rate n count between.old coded.now }
-    ensures between_after { between.new ≡ packed (length between.old) (uncodedEach rate (8 * n) (bit_at coded.now)) }
-    ensures value { result ≡ lowest count (noFrame rate (8 * n) (bit_at coded.now)) }
+    ensures between_after { between.new ≡ packed (length between.old) (uncoded_each rate (8 * n) (bit_at coded.now)) }
+    ensures value { result ≡ lowest count (no_frame rate (8 * n) (bit_at coded.now)) }
 {
     decode(rate, n, count, coded, between);
     first_bad(rate, n, count, coded, between)

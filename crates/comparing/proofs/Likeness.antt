@@ -6,10 +6,10 @@ use native.Mathlib.Omega.{arith}
 use lib.ListN.{length}
 use Rattle.runs.specs.declared.Main.{Main}
 use Rattle.runs.specs.declared.Main.TheVariants.{Plain, Mp5, Mp6}
-use Rattle.runs.specs.MainChannels.{mainOf, delayFrames}
+use Rattle.runs.specs.MainChannels.{main_of, delay_frames}
 use Rattle.runs.specs.Lent.{Frames}
 use Rattle.runs.specs.Runs.{SenderRun, count}
-use Rattle.comparing.specs.Same.{Same, SameNow, LikeContinuation, SameThrough, blockPairs, Likeness}
+use Rattle.comparing.specs.Same.{Same, SameNow, LikeContinuation, SameThrough, block_pairs, Likeness}
 use Rattle.comparing.proofs.Further.{goes, can-go}
 use Rattle.comparing.proofs.Same.{shown-now, stay, waiting-unsent}
 use Rattle.comparing.proofs.Finer.{apart}
@@ -22,21 +22,21 @@ stay-when mode a a' mode' =
     (λ b b' fs w on. stay mode a a' b b' fs on w.lengths w.signals w.waiting)
 
 -- so many block pairs show the internal matrices, and the delay memory
-show-extended : (k : Main) → 16 ≤ blockPairs k
+show-extended : (k : Main) → 16 ≤ block_pairs k
 show-extended Plain = omega arith
 show-extended Mp5 = omega arith
 show-extended Mp6 = omega arith
 
-show-delay : (k : Main) → 8 * delayFrames k ≤ blockPairs k
+show-delay : (k : Main) → 8 * delay_frames k ≤ block_pairs k
 show-delay Plain = omega arith
 show-delay Mp5 = omega arith
 show-delay Mp6 = omega arith
 
 shown : (mode : ℕ) (a a' b b' : SenderRun mode) (fs : List Frames) → count mode a ≡ count mode b
-    → LikeContinuation mode mode a a' b b' fs → blockPairs (mainOf mode) ≤ 8 * length fs → SameThrough mode (count mode a) (blockPairs (mainOf mode)) a' b'
+    → LikeContinuation mode mode a a' b b' fs → block_pairs (main_of mode) ≤ 8 * length fs → SameThrough mode (count mode a) (block_pairs (main_of mode)) a' b'
     → SameNow mode mode a b
 shown mode a a' b b' fs lengths on =
-    shown-now mode a a' b b' fs on lengths (blockPairs (mainOf mode)) (show-extended (mainOf mode)) (show-delay (mainOf mode))
+    shown-now mode a a' b b' fs on lengths (block_pairs (main_of mode)) (show-extended (main_of mode)) (show-delay (main_of mode))
 
 pub likeness : Likeness
 likeness =

@@ -7,18 +7,18 @@ use native.Mathlib.Decide.{dec_lt, ℕ_discrete}
 use native.Mathlib.Omega.{arith}
 use Rattle.bits.specs.Bits.{bit_at, written}
 use Rattle.bits.proofs.Written.{written-before, written_last, written-lt, written-other}
-use Rattle.bits.proofs.Packed.{bit_at_lt, bitAt-packed, packed-cong}
+use Rattle.bits.proofs.Packed.{bit_at_lt, bit_at-packed, packed-cong}
 use Rattle.coding.specs.declared.Rate.TheVariants.{Half}
 use Rattle.coding.proofs.Channel.{channel-bit}
-use Rattle.interleaving.specs.PX.{codedBytes, codedBits, cells, place, step_of, after, read}
+use Rattle.interleaving.specs.PX.{coded_bytes, coded_bits, cells, place, step_of, after, read}
 use Rattle.interleaving.specs.FinderPX.{source}
 use Rattle.interleaving.proofs.OncePX.{px-each-once}
 use Rattle.runs.specs.declared.Kind.{Kind}
 use Rattle.runs.specs.declared.Kind.TheVariants.{Unused, Narrow, Wide}
-use Rattle.runs.specs.Lengths.{frameBits, tableRow, matrixLen, senderLen}
-use Rattle.runs.specs.Chain.{Buffer, codedOf, pxOf, mem_of}
+use Rattle.runs.specs.Lengths.{frame_bits, table_row, matrix_len, sender_len}
+use Rattle.runs.specs.Chain.{Buffer, coded_of, px_of, mem_of}
 use Rattle.runs.proofs.Rows.{bits_of, matrix-bits, memory-bits}
-use Rattle.comparing.specs.Waiting.{stepFrom, Waits, SameWaiting}
+use Rattle.comparing.specs.Waiting.{step_from, Waits, SameWaiting}
 
 -- a cell depends on what stood there only where no bit is written to it
 pub written_same : (place bits : ℕ → ℕ) (n : ℕ) (m m' : ℕ → ℕ) (c : ℕ) → (((i : ℕ) → i < n → c ≢ place i) → m c ≡ m' c)
@@ -36,17 +36,17 @@ written_same place bits (suc n) m m' c same =
 
 -- ---- steps from now
 
-later-on : (kind half : ℕ) → half < 2 → (d : ℕ) → stepFrom kind half (codedBits kind + d) ≡ stepFrom kind ((half + 1) % 2) d
-unfolding stepFrom
+later-on : (kind half : ℕ) → half < 2 → (d : ℕ) → step_from kind half (coded_bits kind + d) ≡ step_from kind ((half + 1) % 2) d
+unfolding step_from
 later-on kind zero lh d = ap (λ (k : ℕ). k % cells kind) (omega arith)
 later-on kind (suc zero) lh d =
-    let around : 1 * codedBits kind + (codedBits kind + d) ≡ 0 * codedBits kind + d + cells kind = omega arith in
-    ap (λ (k : ℕ). k % cells kind) around ∙ add-mod_right (0 * codedBits kind + d) (cells kind)
+    let around : 1 * coded_bits kind + (coded_bits kind + d) ≡ 0 * coded_bits kind + d + cells kind = omega arith in
+    ap (λ (k : ℕ). k % cells kind) around ∙ add-mod_right (0 * coded_bits kind + d) (cells kind)
 later-on kind (suc (suc h)) lh d = absurd (omega arith)
 
 module _ (kind half : ℕ) (lh : half < 2) where
   abbrev H : ℕ
-  H = codedBits kind
+  H = coded_bits kind
 
   abbrev next : ℕ
   next = (half + 1) % 2
@@ -55,14 +55,14 @@ module _ (kind half : ℕ) (lh : half < 2) where
   step-lt : (j : ℕ) → j < H → step_of kind half j < cells kind
   step-lt j l = let one : half ≤ 1 = omega arith in omega (arith, mul-le-mul_right H one)
 
-  step-now : (j : ℕ) → j < H → stepFrom kind half j ≡ step_of kind half j
-  unfolding stepFrom
+  step-now : (j : ℕ) → j < H → step_from kind half j ≡ step_of kind half j
+  unfolding step_from
   step-now j l = mod-eq_of_lt (step-lt j l)
 
-  apart : (c j : ℕ) → j < H → c ≢ place kind (step_of kind half j) → place kind (stepFrom kind half j) ≢ c
+  apart : (c j : ℕ) → j < H → c ≢ place kind (step_of kind half j) → place kind (step_from kind half j) ≢ c
   apart c j l ne e = ne (sym e ∙ ap (place kind) (step-now j l))
 
-  apart-back : (c j : ℕ) → j < H → place kind (stepFrom kind half j) ≢ c → c ≢ place kind (step_of kind half j)
+  apart-back : (c j : ℕ) → j < H → place kind (step_from kind half j) ≢ c → c ≢ place kind (step_of kind half j)
   apart-back c j l ne e = ne (ap (place kind) (step-now j l) ∙ sym e)
 
   -- what waits shows when it is read, and until then it stays
@@ -83,11 +83,11 @@ module _ (kind half : ℕ) (lh : half < 2) where
   waits-on : (c d : ℕ) → Waits kind next c d → ((i : ℕ) → i < H → c ≢ place kind (step_of kind half i)) → Waits kind half c (H + d)
   waits-on c d w never = record { inside = w.inside; read = later-on kind half lh d ∙ w.read; kept = λ s h. go s h (dec_lt s H) }
     where
-      go : (s : ℕ) → s ≤ H + d → Dec (s < H) → place kind (stepFrom kind half s) ≢ c
+      go : (s : ℕ) → s ≤ H + d → Dec (s < H) → place kind (step_from kind half s) ≢ c
       go s h (yes l) = apart c s l (never s l)
       go s h (no l) =
           let from : s ≡ H + (s - H) = omega arith in
-          λ e. w.kept (s - H) (omega arith) (ap (place kind) (sym (later-on kind half lh (s - H)) ∙ ap (stepFrom kind half) (sym from)) ∙ e)
+          λ e. w.kept (s - H) (omega arith) (ap (place kind) (sym (later-on kind half lh (s - H)) ∙ ap (step_from kind half) (sym from)) ∙ e)
 
   waits-next : (c d : ℕ) → Waits kind half c (H + d) → Waits kind next c d
   waits-next c d w =
@@ -99,7 +99,7 @@ module _ (kind half : ℕ) (lh : half < 2) where
 
   -- a bit waits less than two L1 frames
   waits-short : kind < 2 → (c d : ℕ) → Waits kind half c d → d < cells kind
-  unfolding stepFrom
+  unfolding step_from
   waits-short lk c d w = go (dec_lt (source kind c) (half * H))
     where
       below : source kind c < cells kind
@@ -112,7 +112,7 @@ module _ (kind half : ℕ) (lh : half < 2) where
       writes = (px-each-once kind lk).back-there c w.inside
 
       -- the step from now that writes to the cell
-      until : (s : ℕ) → s < cells kind → stepFrom kind half s ≡ source kind c → d < cells kind
+      until : (s : ℕ) → s < cells kind → step_from kind half s ≡ source kind c → d < cells kind
       until s h e = elim (dec_lt d s) [ yes l ↦ omega arith | no l ↦ absurd (w.kept s (omega arith) (ap (place kind) e ∙ writes)) ]
 
       go : Dec (source kind c < half * H) → d < cells kind
@@ -138,70 +138,70 @@ module _ (kind half : ℕ) (lh : half < 2) where
 -- ---- the memories of an extended channel, in bytes
 
 -- a cell is of a channel that the mode has
-pub used : (k : Kind) (c : ℕ) → c < cells (tableRow k) → tableRow k < 2
-unfolding codedBytes
+pub used : (k : Kind) (c : ℕ) → c < cells (table_row k) → table_row k < 2
+unfolding coded_bytes
 used Unused c h = absurd (not-suc-le-zero h)
 used Narrow c h = omega arith
 used Wide c h = omega arith
 
 module _ (k : Kind) where
-  after-lt : (half : ℕ) (m a : Buffer) (n c : ℕ) → after (tableRow k) half (codedOf k a) (bit_at m) n c < 2
-  unfolding after codedOf
-  after-lt half m a n c = written-lt _ _ n _ (channel-bit Half (frameBits k) (bit_at a)) (bit_at_lt m) c
+  after-lt : (half : ℕ) (m a : Buffer) (n c : ℕ) → after (table_row k) half (coded_of k a) (bit_at m) n c < 2
+  unfolding after coded_of
+  after-lt half m a n c = written-lt _ _ n _ (channel-bit Half (frame_bits k) (bit_at a)) (bit_at_lt m) c
 
   -- the bits of the memory and of the matrix
-  mem-bit : (half : ℕ) (m a : Buffer) (c : ℕ) → c < cells (tableRow k)
-      → bit_at (mem_of k half m a) c ≡ after (tableRow k) half (codedOf k a) (bit_at m) (bits_of k) c
+  mem-bit : (half : ℕ) (m a : Buffer) (c : ℕ) → c < cells (table_row k)
+      → bit_at (mem_of k half m a) c ≡ after (table_row k) half (coded_of k a) (bit_at m) (bits_of k) c
   unfolding mem_of
-  mem-bit half m a c h = bitAt-packed (senderLen k) _ (λ i _. after-lt half m a _ i) c (omega (arith, memory-bits k))
+  mem-bit half m a c h = bit_at-packed (sender_len k) _ (λ i _. after-lt half m a _ i) c (omega (arith, memory-bits k))
 
   pub px-bit : (half : ℕ) (m a : Buffer) (j : ℕ) → j < bits_of k
-      → bit_at (pxOf k half m a) j ≡ read (tableRow k) half (codedOf k a) (bit_at m) j
-  unfolding pxOf read
-  px-bit half m a j h = bitAt-packed (matrixLen k) _ (λ i _. after-lt half m a (suc i) _) j (omega (arith, matrix-bits k))
+      → bit_at (px_of k half m a) j ≡ read (table_row k) half (coded_of k a) (bit_at m) j
+  unfolding px_of read
+  px-bit half m a j h = bit_at-packed (matrix_len k) _ (λ i _. after-lt half m a (suc i) _) j (omega (arith, matrix-bits k))
 
   module _ (half : ℕ) (lh : half < 2) (m m' : Buffer) where
     -- equal waiting bits: the next matrix is equal, and what waits after it
-    pub px-same : SameWaiting k half m m' → (a : Buffer) → pxOf k half m a ≡ pxOf k half m' a
-    unfolding pxOf
-    px-same w a = packed-cong (matrixLen k) _ _ (λ j h. same_read (tableRow k) half lh (codedOf k a) (bit_at m) (bit_at m') w.bits j (omega (arith, matrix-bits k)))
+    pub px-same : SameWaiting k half m m' → (a : Buffer) → px_of k half m a ≡ px_of k half m' a
+    unfolding px_of
+    px-same w a = packed-cong (matrix_len k) _ _ (λ j h. same_read (table_row k) half lh (coded_of k a) (bit_at m) (bit_at m') w.bits j (omega (arith, matrix-bits k)))
 
     pub mem-same : SameWaiting k half m m' → (a : Buffer) → SameWaiting k ((half + 1) % 2) (mem_of k half m a) (mem_of k half m' a)
     mem-same w a =
         record {
           bits = λ c d x.
               mem-bit half m a c x.inside
-              ∙ same_after (tableRow k) half lh (codedOf k a) (bit_at m) (bit_at m') w.bits c d x
+              ∙ same_after (table_row k) half lh (coded_of k a) (bit_at m) (bit_at m') w.bits c d x
               ∙ sym (mem-bit half m' a c x.inside);
         }
 
     -- two equal matrices show that the waiting bits were
-    pub shown-same : (a b : Buffer) → ((j : ℕ) → j < bits_of k → bit_at (pxOf k half m a) j ≡ bit_at (pxOf k half m' a) j)
+    pub shown-same : (a b : Buffer) → ((j : ℕ) → j < bits_of k → bit_at (px_of k half m a) j ≡ bit_at (px_of k half m' a) j)
         → ((j : ℕ) → j < bits_of k
-        → bit_at (pxOf k ((half + 1) % 2) (mem_of k half m a) b) j ≡ bit_at (pxOf k ((half + 1) % 2) (mem_of k half m' a) b) j)
+        → bit_at (px_of k ((half + 1) % 2) (mem_of k half m a) b) j ≡ bit_at (px_of k ((half + 1) % 2) (mem_of k half m' a) b) j)
         → SameWaiting k half m m'
     shown-same a b e f = record { bits = λ c d x. go c d x (dec_lt d (bits_of k)) }
       where
-        go : (c d : ℕ) → Waits (tableRow k) half c d → Dec (d < bits_of k) → bit_at m c ≡ bit_at m' c
+        go : (c d : ℕ) → Waits (table_row k) half c d → Dec (d < bits_of k) → bit_at m c ≡ bit_at m' c
         go c d x (yes l) = sym (first m) ∙ e d l ∙ first m'
           where
-            first : (m : Buffer) → bit_at (pxOf k half m a) d ≡ bit_at m c
-            first m = px-bit half m a d l ∙ shows-now (tableRow k) half lh (codedOf k a) (bit_at m) c d l x
+            first : (m : Buffer) → bit_at (px_of k half m a) d ≡ bit_at m c
+            first m = px-bit half m a d l ∙ shows-now (table_row k) half lh (coded_of k a) (bit_at m) c d l x
         go c d x (no l) = sym (second m) ∙ f (d - bits_of k) (omega (arith, short)) ∙ second m'
           where
-            short : d < cells (tableRow k)
-            short = waits-short (tableRow k) half lh (used k c x.inside) c d x
+            short : d < cells (table_row k)
+            short = waits-short (table_row k) half lh (used k c x.inside) c d x
 
             from : d ≡ bits_of k + (d - bits_of k)
             from = omega arith
 
-            waits : Waits (tableRow k) half c (bits_of k + (d - bits_of k))
+            waits : Waits (table_row k) half c (bits_of k + (d - bits_of k))
             waits = rw (← from) x
 
-            second : (m : Buffer) → bit_at (pxOf k ((half + 1) % 2) (mem_of k half m a) b) (d - bits_of k) ≡ bit_at m c
+            second : (m : Buffer) → bit_at (px_of k ((half + 1) % 2) (mem_of k half m a) b) (d - bits_of k) ≡ bit_at m c
             second m =
                 px-bit ((half + 1) % 2) (mem_of k half m a) b (d - bits_of k) (omega (arith, short))
-                ∙ shows-now (tableRow k) ((half + 1) % 2) (omega arith) (codedOf k b) (bit_at (mem_of k half m a)) c (d - bits_of k) (omega (arith, short))
-                (waits-next (tableRow k) half lh c (d - bits_of k) waits)
+                ∙ shows-now (table_row k) ((half + 1) % 2) (omega arith) (coded_of k b) (bit_at (mem_of k half m a)) c (d - bits_of k) (omega (arith, short))
+                (waits-next (table_row k) half lh c (d - bits_of k) waits)
                 ∙ mem-bit half m a c x.inside
-                ∙ stays (tableRow k) half lh (codedOf k a) (bit_at m) c (d - bits_of k) waits
+                ∙ stays (table_row k) half lh (coded_of k a) (bit_at m) c (d - bits_of k) waits

@@ -9,10 +9,10 @@ use Rattle.bits.specs.Tests.{all}
 use Rattle.bits.proofs.Tests.{all-at}
 use Rattle.bits.proofs.Numbers.{number-cong, number_lt}
 use Rattle.control.specs.Control.{field, parity, sequence, assembled, stored, encoded, block_of}
-use Rattle.control.specs.Words.{decoded, reservedRead}
+use Rattle.control.specs.Words.{decoded, reserved_read}
 use Rattle.control.proofs.Values.{number-field}
 use Rattle.control.proofs.Sequences.{assembled-lt}
-use Rattle.control.proofs.Packing.{rowBit-here, bitAt-row}
+use Rattle.control.proofs.Packing.{row_bit-here, bit_at-row}
 
 pub decoded-lt : (block : List ℕ) (row : ℕ) → decoded block row < 2
 unfolding decoded
@@ -26,7 +26,7 @@ column-0 : (m c z row : ℕ) → row < 32 → bit_at (block_of m c z) (row * 64)
 unfolding encoded
 column-0 m c z row h =
     let e : row * 64 ≡ row * 64 + 0 = omega arith in
-    ap (bit_at (block_of m c z)) e ∙ bitAt-row m c z row 0 h (omega arith) ∙ rowBit-here m c z row 0 (omega arith)
+    ap (bit_at (block_of m c z)) e ∙ bit_at-row m c z row 0 h (omega arith) ∙ row_bit-here m c z row 0 (omega arith)
 
 -- a row below another, decoded
 decoded-row : (m c z row : ℕ) → 0 < row → row < 32 → decoded (block_of m c z) row ≡ assembled m c z 0 row
@@ -53,16 +53,16 @@ three-bits : (z : ℕ) → z < 8 → z / 4 / 1 % 2 * 4 + z / 2 / 1 % 2 * 2 + z /
 unfolding all
 three-bits z h = eqb→eq _ _ (all-at 8 (λ z. eqb (z / 4 / 1 % 2 * 4 + z / 2 / 1 % 2 * 2 + z / 1 % 2) z) tt z h)
 
-pub reserved-field : (m c z : ℕ) → z < 8 → reservedRead (block_of m c z) ≡ z
-unfolding reservedRead assembled sequence field parity
+pub reserved-field : (m c z : ℕ) → z < 8 → reserved_read (block_of m c z) ≡ z
+unfolding reserved_read assembled sequence field parity
 reserved-field m c z h =
     let at : (row : ℕ) → 0 < row → row < 32 → decoded (block_of m c z) row ≡ assembled m c z 0 row = decoded-row m c z in
     ap₂ (λ (a b : ℕ). a + b) (ap₂ (λ (a b : ℕ). a * 4 + b * 2) (at 7 (omega arith) (omega arith)) (at 15 (omega arith) (omega arith)))
     (at 24 (omega arith) (omega arith))
     ∙ three-bits z h
 
-pub reserved-read-lt : (block : List ℕ) → reservedRead block < 8
-unfolding reservedRead
+pub reserved-read-lt : (block : List ℕ) → reserved_read block < 8
+unfolding reserved_read
 reserved-read-lt block = omega (arith, decoded-lt block 7, decoded-lt block 15, decoded-lt block 24)
 
 -- Blocks of different modes, counts or numbers differ.
@@ -71,5 +71,5 @@ pub block-determines : (m c z m' c' z' : ℕ) → m < 64 → c < 16 → z < 8 �
 block-determines m c z m' c' z' hm hc hz hm' hc' hz' e = (
   sym (mode-field m c z hm) ∙ ap (λ (b : List ℕ). number 6 (λ i. decoded b (25 + i))) e ∙ mode-field m' c' z' hm',
   sym (count-field m c z hc) ∙ ap (λ (b : List ℕ). number 4 (λ i. decoded b (16 + i))) e ∙ count-field m' c' z' hc',
-  sym (reserved-field m c z hz) ∙ ap reservedRead e ∙ reserved-field m' c' z' hz',
+  sym (reserved-field m c z hz) ∙ ap reserved_read e ∙ reserved-field m' c' z' hz',
 )

@@ -12,9 +12,9 @@ use Rattle.bits.specs.Tests.{same, lowest}
 use Rattle.bits.proofs.Tests.{same_true, same-eq, same-ne, lowest-passes, lowest-none, lowest-le}
 use Rattle.control.specs.Control.{block_of}
 use Rattle.control.specs.Modes.{modes, covered}
-use Rattle.control.specs.Lookup.{triples, mode_of, count_of, reservedOf, lookedUp}
+use Rattle.control.specs.Lookup.{triples, mode_of, count_of, reserved_of, looked_up}
 use Rattle.control.specs.declared.Looked.TheVariants.{Found, NotABlock}
-use Rattle.control.specs.Words.{decoded, reservedRead}
+use Rattle.control.specs.Words.{decoded, reserved_read}
 use Rattle.control.proofs.Covered.{covered-place, covered-at, mode-lt, covered-lt}
 use Rattle.control.proofs.Decoding.{mode-field, count-field, reserved-field, block-determines}
 
@@ -30,8 +30,8 @@ count-lt : (n : ℕ) → count_of n < 16
 unfolding count_of
 count-lt n = omega arith
 
-reserved-lt : (n : ℕ) → reservedOf n < 8
-unfolding reservedOf
+reserved-lt : (n : ℕ) → reserved_of n < 8
+unfolding reserved_of
 reserved-lt n = omega arith
 
 triple-covered : (n : ℕ) → n < triples → covered (mode_of n) ≡ true
@@ -43,7 +43,7 @@ unfolding mode_of
 triple-lt n = mode-lt (n / 128)
 
 abbrev block : ℕ → List ℕ
-block n = block_of (mode_of n) (count_of n) (reservedOf n)
+block n = block_of (mode_of n) (count_of n) (reserved_of n)
 
 -- the triple of a mode's place, a count and a number
 module _ (k c z : ℕ) (hc : c < 16) (hz : z < 8) where
@@ -58,14 +58,14 @@ module _ (k c z : ℕ) (hc : c < 16) (hz : z < 8) where
   unfolding count_of
   triple-count = omega arith
 
-  triple-reserved : reservedOf triple ≡ z
-  unfolding reservedOf
+  triple-reserved : reserved_of triple ≡ z
+  unfolding reserved_of
   triple-reserved = omega arith
 
 -- ---- what is looked up
 
-pub looked-up-found : (b : List ℕ) (m c z : ℕ) → covered m ≡ true → c < 16 → z < 8 → b ≡ block_of m c z → lookedUp b ≡ Found m c z
-unfolding lookedUp triples
+pub looked-up-found : (b : List ℕ) (m c z : ℕ) → covered m ≡ true → c < 16 → z < 8 → b ≡ block_of m c z → looked_up b ≡ Found m c z
+unfolding looked_up triples
 looked-up-found b m c z cov hc hz e =
     let p : ℕ → Bool = λ n. same b (block n) in
     let k = covered-place m cov in
@@ -76,13 +76,13 @@ looked-up-found b m c z cov hc hz e =
     let n : ℕ = lowest triples p in
     let l : n < triples = omega (arith, lowest-le triples p r hit, k.inside) in
     let d =
-    block-determines (mode_of n) (count_of n) (reservedOf n) m c z (triple-lt n) (count-lt n) (reserved-lt n) (covered-lt m cov) hc hz
+    block-determines (mode_of n) (count_of n) (reserved_of n) m c z (triple-lt n) (count-lt n) (reserved-lt n) (covered-lt m cov) hc hz
     (sym (same_true b _ (lowest-passes triples p l)) ∙ e)
     in
     rw (lt-ltb n triples l) (found-cong d.0 d.1 d.2)
 
-looked-up-none : (b : List ℕ) → ((n : ℕ) → n < triples → b ≡ block n → ⊥) → lookedUp b ≡ NotABlock
-unfolding lookedUp
+looked-up-none : (b : List ℕ) → ((n : ℕ) → n < triples → b ≡ block n → ⊥) → looked_up b ≡ NotABlock
+unfolding looked_up
 looked-up-none b h = rw (lowest-none triples (λ n. same b (block n)) (λ n l. same-ne b (block n) (h n l)), no-below triples)
   where
     no-below : (n : ℕ) → ltb n n ≡ false
@@ -99,12 +99,12 @@ found-cases : (t : Bool) (m c z m' c' z' : ℕ) → cond t (Found m c z) NotABlo
 found-cases true m c z m' c' z' e = (refl, cc, cc, cc)
 found-cases false m c z m' c' z' e = let z : ◌≡◌ {A = ℕ} 0 1 = cc in absurd (omega arith)
 
-pub looked-up-is : (b : List ℕ) (m c z : ℕ) → lookedUp b ≡ Found m c z → Is b m c z
-unfolding lookedUp
+pub looked-up-is : (b : List ℕ) (m c z : ℕ) → looked_up b ≡ Found m c z → Is b m c z
+unfolding looked_up
 looked-up-is b m c z e =
     let p : ℕ → Bool = λ n. same b (block n) in
     let n : ℕ = lowest triples p in
-    let f = found-cases (ltb n triples) (mode_of n) (count_of n) (reservedOf n) m c z e in
+    let f = found-cases (ltb n triples) (mode_of n) (count_of n) (reserved_of n) m c z e in
     let l : n < triples = ltb-true n triples f.0 in
     record {
       is-covered = sym (ap covered f.1) ∙ triple-covered n l;
@@ -115,22 +115,22 @@ looked-up-is b m c z e =
 
 -- the code's way: a block is that of the mode, the count and the number which its column 0 says, or of none
 module _ (b : List ℕ) (m c z : ℕ) (hm : m ≡ number 6 (λ i. decoded b (25 + i))) (hc : c ≡ number 4 (λ i. decoded b (16 + i)))
-    (hz : z ≡ reservedRead b) where
-  read : (n : ℕ) → b ≡ block n → (m ≡ mode_of n) × (c ≡ count_of n) × (z ≡ reservedOf n)
+    (hz : z ≡ reserved_read b) where
+  read : (n : ℕ) → b ≡ block n → (m ≡ mode_of n) × (c ≡ count_of n) × (z ≡ reserved_of n)
   read n e = (
-    hm ∙ ap (λ (b : List ℕ). number 6 (λ i. decoded b (25 + i))) e ∙ mode-field (mode_of n) (count_of n) (reservedOf n) (triple-lt n),
-    hc ∙ ap (λ (b : List ℕ). number 4 (λ i. decoded b (16 + i))) e ∙ count-field (mode_of n) (count_of n) (reservedOf n) (count-lt n),
-    hz ∙ ap reservedRead e ∙ reserved-field (mode_of n) (count_of n) (reservedOf n) (reserved-lt n),
+    hm ∙ ap (λ (b : List ℕ). number 6 (λ i. decoded b (25 + i))) e ∙ mode-field (mode_of n) (count_of n) (reserved_of n) (triple-lt n),
+    hc ∙ ap (λ (b : List ℕ). number 4 (λ i. decoded b (16 + i))) e ∙ count-field (mode_of n) (count_of n) (reserved_of n) (count-lt n),
+    hz ∙ ap reserved_read e ∙ reserved-field (mode_of n) (count_of n) (reserved_of n) (reserved-lt n),
   )
 
-  pub looked-up-uncovered : covered m ≡ false → lookedUp b ≡ NotABlock
+  pub looked-up-uncovered : covered m ≡ false → looked_up b ≡ NotABlock
   looked-up-uncovered f =
       looked-up-none b (λ n l e.
       let t : covered m ≡ true = ap covered (read n e).0 ∙ triple-covered n l in
       let z : ◌≡◌ {A = ℕ} 0 1 = cc in
       omega arith)
 
-  pub looked-up-other : same b (block_of m c z) ≡ false → lookedUp b ≡ NotABlock
+  pub looked-up-other : same b (block_of m c z) ≡ false → looked_up b ≡ NotABlock
   looked-up-other f =
       looked-up-none b (λ n l e.
       let r = read n e in
@@ -139,10 +139,10 @@ module _ (b : List ℕ) (m c z : ℕ) (hm : m ≡ number 6 (λ i. decoded b (25 
       omega arith)
 
 -- The lookup of the block of a covered mode, a count and a number finds them.
-pub looked-up-block : (m c z : ℕ) → covered m ≡ true → c < 16 → z < 8 → lookedUp (block_of m c z) ≡ Found m c z
+pub looked-up-block : (m c z : ℕ) → covered m ≡ true → c < 16 → z < 8 → looked_up (block_of m c z) ≡ Found m c z
 looked-up-block m c z cov hc hz = looked-up-found (block_of m c z) m c z cov hc hz refl
 
 -- A block of no covered mode, count and number is found as none.
-pub looked-up-no-block : (b : List ℕ) → ((m c z : ℕ) → covered m ≡ true → c < 16 → z < 8 → b ≡ block_of m c z → ⊥) → lookedUp b ≡ NotABlock
+pub looked-up-no-block : (b : List ℕ) → ((m c z : ℕ) → covered m ≡ true → c < 16 → z < 8 → b ≡ block_of m c z → ⊥) → looked_up b ≡ NotABlock
 looked-up-no-block b h =
-    looked-up-none b (λ n l e. h (mode_of n) (count_of n) (reservedOf n) (triple-covered n l) (count-lt n) (reserved-lt n) e)
+    looked-up-none b (λ n l e. h (mode_of n) (count_of n) (reserved_of n) (triple-covered n l) (count-lt n) (reserved-lt n) e)

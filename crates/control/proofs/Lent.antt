@@ -10,7 +10,7 @@ use borrow.Rule.Slice.PartMut.{put_mid}
 use Rattle.bits.specs.Bits.{packed}
 use Rattle.bits.specs.Tests.{same}
 use Rattle.bits.proofs.Parts.{packed-append}
-use Rattle.control.specs.Control.{controlBit, block_of, controlOf}
+use Rattle.control.specs.Control.{control_bit, block_of, control_of}
 use Rattle.control.specs.Departs.{block_at, departs}
 use Rattle.control.proofs.Sent.{block-bits, block-length}
 
@@ -30,10 +30,10 @@ departs-part mode reserved c control =
 
 -- one turn: block c is written
 pub control-more : (mode reserved c : ℕ) (out block : List ℕ) → length out ≡ 4096 → c < 16
-    → take (c * 256) out ≡ packed (c * 256) (controlBit mode reserved) → block ≡ block_of mode c reserved
-    → take ((c + 1) * 256) (put_mid (c * 256) (c * 256 + 256 - c * 256) out block) ≡ packed ((c + 1) * 256) (controlBit mode reserved)
+    → take (c * 256) out ≡ packed (c * 256) (control_bit mode reserved) → block ≡ block_of mode c reserved
+    → take ((c + 1) * 256) (put_mid (c * 256) (c * 256 + 256 - c * 256) out block) ≡ packed ((c + 1) * 256) (control_bit mode reserved)
 control-more mode reserved c out block e h front back =
-    let f : ℕ → ℕ = controlBit mode reserved in
+    let f : ℕ → ℕ = control_bit mode reserved in
     let n : (c + 1) * 256 ≡ c * 256 + 256 = omega arith in
     let l : length (take (c * 256) out ++ block) ≡ c * 256 + 256 =
     length-append (take (c * 256) out) block
@@ -48,8 +48,8 @@ control-more mode reserved c out block e h front back =
 
 -- the end: all blocks are written
 pub control-all : (mode reserved c : ℕ) (out : List ℕ) → length out ≡ 4096 → c ≡ 16
-    → take (c * 256) out ≡ packed (c * 256) (controlBit mode reserved) → out ≡ controlOf mode reserved
-unfolding controlOf
+    → take (c * 256) out ≡ packed (c * 256) (control_bit mode reserved) → out ≡ control_of mode reserved
+unfolding control_of
 control-all mode reserved c out e h front =
     let n : c * 256 ≡ 4096 = omega arith in
-    sym (take_all (c * 256) out (omega arith)) ∙ front ∙ ap (λ (i : ℕ). packed i (controlBit mode reserved)) n
+    sym (take_all (c * 256) out (omega arith)) ∙ front ∙ ap (λ (i : ℕ). packed i (control_bit mode reserved)) n

@@ -12,35 +12,35 @@ use lib.Dec.{ltb}
 use Rattle.bits.specs.Bits.{bit_at, number}
 use Rattle.bits.proofs.Numbers.{digit, number_lt, number-digit}
 use Rattle.bits.proofs.Words.{xor_low}
-use Rattle.bits.proofs.Packed.{bitAt-packed}
-use Rattle.control.specs.Control.{assembled, stored, encoded, rowBit, blockBit, block_of}
+use Rattle.bits.proofs.Packed.{bit_at-packed}
+use Rattle.control.specs.Control.{assembled, stored, encoded, row_bit, block_bit, block_of}
 use Rattle.control.proofs.Sequences.{assembled-lt}
 
 -- ---- one bit
 
-pub rowBit-here : (m c z row column : ℕ) → column < 61 → rowBit m c z row column ≡ encoded m c z column row
-unfolding rowBit
-rowBit-here m c z row column h = ap (λ (t : Bool). cond t (encoded m c z column row) 0) (lt-ltb column 61 h)
+pub row_bit-here : (m c z row column : ℕ) → column < 61 → row_bit m c z row column ≡ encoded m c z column row
+unfolding row_bit
+row_bit-here m c z row column h = ap (λ (t : Bool). cond t (encoded m c z column row) 0) (lt-ltb column 61 h)
 
-pub rowBit-past : (m c z row column : ℕ) → 61 ≤ column → rowBit m c z row column ≡ 0
-unfolding rowBit
-rowBit-past m c z row column h = ap (λ (t : Bool). cond t (encoded m c z column row) 0) (le-ltb column 61 h)
+pub row_bit-past : (m c z row column : ℕ) → 61 ≤ column → row_bit m c z row column ≡ 0
+unfolding row_bit
+row_bit-past m c z row column h = ap (λ (t : Bool). cond t (encoded m c z column row) 0) (le-ltb column 61 h)
 
 pub encoded-lt : (m c z column row : ℕ) → encoded m c z column row < 2
 unfolding encoded stored
 encoded-lt m c z column row = omega arith
 
-rowBit-lt : (m c z row column : ℕ) → rowBit m c z row column < 2
-unfolding rowBit
-rowBit-lt m c z row column = go (ltb column 61)
+row_bit-lt : (m c z row column : ℕ) → row_bit m c z row column < 2
+unfolding row_bit
+row_bit-lt m c z row column = go (ltb column 61)
   where
     go : (t : Bool) → cond t (encoded m c z column row) 0 < 2
     go true = encoded-lt m c z column row
     go false = omega arith
 
-pub blockBit-lt : (m c z n : ℕ) → blockBit m c z n < 2
-unfolding blockBit
-blockBit-lt m c z n = rowBit-lt m c z _ _
+pub block_bit-lt : (m c z n : ℕ) → block_bit m c z n < 2
+unfolding block_bit
+block_bit-lt m c z n = row_bit-lt m c z _ _
 
 -- ---- one column
 
@@ -72,10 +72,10 @@ encoded-rows-lt m c z column row n h = lt_of_lt_of_le (number_lt row (encoded m 
 
 -- ---- the block
 
-pub bitAt-row : (m c z row column : ℕ) → row < 32 → column < 64 → bit_at (block_of m c z) (row * 64 + column) ≡ rowBit m c z row column
-unfolding block_of blockBit
-bitAt-row m c z row column h l =
+pub bit_at-row : (m c z row column : ℕ) → row < 32 → column < 64 → bit_at (block_of m c z) (row * 64 + column) ≡ row_bit m c z row column
+unfolding block_of block_bit
+bit_at-row m c z row column h l =
     let q : (row * 64 + column) / 64 ≡ row = omega arith in
     let r : (row * 64 + column) % 64 ≡ column = omega arith in
-    bitAt-packed 256 (blockBit m c z) (λ i _. blockBit-lt m c z i) (row * 64 + column) (omega arith)
-    ∙ ap₂ (λ (a b : ℕ). rowBit m c z a b) q r
+    bit_at-packed 256 (block_bit m c z) (λ i _. block_bit-lt m c z i) (row * 64 + column) (omega arith)
+    ∙ ap₂ (λ (a b : ℕ). row_bit m c z a b) q r

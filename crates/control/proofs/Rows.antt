@@ -13,7 +13,7 @@ use Rattle.bits.specs.Tests.{all}
 use Rattle.bits.proofs.Numbers.{digit, number-cong, number-digit}
 use Rattle.bits.proofs.Stores.{Stored, stored-turn}
 use Rattle.bits.proofs.Tests.{all-at}
-use Rattle.control.specs.Control.{rsid, sequence, assembled, stored, encoded, rowBit, blockBit}
+use Rattle.control.specs.Control.{rsid, sequence, assembled, stored, encoded, row_bit, block_bit}
 use Rattle.control.specs.Words.{digits}
 use Rattle.control.proofs.Packing.{encoded-lt}
 
@@ -34,25 +34,25 @@ unfolding encoded assembled
 encoded-alike m c z i j row e = ap (λ (s : List ℕ). stored (λ k. get_or s k 0) (suc row)) (sequence-alike m c z i j e)
 
 -- byte t of a row, where column i of the four has the bit y i
-unfoldable pub byteIn : (ℕ → ℕ) → ℕ → ℕ
-byteIn y t = number 8 (λ k. cond (ltb (8 * t + k) 61) (y (like (8 * t + k))) 0)
+unfoldable pub byte_in : (ℕ → ℕ) → ℕ → ℕ
+byte_in y t = number 8 (λ k. cond (ltb (8 * t + k) 61) (y (like (8 * t + k))) 0)
 
 module _ (m c z row : ℕ) where
-  row-bit : (column : ℕ) → rowBit m c z row column ≡ cond (ltb column 61) (encoded m c z (like column) row) 0
-  unfolding rowBit
+  row-bit : (column : ℕ) → row_bit m c z row column ≡ cond (ltb column 61) (encoded m c z (like column) row) 0
+  unfolding row_bit
   row-bit column = elim (dec_lt column 61) [
     | yes l ↦ rw (lt-ltb column 61 l) (encoded-alike m c z column (like column) row (like-rsid column l))
     | no l ↦ let h : 61 ≤ column = omega arith in rw (le-ltb column 61 h)
   ]
 
-  pub row-byte : (j t : ℕ) → j ≡ row * 8 + t → t < 8 → byteIn (λ i. encoded m c z i row) t ≡ byte_of (blockBit m c z) j
-  unfolding blockBit byteIn
+  pub row-byte : (j t : ℕ) → j ≡ row * 8 + t → t < 8 → byte_in (λ i. encoded m c z i row) t ≡ byte_of (block_bit m c z) j
+  unfolding block_bit byte_in
   row-byte j t e h =
       sym (number-cong 8 _ _
       (λ k l.
       let q : (8 * j + k) / 64 ≡ row = omega arith in
       let r : (8 * j + k) % 64 ≡ 8 * t + k = omega arith in
-      ap₂ (λ (a b : ℕ). rowBit m c z a b) q r ∙ row-bit (8 * t + k)))
+      ap₂ (λ (a b : ℕ). row_bit m c z a b) q r ∙ row-bit (8 * t + k)))
 
 -- the digit of a column in a row
 column-digit : (m c z i row x : ℕ) → row < 32 → x ≡ number 32 (encoded m c z i) → x / 2 ^ (31 - row) % 2 ≡ encoded m c z i row
@@ -97,35 +97,35 @@ row-stored {n} {f} {out} j a b c d w h e₀ e₁ e₂ e₃ e₄ e₅ e₆ e₇ =
 
 module _ (y : ℕ → ℕ) (v : ℕ) where
   module _ (e : v ≡ y 0 * 8 + y 1 * 4 + y 2 * 2 + y 3) where
-    pub byte-0 : v * 17 ≡ byteIn y 0
-    unfolding byteIn number like
+    pub byte-0 : v * 17 ≡ byte_in y 0
+    unfolding byte_in number like
     byte-0 = omega arith
 
-    pub byte-1 : v * 17 ≡ byteIn y 1
-    unfolding byteIn number like
+    pub byte-1 : v * 17 ≡ byte_in y 1
+    unfolding byte_in number like
     byte-1 = omega arith
 
-    pub byte-2 : v * 17 ≡ byteIn y 2
-    unfolding byteIn number like
+    pub byte-2 : v * 17 ≡ byte_in y 2
+    unfolding byte_in number like
     byte-2 = omega arith
 
-    pub byte-3 : (w : ℕ) → w ≡ y 0 * 8 + y 1 * 4 + y 2 * 2 + y 1 → v * 16 + w ≡ byteIn y 3
-    unfolding byteIn number like
+    pub byte-3 : (w : ℕ) → w ≡ y 0 * 8 + y 1 * 4 + y 2 * 2 + y 1 → v * 16 + w ≡ byte_in y 3
+    unfolding byte_in number like
     byte-3 w d = omega arith
 
   module _ (e : v ≡ y 0 * 8 + y 3 * 4 + y 2 * 2 + y 1) where
-    pub byte-4 : v * 17 ≡ byteIn y 4
-    unfolding byteIn number like
+    pub byte-4 : v * 17 ≡ byte_in y 4
+    unfolding byte_in number like
     byte-4 = omega arith
 
-    pub byte-5 : v * 17 ≡ byteIn y 5
-    unfolding byteIn number like
+    pub byte-5 : v * 17 ≡ byte_in y 5
+    unfolding byte_in number like
     byte-5 = omega arith
 
-    pub byte-6 : v * 17 ≡ byteIn y 6
-    unfolding byteIn number like
+    pub byte-6 : v * 17 ≡ byte_in y 6
+    unfolding byte_in number like
     byte-6 = omega arith
 
-    pub byte-7 : ((i : ℕ) → y i < 2) → v * 16 + v / 8 * 8 ≡ byteIn y 7
-    unfolding byteIn number like
+    pub byte-7 : ((i : ℕ) → y i < 2) → v * 16 + v / 8 * 8 ≡ byte_in y 7
+    unfolding byte_in number like
     byte-7 b = omega (arith, b 0, b 1, b 2, b 3)

@@ -16,11 +16,11 @@ mode_of n = get_or modes (n / 128) 0
 unfoldable pub count_of : ℕ → ℕ
 count_of n = n / 8 % 16
 
-unfoldable pub reservedOf : ℕ → ℕ
-reservedOf n = n % 8
+unfoldable pub reserved_of : ℕ → ℕ
+reserved_of n = n % 8
 
 -- The first triple whose block this is.
-unfoldable pub lookedUp : List ℕ → Looked
-lookedUp block =
-    let n : ℕ = lowest triples (λ n. same block (block_of (mode_of n) (count_of n) (reservedOf n))) in
-    cond (ltb n triples) (Found (mode_of n) (count_of n) (reservedOf n)) NotABlock
+unfoldable pub looked_up : List ℕ → Looked
+looked_up block =
+    let n : ℕ = lowest triples (λ n. same block (block_of (mode_of n) (count_of n) (reserved_of n))) in
+    cond (ltb n triples) (Found (mode_of n) (count_of n) (reserved_of n)) NotABlock

@@ -18,5 +18,5 @@ unfoldable pub decoded : List ℕ → ℕ → ℕ
 decoded block row = (bit_at block (row * 64) + bit_at block ((row - 1) * 64)) % 2
 
 -- The three reserved bits of column 0 as a number: sequence bits 24, 16 and 7.
-unfoldable pub reservedRead : List ℕ → ℕ
-reservedRead block = decoded block 7 * 4 + decoded block 15 * 2 + decoded block 24
+unfoldable pub reserved_read : List ℕ → ℕ
+reserved_read block = decoded block 7 * 4 + decoded block 15 * 2 + decoded block 24

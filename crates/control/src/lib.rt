@@ -5,10 +5,10 @@ ghost use Rattle.std.specs.Int.Count.{ones};
 ghost use Rattle.bits.specs.Bits.{number};
 ghost use Rattle.bits.specs.Tests.{same, lowest};
 ghost use Rattle.control.specs.Modes.{covered};
-ghost use Rattle.control.specs.Control.{rsid, assembled, encoded, block_of, controlOf};
+ghost use Rattle.control.specs.Control.{rsid, assembled, encoded, block_of, control_of};
 ghost use Rattle.control.specs.Departs.{departs, number_in, strays};
-ghost use Rattle.control.specs.Lookup.{lookedUp};
-ghost use Rattle.control.specs.Words.{plain, digits, decoded, reservedRead};
+ghost use Rattle.control.specs.Lookup.{looked_up};
+ghost use Rattle.control.specs.Words.{plain, digits, decoded, reserved_read};
 
 // Table 11-3: the two rows of four, by the column's number after division by 4.
 const TO_30: [u32; 4] = [0b10, 0b01, 0b00, 0b11];
@@ -130,7 +130,7 @@ fn fill_block(mode: u8, count: u8, reserved: u8, out: &mut [u8])
 // Writes all sixteen blocks.
 pub fn fill_control(mode: u8, reserved: u8, out: &mut [u8])
     requires { (mode < 64) × (reserved < 8) × (length out.old ≡ 4096) }
-    ensures { out.new ≡ controlOf mode reserved }
+    ensures { out.new ≡ control_of mode reserved }
 {
     let mut count: u8 = 0;
     while count < 16 {
@@ -202,7 +202,7 @@ fn field_at(block: &[u8], row: usize, k: usize) -> u8
 // The reserved bits of column 0 as a number.
 fn reserved_at(block: &[u8]) -> u8
     requires { length block.now ≡ 256 }
-    ensures { (result ≡ reservedRead block.now) × (result < 8) }
+    ensures { (result ≡ reserved_read block.now) × (result < 8) }
 {
     let z2 = decoded_at(block, 7);
     let z1 = decoded_at(block, 15);
@@ -257,7 +257,7 @@ pub fn is_covered(mode: u8) -> bool
 // The mode, count and number of a block, by the fields of its column 0 and one comparison.
 pub fn lookup(block: &[u8]) -> Looked
     requires { length block.now ≡ 256 }
-    ensures { result ≡ lookedUp block.now }
+    ensures { result ≡ looked_up block.now }
 {
     let mode = field_at(block, 25, 6);
     let count = field_at(block, 16, 4);

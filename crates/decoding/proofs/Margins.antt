@@ -5,7 +5,7 @@ use mathlib.Core.List.{List}
 use Prim.Native.Nat.{ℕ, ◌+◌, ◌<◌, ◌≤◌}
 use native.Mathlib.Decide.{dec_lt}
 use native.Mathlib.Omega.{arith}
-use Rattle.trellis.specs.Cells.{Frame, scrambledOf, distance}
+use Rattle.trellis.specs.Cells.{Frame, scrambled_of, distance}
 use Rattle.trellis.specs.Paths.{start, LeastOverPaths}
 use Rattle.trellis.specs.Trellis.{cost, anywhere, tabled, Tabled, LeastOf}
 use Rattle.decoding.specs.Nearness.{Nearest, Margin}
@@ -27,20 +27,20 @@ paths-under cells m h s b = omega (arith, h.under (closed s) (closed-bits s b), 
 
 -- S-12: no frame at all is nearer by more than the margin
 pub within-margin : (cells : List ℕ) (budget : ℕ) (frame : List ℕ) (margin : ℕ) → budget ≤ 64 → Nearest cells budget frame
-    → Margin cells budget (distance cells (scrambledOf frame)) margin
-    → (other : List ℕ) → Frame other → distance cells (scrambledOf frame) ≤ distance cells (scrambledOf other) + margin
+    → Margin cells budget (distance cells (scrambled_of frame)) margin
+    → (other : List ℕ) → Frame other → distance cells (scrambled_of frame) ≤ distance cells (scrambled_of other) + margin
 within-margin cells budget frame margin low near m other shape = go (dec_lt budget 64)
   where
-    go : Dec (budget < 64) → distance cells (scrambledOf frame) ≤ distance cells (scrambledOf other) + margin
+    go : Dec (budget < 64) → distance cells (scrambled_of frame) ≤ distance cells (scrambled_of other) + margin
     go (yes l) =
         let s = m.some l in
-        omega (arith, s.2, paths-under cells s.0 s.1 (scrambledOf other) (frame-bits other))
+        omega (arith, s.2, paths-under cells s.0 s.1 (scrambled_of other) (frame-bits other))
     go (no l) =
-        let all : start (scrambledOf other) < budget = omega (arith, start-lt (scrambledOf other) (frame-bits other)) in
+        let all : start (scrambled_of other) < budget = omega (arith, start-lt (scrambled_of other) (frame-bits other)) in
         omega (
           arith,
           lex-distance _ _ _ _ _ _
-              ((rank-order cells (scrambledOf frame) (scrambledOf other) (frame-bits frame) (frame-bits other)).0 (near.first other shape all)),
+              ((rank-order cells (scrambled_of frame) (scrambled_of other) (frame-bits frame) (frame-bits other)).0 (near.first other shape all)),
         )
 
 -- there is one margin
@@ -57,8 +57,8 @@ margin-once cells budget d m n low a b = go (dec_lt budget 64)
         omega (arith, s.2, t.2, paths-once cells s.0 t.0 s.1 t.1)
     go (no l) = let e : budget ≡ 64 = omega arith in omega (arith, a.all e, b.all e)
 
-pub margin-fits : (cells frame : List ℕ) (d : ℕ) → d ≡ distance cells (scrambledOf frame) → (m : ℕ) → LeastOverPaths cells m → m ≤ d
-margin-fits cells frame d e m h = omega (arith, paths-under cells m h (scrambledOf frame) (frame-bits frame))
+pub margin-fits : (cells frame : List ℕ) (d : ℕ) → d ≡ distance cells (scrambled_of frame) → (m : ℕ) → LeastOverPaths cells m → m ≤ d
+margin-fits cells frame d e m h = omega (arith, paths-under cells m h (scrambled_of frame) (frame-bits frame))
 
 -- the margin from the table of costs
 module _ (cells costs : List ℕ) (t : Tabled cells costs) where

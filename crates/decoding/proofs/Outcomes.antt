@@ -6,8 +6,8 @@ use native.Mathlib.Omega.{arith}
 use lib.ListN.{length}
 use Rattle.bits.specs.Bits.{number}
 use Rattle.runs.specs.declared.Answer.TheVariants.{Success}
-use Rattle.trellis.specs.Cells.{Frame, scrambledOf, codedBits, distance}
-use Rattle.trellis.specs.Paths.{start, pathCoded, pathDistance}
+use Rattle.trellis.specs.Cells.{Frame, scrambled_of, coded_bits, distance}
+use Rattle.trellis.specs.Paths.{start, path_coded, path_distance}
 use Rattle.decoding.specs.declared.Decoded.{Decoded}
 use Rattle.decoding.specs.Nearness.{rank, Nearest, Margin}
 use Rattle.decoding.specs.Outcomes.{lengths, judged, Answered}
@@ -32,7 +32,7 @@ answered-once cells before x y budget r s a b = go (is-success (judged cells bef
         let m = a.named e in
         let n = b.named e in
         let f : x ≡ y = nearest-once cells budget x y m.nearest n.nearest in
-        let d : r.distance ≡ s.distance = m.distance ∙ ap (λ (g : List ℕ). distance cells (scrambledOf g)) f ∙ sym n.distance in (
+        let d : r.distance ≡ s.distance = m.distance ∙ ap (λ (g : List ℕ). distance cells (scrambled_of g)) f ∙ sym n.distance in (
           f,
           decoded-equal r s answers d
               (margin-once cells budget s.distance r.margin s.margin (budget-low cells before budget e)
@@ -45,7 +45,7 @@ answered-once cells before x y budget r s a b = go (is-success (judged cells bef
 
 -- S-12: no frame at all is nearer than the answer by more than the margin
 pub no-nearer : (cells before after : List ℕ) (budget : ℕ) (r : Decoded) → Answered cells before after budget r → r.answer ≡ Success
-    → (other : List ℕ) → Frame other → r.distance ≤ distance cells (scrambledOf other) + r.margin
+    → (other : List ℕ) → Frame other → r.distance ≤ distance cells (scrambled_of other) + r.margin
 no-nearer cells before after budget r a e other shape =
     let j : judged cells before budget ≡ Success = sym a.answer ∙ e in
     let n = a.named j in
@@ -57,11 +57,11 @@ no-nearer cells before after budget r a e other shape =
 module _ (cells others : List ℕ) (h : ReadAlike cells others) (e : length cells ≡ length others) where
   distance-alike : (s : ℕ → ℕ) → distance others s ≡ distance cells s
   unfolding distance
-  distance-alike s = sym (apart-alike cells others (codedBits s) 200 (omega arith) h)
+  distance-alike s = sym (apart-alike cells others (coded_bits s) 200 (omega arith) h)
 
-  path-alike : (x : ℕ → ℕ) → pathDistance others x ≡ pathDistance cells x
-  unfolding pathDistance
-  path-alike x = sym (apart-alike cells others (pathCoded x) 200 (omega arith) h)
+  path-alike : (x : ℕ → ℕ) → path_distance others x ≡ path_distance cells x
+  unfolding path_distance
+  path-alike x = sym (apart-alike cells others (path_coded x) 200 (omega arith) h)
 
   rank-alike : (s : ℕ → ℕ) → rank others s ≡ rank cells s
   unfolding rank
@@ -93,7 +93,7 @@ module _ (cells others : List ℕ) (h : ReadAlike cells others) (e : length cell
       record {
         shape = a.shape;
         tried = a.tried;
-        first = λ f s l. omega (arith, a.first f s l, rank-alike (scrambledOf frame), rank-alike (scrambledOf f));
+        first = λ f s l. omega (arith, a.first f s l, rank-alike (scrambled_of frame), rank-alike (scrambled_of f));
       }
 
   -- the outcome is the same
@@ -105,7 +105,7 @@ module _ (cells others : List ℕ) (h : ReadAlike cells others) (e : length cell
             let n = a.named (sym (judged-alike before budget) ∙ s) in
             record {
               nearest = nearest-alike budget after n.nearest;
-              distance = n.distance ∙ sym (distance-alike (scrambledOf after));
+              distance = n.distance ∙ sym (distance-alike (scrambled_of after));
               margin = margin-alike budget r.distance r.margin n.margin;
             };
         refused = λ s. a.refused (λ t. s (judged-alike before budget ∙ t));

@@ -7,9 +7,9 @@ use native.Mathlib.Decide.{dec_lt}
 use native.Mathlib.Omega.{arith}
 use Rattle.bits.specs.Bits.{number, bit_at}
 use Rattle.bits.proofs.Numbers.{digit, number_lt, number-digit}
-use Rattle.bits.proofs.Packed.{bit_at_lt, packed-bitAt, packed-cong}
+use Rattle.bits.proofs.Packed.{bit_at_lt, packed-bit_at, packed-cong}
 use Rattle.scrambling.proofs.Laws.{scrambled-bit, scrambled-twice, scrambled-same}
-use Rattle.trellis.specs.Cells.{Frame, scrambledOf, distance}
+use Rattle.trellis.specs.Cells.{Frame, scrambled_of, distance}
 use Rattle.trellis.specs.Paths.{start}
 use Rattle.trellis.specs.Trellis.{cost, least}
 use Rattle.decoding.specs.Nearness.{rank, Nearest}
@@ -38,7 +38,7 @@ from-lex d a n d' a' n' ha hn (inl l) = omega arith
 from-lex d a n d' a' n' ha hn (inr (e, inl l)) = omega arith
 from-lex d a n d' a' n' ha hn (inr (e, inr (f, l))) = omega arith
 
-pub frame-bits : (frame : List ℕ) → BitsTo 80 (scrambledOf frame)
+pub frame-bits : (frame : List ℕ) → BitsTo 80 (scrambled_of frame)
 frame-bits frame i l = scrambled-bit (bit_at frame) i
 
 -- the rank orders as S-12 says
@@ -85,15 +85,15 @@ number_same k s t hs ht e i l =
     sym (number-digit k s hs i l) ∙ ap (λ (n : ℕ). digit n (k - 1 - i)) e ∙ number-digit k t ht i l
 
 -- a frame is known by the number of its scrambled bits
-pub frame_same : (f g : List ℕ) → Frame f → Frame g → number 80 (scrambledOf f) ≡ number 80 (scrambledOf g) → f ≡ g
+pub frame_same : (f g : List ℕ) → Frame f → Frame g → number 80 (scrambled_of f) ≡ number 80 (scrambled_of g) → f ≡ g
 frame_same f g a b e =
-    sym (packed-bitAt 10 f a.ten a.bytes)
+    sym (packed-bit_at 10 f a.ten a.bytes)
     ∙ packed-cong 10 (bit_at f) (bit_at g)
     (λ i l.
     sym (scrambled-twice (bit_at f) i (bit_at_lt f i))
-    ∙ scrambled-same (scrambledOf f) (scrambledOf g) i (number_same 80 (scrambledOf f) (scrambledOf g) (frame-bits f) (frame-bits g) e i l)
+    ∙ scrambled-same (scrambled_of f) (scrambled_of g) i (number_same 80 (scrambled_of f) (scrambled_of g) (frame-bits f) (frame-bits g) e i l)
     ∙ scrambled-twice (bit_at g) i (bit_at_lt g i))
-    ∙ packed-bitAt 10 g b.ten b.bytes
+    ∙ packed-bit_at 10 g b.ten b.bytes
 
 lex-same : (d a n d' a' n' : ℕ) → Lexicographic d a n d' a' n' → Lexicographic d' a' n' d a n → n ≡ n'
 lex-same d a n d' a' n' (inl l) (inl m) = omega arith
@@ -108,5 +108,5 @@ pub nearest-once : (cells : List ℕ) (budget : ℕ) (f g : List ℕ) → Neares
 nearest-once cells budget f g a b =
     frame_same f g a.shape b.shape
     (lex-same _ _ _ _ _ _
-    ((rank-order cells (scrambledOf f) (scrambledOf g) (frame-bits f) (frame-bits g)).0 (a.first g b.shape b.tried))
-    ((rank-order cells (scrambledOf g) (scrambledOf f) (frame-bits g) (frame-bits f)).0 (b.first f a.shape a.tried)))
+    ((rank-order cells (scrambled_of f) (scrambled_of g) (frame-bits f) (frame-bits g)).0 (a.first g b.shape b.tried))
+    ((rank-order cells (scrambled_of g) (scrambled_of f) (frame-bits g) (frame-bits f)).0 (b.first f a.shape a.tried)))

@@ -7,7 +7,7 @@ use native.Mathlib.Omega.{arith}
 use borrow.Author.Tests.{lt-ltb, le-ltb}
 use Rattle.trellis.specs.Trellis.{least}
 use Rattle.decoding.specs.declared.Start.{Start}
-use Rattle.decoding.specs.Starts.{BestStart, nearerOf}
+use Rattle.decoding.specs.Starts.{BestStart, nearer_of}
 
 pub first-start : (cost : ℕ → ℕ → ℕ) → BestStart cost 1 0
 first-start cost =
@@ -42,9 +42,9 @@ module _ (cost : ℕ → ℕ → ℕ) (e : ℕ) (best : Start) (h : BestStart co
         first = λ k m. omega (arith, h.under k m);
       }
 
-  pub more-start : (d : ℕ) (r : Start) → d ≡ least cost e → r ≡ nearerOf best (record { e = e; distance = d })
+  pub more-start : (d : ℕ) (r : Start) → d ≡ least cost e → r ≡ nearer_of best (record { e = e; distance = d })
       → BestStart cost (e + 1) r.e × (r.distance ≡ least cost r.e)
-  unfolding nearerOf
+  unfolding nearer_of
   more-start d r q w = go (dec_lt d best.distance)
     where
       go : Dec (d < best.distance) → BestStart cost (e + 1) r.e × (r.distance ≡ least cost r.e)

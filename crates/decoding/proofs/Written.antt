@@ -5,10 +5,10 @@ use Prim.Native.Nat.{ℕ, ◌+◌, ◌<◌, ◌≤◌}
 use native.Mathlib.Omega.{arith}
 use Rattle.bits.specs.Bits.{bit_at, packed}
 use Rattle.bits.proofs.Numbers.{number-cong}
-use Rattle.bits.proofs.Packed.{length-packed, packed-bytes, packed-cong, bitAt-packed}
+use Rattle.bits.proofs.Packed.{length-packed, packed-bytes, packed-cong, bit_at-packed}
 use Rattle.scrambling.specs.Scrambler.{scrambled}
 use Rattle.scrambling.proofs.Laws.{scrambled-bit, scrambled-same, scrambled-twice}
-use Rattle.trellis.specs.Cells.{Frame, scrambledOf, distance}
+use Rattle.trellis.specs.Cells.{Frame, scrambled_of, distance}
 use Rattle.trellis.specs.Paths.{start}
 use Rattle.trellis.specs.Trellis.{cost, ended, tabled, Tabled, walk, least}
 use Rattle.decoding.specs.Nearness.{Nearest}
@@ -31,28 +31,28 @@ module _ (w : ℕ → ℕ) (h : (i : ℕ) → w i < 2) (frame : List ℕ) (e : f
         bytes = λ j. rw e (packed-bytes 10 _ (λ i l. scrambled-bit _ i) j);
       }
 
-  pub scrambled-again : (i : ℕ) → i < 80 → scrambledOf frame i ≡ w i
+  pub scrambled-again : (i : ℕ) → i < 80 → scrambled_of frame i ≡ w i
   scrambled-again i l =
       scrambled-same (bit_at frame) (scrambled (bit_at (packed 10 w))) i
-      (ap (λ (f : List ℕ). bit_at f i) e ∙ bitAt-packed 10 _ (λ i l. scrambled-bit _ i) i l)
-      ∙ scrambled-twice (bit_at (packed 10 w)) i (rw (bitAt-packed 10 w (λ i l. h i) i l) (h i))
-      ∙ bitAt-packed 10 w (λ i l. h i) i l
+      (ap (λ (f : List ℕ). bit_at f i) e ∙ bit_at-packed 10 _ (λ i l. scrambled-bit _ i) i l)
+      ∙ scrambled-twice (bit_at (packed 10 w)) i (rw (bit_at-packed 10 w (λ i l. h i) i l) (h i))
+      ∙ bit_at-packed 10 w (λ i l. h i) i l
 
 module _ (cells : List ℕ) (budget b : ℕ) (best : BestStart (cost cells) budget b) (low : budget ≤ 64) (frame : List ℕ)
     (e : frame ≡ packed 10 (scrambled (bit_at (packed 10 (walk (cost cells) (ended b) b))))) where
   abbrev w : ℕ → ℕ
   w = walk (cost cells) (ended b) b
 
-  same : (i : ℕ) → i < 80 → scrambledOf frame i ≡ w i
+  same : (i : ℕ) → i < 80 → scrambled_of frame i ≡ w i
   same = scrambled-again w (walk-bit (cost cells) (ended b) b) frame e
 
-  near : NearestFrom cells b (scrambledOf frame)
+  near : NearestFrom cells b (scrambled_of frame)
   near =
       let n = walk-nearest cells b (omega (arith, best.tried)) in
       record {
-        starts = start-cong (scrambledOf frame) w same ∙ n.starts;
-        near = distance-cong cells (scrambledOf frame) w same ∙ n.near;
-        lowest = λ t h q d. omega (arith, n.lowest t h q d, number-cong 80 (scrambledOf frame) w same);
+        starts = start-cong (scrambled_of frame) w same ∙ n.starts;
+        near = distance-cong cells (scrambled_of frame) w same ∙ n.near;
+        lowest = λ t h q d. omega (arith, n.lowest t h q d, number-cong 80 (scrambled_of frame) w same);
       }
 
   found-nearest : Nearest cells budget frame
@@ -60,10 +60,10 @@ module _ (cells : List ℕ) (budget b : ℕ) (best : BestStart (cost cells) budg
       record {
         shape = unscrambled-frame w (walk-bit (cost cells) (ended b) b) frame e;
         tried = omega (arith, near.starts, best.tried);
-        first = λ other shape l. best-rank cells budget b (scrambledOf frame) best near (frame-bits frame) (scrambledOf other) (frame-bits other) l;
+        first = λ other shape l. best-rank cells budget b (scrambled_of frame) best near (frame-bits frame) (scrambled_of other) (frame-bits other) l;
       }
 
-  found-distance : (d : ℕ) → d ≡ least (cost cells) b → d ≡ distance cells (scrambledOf frame)
+  found-distance : (d : ℕ) → d ≡ least (cost cells) b → d ≡ distance cells (scrambled_of frame)
   found-distance d q = q ∙ sym near.near
 
 -- what the search leaves, from the table of costs
@@ -87,7 +87,7 @@ module _ (cells costs : List ℕ) (t : Tabled cells costs) (budget b : ℕ) (bes
       ∙ ap (λ (f : List ℕ). packed 10 (scrambled (bit_at f)))
       (packed-cong 10 _ _ (walk_same (tabled costs) (cost cells) t.at (ended b) b (omega (arith, best.tried))))
 
-  pub searched : (d : ℕ) → d ≡ least (tabled costs) b → Nearest cells budget frame × (d ≡ distance cells (scrambledOf frame))
+  pub searched : (d : ℕ) → d ≡ least (tabled costs) b → Nearest cells budget frame × (d ≡ distance cells (scrambled_of frame))
   searched d q = (
     found-nearest cells budget b best_of low frame frame-of,
     found-distance cells budget b best_of low frame frame-of d (q ∙ same-least b (omega (arith, best.tried))),

@@ -4,7 +4,7 @@ use Rattle.std.proofs.Math.Option.{Option}
 use Rattle.runs.specs.declared.Answer.{Answer}
 use Rattle.runs.specs.declared.Answer.TheVariants.{Success, WrongLength, WrongBudget}
 use Rattle.runs.specs.Causes.{at, judge, size, when, wrong}
-use Rattle.trellis.specs.Cells.{scrambledOf, distance}
+use Rattle.trellis.specs.Cells.{scrambled_of, distance}
 use Rattle.decoding.specs.declared.Decoded.{Decoded}
 use Rattle.decoding.specs.Nearness.{Nearest, Margin}
 
@@ -19,7 +19,7 @@ judged cells frame budget = judge (lengths cells frame ∷ when (not (leb 1 budg
 -- the nearest frame is left in the buffer
 pub record Named (cells after : List ℕ) (budget : ℕ) (r : Decoded) : Type 0 where
   pub nearest : Nearest cells budget after
-  pub distance : r.distance ≡ distance cells (scrambledOf after)
+  pub distance : r.distance ≡ distance cells (scrambled_of after)
   pub margin : Margin cells budget r.distance r.margin
 
 -- refused: distance and margin 0, the buffer unchanged

@@ -10,8 +10,8 @@ pub record BestStart (cost : ℕ → ℕ → ℕ) (budget b : ℕ) : Type 0 wher
   pub first : (e : ℕ) → e < b → least cost b < least cost e
 
 -- the nearer of two starts, the first of equals
-unfoldable pub nearerOf : Start → Start → Start
-nearerOf a b = cond (ltb b.distance a.distance) b a
+unfoldable pub nearer_of : Start → Start → Start
+nearer_of a b = cond (ltb b.distance a.distance) b a
 
 pub record MarginBy (cost : ℕ → ℕ → ℕ) (budget distance margin : ℕ) : Type 0 where
   pub all : budget ≡ 64 → margin ≡ 0

@@ -1,9 +1,9 @@
 // Document 02, S-12: the PIDS frame nearest to cells of which some are mis-copied or unread, with its distance and a margin.
 ghost use Rattle.std.specs.Prelude.{◌≡◌, List, ℕ, ◌<◌, ◌≤◌, length};
-ghost use Rattle.trellis.specs.Cells.{scrambledOf, distance};
+ghost use Rattle.trellis.specs.Cells.{scrambled_of, distance};
 ghost use Rattle.trellis.specs.Trellis.{anywhere, Cheap, least, LeastOf, tabled, Tabled};
 ghost use Rattle.decoding.specs.Nearness.{Nearest};
-ghost use Rattle.decoding.specs.Starts.{BestStart, MarginBy, nearerOf};
+ghost use Rattle.decoding.specs.Starts.{BestStart, MarginBy, nearer_of};
 ghost use Rattle.decoding.specs.Outcomes.{Answered};
 
 use runs::Answer;
@@ -25,7 +25,7 @@ struct Start {
 
 // The nearer of two starts, the first of equals.
 fn nearer(a: Start, b: Start) -> Start
-    ensures { result ≡ nearerOf a b }
+    ensures { result ≡ nearer_of a b }
 {
     if b.distance < a.distance {
         return b;
@@ -66,7 +66,7 @@ fn margin(costs: &[u16; 10240], budget: usize, near: u16) -> u16
 pub fn search(costs: &[u16; 10240], budget: usize, frame: &mut [u8]) -> u16
     requires { (0 < budget) × (budget ≤ 64) × (length frame.old ≡ 10) × Cheap costs.now }
     ensures { (cells : List ℕ) → Tabled cells costs.now
-        → Nearest cells budget frame.new × (result ≡ distance cells (scrambledOf frame.new)) }
+        → Nearest cells budget frame.new × (result ≡ distance cells (scrambled_of frame.new)) }
 {
     let best = best_start(costs, budget);
     let e = best.e;

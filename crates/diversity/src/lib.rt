@@ -1,8 +1,8 @@
 // The digital diversity delay of section 9.2, and P1', the delayed path of P1, in PX2.
 ghost use Rattle.std.specs.Prelude.{◌≡◌, List, ℕ, ◌+◌, ◌*◌, ◌≤◌, length};
 ghost use Rattle.bits.specs.Tests.{lowest};
-ghost use Rattle.runs.specs.MainChannels.{delayLen, p1Len, p1'Len, p1'Row};
-ghost use Rattle.runs.specs.Paths.{oldest, p1'Bad, p1'Of, waiting};
+ghost use Rattle.runs.specs.MainChannels.{delay_len, p1_len, p1'_len, p1'_row};
+ghost use Rattle.runs.specs.Paths.{oldest, p1'_bad, p1'_of, waiting};
 ghost use Rattle.runs.specs.Reading.{push as «push-of»};
 ghost use Rattle.diversity.specs.Rooms.{apart, Second};
 
@@ -26,7 +26,7 @@ pub fn push(memory: &mut [u8], px: &[u8])
 
 // The delay memory after one more L1 frame, whose scrambled P1 frames these are (section 9.2). With no delay nothing waits.
 pub fn push_delay(main: Main, scrambled: &[u8], delay: &mut [u8])
-    requires { (length scrambled.now ≡ p1Len main) × (length delay.old ≡ delayLen main) }
+    requires { (length scrambled.now ≡ p1_len main) × (length delay.old ≡ delay_len main) }
     ensures { delay.new ≡ waiting main delay.old scrambled.now }
 {
     if delay.len() < scrambled.len() {
@@ -37,8 +37,8 @@ pub fn push_delay(main: Main, scrambled: &[u8], delay: &mut [u8])
 
 // Writes the matrices of P1' from eight scrambled P1 frames (sections 10.4.2.3 and 10.4.2.4), frame by frame; `coded` is for the work between.
 fn interleave_second(main: Main, row: usize, scrambled: &[u8], coded: &mut [u8], px2: &mut [u8])
-    requires { Second main row scrambled.now coded.old × (length px2.old ≡ p1'Len main) }
-    ensures { px2.new ≡ p1'Of main scrambled.now }
+    requires { Second main row scrambled.now coded.old × (length px2.old ≡ p1'_len main) }
+    ensures { px2.new ≡ p1'_of main scrambled.now }
 {
     let n = scrambled.len() / 8;
     let mut f: usize = 0;
@@ -53,7 +53,7 @@ fn interleave_second(main: Main, row: usize, scrambled: &[u8], coded: &mut [u8],
 
 // The row of Tables 10-17 and 10-19 that P1' has in this mode.
 fn row_of(main: Main) -> usize
-    ensures { result ≡ p1'Row main }
+    ensures { result ≡ p1'_row main }
 {
     match main {
         Main::Mp5 => 0,
@@ -64,8 +64,8 @@ fn row_of(main: Main) -> usize
 
 // Writes the matrices of P1', if the mode has it.
 fn write_second(main: Main, scrambled: &[u8], px2: &mut [u8])
-    requires { (length scrambled.now ≡ p1Len main) × (length px2.old ≡ p1'Len main) }
-    ensures { px2.new ≡ p1'Of main scrambled.now }
+    requires { (length scrambled.now ≡ p1_len main) × (length px2.old ≡ p1'_len main) }
+    ensures { px2.new ≡ p1'_of main scrambled.now }
 {
     let n = px2.len() / 8;
     if n == 0 {
@@ -85,8 +85,8 @@ fn start(back: usize, n: usize, len: usize) -> usize
 
 // Writes the matrices of P1' from the P1 frames of three L1 frames before, which have waited longest (section 9.2), if the mode has it.
 pub fn write_delayed(main: Main, delay: &[u8], px2: &mut [u8])
-    requires { (length delay.now ≡ delayLen main) × (length px2.old ≡ p1'Len main) }
-    ensures { (s : List ℕ) → px2.new ≡ p1'Of main (oldest main delay.now s) }
+    requires { (length delay.now ≡ delay_len main) × (length px2.old ≡ p1'_len main) }
+    ensures { (s : List ℕ) → px2.new ≡ p1'_of main (oldest main delay.now s) }
 {
     if delay.len() == 0 {
         return;
@@ -116,8 +116,8 @@ fn first_apart(n: usize, a: &[u8], b: &[u8]) -> usize
 
 // The lowest P1' frame in PX2 whose matrix is not the one that the waiting frames give, or 8; these are written to `want`.
 fn first_unlike(main: Main, px2: &[u8], oldest: &[u8], want: &mut [u8]) -> usize
-    requires { (length px2.now ≡ p1'Len main) × (length oldest.now ≡ p1Len main) × (length want.old ≡ p1'Len main) }
-    ensures { result ≡ lowest 8 (p1'Bad main px2.now oldest.now) }
+    requires { (length px2.now ≡ p1'_len main) × (length oldest.now ≡ p1_len main) × (length want.old ≡ p1'_len main) }
+    ensures { result ≡ lowest 8 (p1'_bad main px2.now oldest.now) }
 {
     write_second(main, oldest, want);
     first_apart(px2.len() / 8, px2, want)
@@ -125,8 +125,8 @@ fn first_unlike(main: Main, px2: &[u8], oldest: &[u8], want: &mut [u8]) -> usize
 
 // The lowest P1' frame in PX2 that is no coded frame or disagrees with the scrambled P1 frame that has waited, or 8.
 pub fn first_second(main: Main, px2: &[u8], oldest: &[u8]) -> usize
-    requires { (length px2.now ≡ p1'Len main) × (length oldest.now ≡ p1Len main) }
-    ensures { result ≡ lowest 8 (p1'Bad main px2.now oldest.now) }
+    requires { (length px2.now ≡ p1'_len main) × (length oldest.now ≡ p1_len main) }
+    ensures { result ≡ lowest 8 (p1'_bad main px2.now oldest.now) }
 {
     let n = px2.len();
     let mut want = [0u8; 18432];

@@ -10,11 +10,11 @@ use Rattle.runs.specs.declared.Answer.{Answer}
 use Rattle.runs.specs.Answers.{number_of}
 use Rattle.runs.specs.Handed.{Handed, given}
 use Rattle.runs.specs.Lent.{filled}
-use Rattle.runs.specs.Runs.{Call, Every, SenderRun, count, framesSent, readings, sendings, signalsSent, succeeded}
-use Rattle.runs.specs.WholeRuns.{noCall}
+use Rattle.runs.specs.Runs.{Call, Every, SenderRun, count, frames_sent, readings, sendings, signals_sent, succeeded}
+use Rattle.runs.specs.WholeRuns.{no_call}
 use Rattle.runs.proofs.Lists.{length-map}
 use Rattle.runs.proofs.Whole.{whole-runs}
-use Rattle.layout.specs.Layout.{body, dumpOf, header, mark}
+use Rattle.layout.specs.Layout.{body, dump_of, header, mark}
 use Rattle.frames.specs.Read.{handed}
 use Rattle.dumps.specs.declared.Verdict.{Verdict}
 use Rattle.dumps.specs.Judged.{accepted, judged, verdict}
@@ -25,7 +25,7 @@ use Rattle.dumps.proofs.Handing.{OkCall}
 use Rattle.dumps.proofs.Refused.{verdicts}
 
 complete-is : (d : List ℕ) → Readable d → judged d ≡ accepted
-unfolding dumpOf
+unfolding dump_of
 complete-is d r =
     verdicts.judges d accepted
     (all-accepted r.mode (length r.signals) r.signals
@@ -34,24 +34,24 @@ complete-is d r =
 
 -- ---- a sender's run
 
-every_of : (gs : List Call) → ((t : ℕ) → t < length gs → OkCall (get_or gs t noCall)) → Every OkCall gs
+every_of : (gs : List Call) → ((t : ℕ) → t < length gs → OkCall (get_or gs t no_call)) → Every OkCall gs
 every_of [] h = tt
 every_of (g ∷ gs) h = (h 0 (omega arith), every_of gs (λ t l. h (suc t) (omega arith)))
 
-sent-count : (mode : ℕ) (a : SenderRun mode) → length (signalsSent mode a) ≡ count mode a
-unfolding signalsSent count framesSent
+sent-count : (mode : ℕ) (a : SenderRun mode) → length (signals_sent mode a) ≡ count mode a
+unfolding signals_sent count frames_sent
 sent-count mode a =
     let cs = succeeded (sendings mode a) in
     length-map (λ (c : Call). c.result.lent.signal) cs ∙ sym (length-map (λ (c : Call). filled mode c.lent.frames) cs)
 
-sent-readable : (mode : ℕ) (a : SenderRun mode) → count mode a ≤ 65535 → Readable (dumpOf mode (signalsSent mode a))
+sent-readable : (mode : ℕ) (a : SenderRun mode) → count mode a ≤ 65535 → Readable (dump_of mode (signals_sent mode a))
 sent-readable mode a few =
     let w = whole-runs mode in
     let (b, gs, h) = w.readable a in
     let (n, back) = w.read_back a b gs h in
     record {
       mode = mode;
-      signals = signalsSent mode a;
+      signals = signals_sent mode a;
       few = omega (arith, sent-count mode a);
       layout = refl;
       run = b;
@@ -76,7 +76,7 @@ few-of d small mode count rest e =
     omega arith
 
 readable_of : (d : List ℕ) → Bytes d → (v : Verdict) → v ≡ accepted → Ruled d v → Readable d
-unfolding dumpOf
+unfolding dump_of
 readable_of d small v e (under-eight h) = not-accepted _ _ some_number e
 readable_of d small v e (wrong-mark h n) = not-accepted _ _ some_number e
 readable_of d small v e (other-version h w n) = not-accepted _ _ some_number e
@@ -106,6 +106,6 @@ dumps =
       complete = complete-is;
       sent = λ mode a few. (
         dump-bytes mode a (omega (arith, sent-count mode a)),
-        complete-is (dumpOf mode (signalsSent mode a)) (sent-readable mode a few),
+        complete-is (dump_of mode (signals_sent mode a)) (sent-readable mode a few),
       );
     }

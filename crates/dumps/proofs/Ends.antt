@@ -18,11 +18,11 @@ use Rattle.runs.specs.Handed.{Given, Handed, done, given}
 use Rattle.runs.specs.Lent.{Lent, Memory, Result, Signal}
 use Rattle.runs.specs.Reading.{read_step}
 use Rattle.runs.specs.Runs.{Call, Every, calls}
-use Rattle.layout.specs.Layout.{body, bytes_of, frameBytes, signalIn}
+use Rattle.layout.specs.Layout.{body, bytes_of, frame_bytes, signal_in}
 use Rattle.layout.proofs.Laid.{bytes_back, sized-in}
-use Rattle.frames.specs.Read.{readFrame}
+use Rattle.frames.specs.Read.{read_frame}
 use Rattle.dumps.specs.declared.Verdict.{Verdict}
-use Rattle.dumps.specs.Judged.{accepted, judgedFrames, verdict}
+use Rattle.dumps.specs.Judged.{accepted, judged_frames, verdict}
 use Rattle.dumps.proofs.Steps.{goes_on, refused-is, short-is}
 use Rattle.dumps.proofs.Handing.{Ok, OkCall, blank-fits, handing}
 
@@ -31,7 +31,7 @@ module _ (mode : ℕ) where
   pub data Tail (got n t : ℕ) (after : List Call) (left : List ℕ) (v : Verdict) : Type 0 where
     finished : got ≡ n → after ≡ [] → left ≡ [] → v ≡ accepted → Tail got n t after left v
     over : got ≡ n → after ≡ [] → left ≢ [] → v ≡ verdict WrongEnd t → Tail got n t after left v
-    cut : got < n → after ≡ [] → length left < frameBytes mode → v ≡ verdict WrongEnd t → Tail got n t after left v
+    cut : got < n → after ≡ [] → length left < frame_bytes mode → v ≡ verdict WrongEnd t → Tail got n t after left v
     stopped : got < n → (x : Signal) (rest : List ℕ) (c : Call) (more : List Call) → left ≡ bytes_of x ++ rest → after ≡ c ∷ more
         → Given mode x c.lent → number_of c.result.answer ≢ 0 → v ≡ verdict c.result.answer t → Tail got n t after left v
 
@@ -56,8 +56,8 @@ module _ (mode : ℕ) where
   tail_more got n t e (stopped g x rest c more l a w ne q) =
       stopped (omega arith) x rest c more l a w ne (e ∙ q ∙ ap (verdict c.result.answer) (suc-add t got ∙ sym (add-suc t got)))
 
-  ends-none : (t : ℕ) (s : State) (m : Memory) (bytes : List ℕ) → Ends 0 t s m bytes (judgedFrames mode 0 t s m bytes)
-  unfolding judgedFrames body calls
+  ends-none : (t : ℕ) (s : State) (m : Memory) (bytes : List ℕ) → Ends 0 t s m bytes (judged_frames mode 0 t s m bytes)
+  unfolding judged_frames body calls
   ends-none t s m [] =
       record {
         signals = [];
@@ -89,12 +89,12 @@ module _ (mode : ℕ) where
 
   module _ (n t : ℕ) (s : State) (m : Memory) (bytes : List ℕ) where
     abbrev x : Signal
-    x = signalIn mode (take (frameBytes mode) bytes)
+    x = signal_in mode (take (frame_bytes mode) bytes)
 
     abbrev g : Result
     g = read_step s m (handing mode x)
 
-    ends-cut : length bytes < frameBytes mode → Ends (suc n) t s m bytes (judgedFrames mode (suc n) t s m bytes)
+    ends-cut : length bytes < frame_bytes mode → Ends (suc n) t s m bytes (judged_frames mode (suc n) t s m bytes)
     unfolding body calls
     ends-cut h =
         record {
@@ -111,20 +111,20 @@ module _ (mode : ℕ) where
           tail = cut (omega arith) refl h (short-is mode n t s m bytes h ∙ ap (verdict WrongEnd) (sym (add-zero t)));
         }
 
-    module _ (le : frameBytes mode ≤ length bytes) where
-      long : length (take (frameBytes mode) bytes) ≡ frameBytes mode
-      long = length-take-le (frameBytes mode) bytes le
+    module _ (le : frame_bytes mode ≤ length bytes) where
+      long : length (take (frame_bytes mode) bytes) ≡ frame_bytes mode
+      long = length-take-le (frame_bytes mode) bytes le
 
       fitting : Given mode x (handing mode x)
-      fitting = record { same = refl; lengths = blank-fits mode x (sized-in mode (take (frameBytes mode) bytes) long) }
+      fitting = record { same = refl; lengths = blank-fits mode x (sized-in mode (take (frame_bytes mode) bytes) long) }
 
-      whole : bytes ≡ bytes_of x ++ drop (frameBytes mode) bytes
+      whole : bytes ≡ bytes_of x ++ drop (frame_bytes mode) bytes
       whole =
-          sym (take-append-drop (frameBytes mode) bytes)
-          ∙ ap (λ (a : List ℕ). a ++ drop (frameBytes mode) bytes) (sym (bytes_back mode (take (frameBytes mode) bytes) long))
+          sym (take-append-drop (frame_bytes mode) bytes)
+          ∙ ap (λ (a : List ℕ). a ++ drop (frame_bytes mode) bytes) (sym (bytes_back mode (take (frame_bytes mode) bytes) long))
 
-      ends-stopped : number_of g.answer ≢ 0 → Ends (suc n) t s m bytes (judgedFrames mode (suc n) t s m bytes)
-      unfolding body calls readFrame
+      ends-stopped : number_of g.answer ≢ 0 → Ends (suc n) t s m bytes (judged_frames mode (suc n) t s m bytes)
+      unfolding body calls read_frame
       ends-stopped ne =
           record {
             signals = [];
@@ -137,13 +137,13 @@ module _ (mode : ℕ) where
             given-calls = [];
             handed = done;
             each = tt;
-            tail = stopped (omega arith) x (drop (frameBytes mode) bytes) (record { lent = handing mode x; result = g }) [] whole refl fitting ne
+            tail = stopped (omega arith) x (drop (frame_bytes mode) bytes) (record { lent = handing mode x; result = g }) [] whole refl fitting ne
                 (refused-is mode n t s m bytes le ne ∙ ap (verdict g.answer) (sym (add-zero t)));
           }
 
-      ends_more : Ok g → Ends n (suc t) g.state g.memory (drop (frameBytes mode) bytes) (judgedFrames mode n (suc t) g.state g.memory (drop (frameBytes mode) bytes))
-          → Ends (suc n) t s m bytes (judgedFrames mode (suc n) t s m bytes)
-      unfolding body calls readFrame
+      ends_more : Ok g → Ends n (suc t) g.state g.memory (drop (frame_bytes mode) bytes) (judged_frames mode n (suc t) g.state g.memory (drop (frame_bytes mode) bytes))
+          → Ends (suc n) t s m bytes (judged_frames mode (suc n) t s m bytes)
+      unfolding body calls read_frame
       ends_more ok e =
           record {
             signals = x ∷ e.signals;
@@ -159,16 +159,16 @@ module _ (mode : ℕ) where
             tail = tail_more (length e.signals) n t (goes_on mode n t s m bytes le ok) e.tail;
           }
 
-  pub ends : (n t : ℕ) (s : State) (m : Memory) (bytes : List ℕ) → Ends n t s m bytes (judgedFrames mode n t s m bytes)
+  pub ends : (n t : ℕ) (s : State) (m : Memory) (bytes : List ℕ) → Ends n t s m bytes (judged_frames mode n t s m bytes)
   ends zero t s m bytes = ends-none t s m bytes
   ends (suc n) t s m bytes =
-      go (ltb (length bytes) (frameBytes mode)) (eqb (number_of (g n t s m bytes).answer) 0) refl refl
-      (ends n (suc t) (g n t s m bytes).state (g n t s m bytes).memory (drop (frameBytes mode) bytes))
+      go (ltb (length bytes) (frame_bytes mode)) (eqb (number_of (g n t s m bytes).answer) 0) refl refl
+      (ends n (suc t) (g n t s m bytes).state (g n t s m bytes).memory (drop (frame_bytes mode) bytes))
     where
-      go : (a b : Bool) → ltb (length bytes) (frameBytes mode) ≡ a → eqb (number_of (g n t s m bytes).answer) 0 ≡ b
-          → Ends n (suc t) (g n t s m bytes).state (g n t s m bytes).memory (drop (frameBytes mode) bytes)
-          (judgedFrames mode n (suc t) (g n t s m bytes).state (g n t s m bytes).memory (drop (frameBytes mode) bytes))
-          → Ends (suc n) t s m bytes (judgedFrames mode (suc n) t s m bytes)
+      go : (a b : Bool) → ltb (length bytes) (frame_bytes mode) ≡ a → eqb (number_of (g n t s m bytes).answer) 0 ≡ b
+          → Ends n (suc t) (g n t s m bytes).state (g n t s m bytes).memory (drop (frame_bytes mode) bytes)
+          (judged_frames mode n (suc t) (g n t s m bytes).state (g n t s m bytes).memory (drop (frame_bytes mode) bytes))
+          → Ends (suc n) t s m bytes (judged_frames mode (suc n) t s m bytes)
       go true b ea eb later = ends-cut n t s m bytes (ltb-true _ _ ea)
       go false true ea eb later = ends_more n t s m bytes (ltb-false _ _ ea) (eqb-true _ _ eb) later
       go false false ea eb later = ends-stopped n t s m bytes (ltb-false _ _ ea) (eqb-false _ _ eb)

@@ -19,24 +19,24 @@ use Rattle.runs.specs.declared.Answer.TheVariants.{ModeNotCovered, WrongEnd, Wro
 use Rattle.runs.specs.declared.State.{State}
 use Rattle.runs.specs.Answers.{number_of}
 use Rattle.runs.specs.Handed.{Given, given}
-use Rattle.runs.specs.Lengths.{readerLen}
+use Rattle.runs.specs.Lengths.{reader_len}
 use Rattle.runs.specs.Lent.{Lent, Memory, Signal}
 use Rattle.runs.specs.Reading.{read_step}
 use Rattle.runs.specs.Runs.{Call, calls, readings}
-use Rattle.runs.specs.Sending.{lentSizes}
+use Rattle.runs.specs.Sending.{lent_sizes}
 use Rattle.runs.specs.Starting.{Started, start, zeros}
 use Rattle.runs.proofs.Lists.{cons-both}
 use Rattle.runs.proofs.Readable.{start-clear}
 use Rattle.runs.proofs.TableStates.{covered-is, covered_of}
 use Rattle.runs.proofs.TableReading.{read_answer}
-use Rattle.layout.specs.Layout.{bytes_of, frameBytes, header, mark, signalIn, word}
-use Rattle.layout.specs.Heads.{headAnswer}
+use Rattle.layout.specs.Layout.{bytes_of, frame_bytes, header, mark, signal_in, word}
+use Rattle.layout.specs.Heads.{head_answer}
 use Rattle.layout.proofs.Laid.{Sized, bytes-length, signal-back, sized_of}
 use Rattle.layout.proofs.Heads as heads
 use Rattle.layout.proofs.Heads.{head_bytes, head-good, head_of, not_covered, not-marked, too_short}
-use Rattle.frames.specs.Read.{readFrame}
+use Rattle.frames.specs.Read.{read_frame}
 use Rattle.dumps.specs.declared.Verdict.{Verdict}
-use Rattle.dumps.specs.Judged.{judged, judgedFrames, judgedFresh, verdict}
+use Rattle.dumps.specs.Judged.{judged, judged_frames, judged_fresh, verdict}
 use Rattle.dumps.specs.Refused.{Accepts, Ruled, Verdicts, laid, under-eight, wrong-mark, other-version, bad-mode, refused, cut_short, left_over, all-accepted}
 use Rattle.dumps.proofs.Steps.{refused-is, short-is}
 use Rattle.dumps.proofs.Taken.{refused-head, taken-head}
@@ -46,19 +46,19 @@ use Rattle.dumps.proofs.Ends.{Ends, Tail, cut, ends, finished, over, stopped}
 
 -- ---- whichever clause holds gives the verdict
 
-none-left-over : (mode t : ℕ) (s : State) (m : Memory) (left : List ℕ) → left ≢ [] → judgedFrames mode 0 t s m left ≡ verdict WrongEnd t
-unfolding judgedFrames
+none-left-over : (mode t : ℕ) (s : State) (m : Memory) (left : List ℕ) → left ≢ [] → judged_frames mode 0 t s m left ≡ verdict WrongEnd t
+unfolding judged_frames
 none-left-over mode t s m [] n = absurd (n refl)
 none-left-over mode t s m (b ∷ left) n = refl
 
 -- the next call's answer is that of the reading of the dump's next L1 frame
 next-answer : (mode : ℕ) (s : State) (m : Memory) (x : Signal) (l : Lent) (left : List ℕ) → s.mode ≡ mode → Given mode x l
-    → (frameBytes mode ≤ length (bytes_of x ++ left))
-    × ((readFrame mode s m (take (frameBytes mode) (bytes_of x ++ left))).answer ≡ (read_step s m l).answer)
-unfolding readFrame
+    → (frame_bytes mode ≤ length (bytes_of x ++ left))
+    × ((read_frame mode s m (take (frame_bytes mode) (bytes_of x ++ left))).answer ≡ (read_step s m l).answer)
+unfolding read_frame
 next-answer mode s m x l left em g = (
   omega (arith, length-append (bytes_of x) left, bytes-length mode x right),
-  ap (λ (b : List ℕ). (read_step s m (handing mode (signalIn mode b))).answer) (take_at (bytes_of x) left (frameBytes mode) (bytes-length mode x right))
+  ap (λ (b : List ℕ). (read_step s m (handing mode (signal_in mode b))).answer) (take_at (bytes_of x) left (frame_bytes mode) (bytes-length mode x right))
       ∙ ap (λ (y : Signal). (read_step s m (handing mode y)).answer) (signal-back mode x right ∙ sym g.same)
       ∙ read_answer s m (handing mode l.signal)
       ∙ sym (by-sizes s m l mode sizes)
@@ -68,13 +68,13 @@ next-answer mode s m x l left em g = (
     right : Sized mode x
     right = subst (λ (y : Signal). Sized mode y) g.same (sized_of mode l g.lengths)
 
-    sizes : lentSizes s.mode l ≡ lentSizes s.mode (handing mode l.signal)
+    sizes : lent_sizes s.mode l ≡ lent_sizes s.mode (handing mode l.signal)
     sizes =
-        ap (λ (k : ℕ). lentSizes k l) em ∙ same-sizes mode l g.lengths ∙ ap (λ (k : ℕ). lentSizes k (handing mode l.signal)) (sym em)
+        ap (λ (k : ℕ). lent_sizes k l) em ∙ same-sizes mode l g.lengths ∙ ap (λ (k : ℕ). lent_sizes k (handing mode l.signal)) (sym em)
 
 refused-next : (mode j t : ℕ) (s : State) (m : Memory) (x : Signal) (left : List ℕ) (c : Call) (after : List Call) (ls : List Lent) → s.mode ≡ mode
     → c ∷ after ≡ calls read_step s m ls → Given mode x c.lent → number_of c.result.answer ≢ 0
-    → judgedFrames mode (suc j) t s m (bytes_of x ++ left) ≡ verdict c.result.answer t
+    → judged_frames mode (suc j) t s m (bytes_of x ++ left) ≡ verdict c.result.answer t
 unfolding calls
 refused-next mode j t s m x left c after [] em q g ne = absurd (cons-ne-nil c after q)
 refused-next mode j t s m x left c after (l ∷ ls) em q g ne =
@@ -83,14 +83,14 @@ refused-next mode j t s m x left c after (l ∷ ls) em q g ne =
     is : c ≡ record { lent = l; result = read_step s m l }
     is = (cons-both c _ after _ q).0
 
-    next : (frameBytes mode ≤ length (bytes_of x ++ left))
-        × ((readFrame mode s m (take (frameBytes mode) (bytes_of x ++ left))).answer ≡ (read_step s m l).answer)
+    next : (frame_bytes mode ≤ length (bytes_of x ++ left))
+        × ((read_frame mode s m (take (frame_bytes mode) (bytes_of x ++ left))).answer ≡ (read_step s m l).answer)
     next = next-answer mode s m x l left em (subst (λ (y : Call). Given mode x y.lent) is g)
 
-    fits : frameBytes mode ≤ length (bytes_of x ++ left)
+    fits : frame_bytes mode ≤ length (bytes_of x ++ left)
     fits = next.0
 
-    same_answer : (readFrame mode s m (take (frameBytes mode) (bytes_of x ++ left))).answer ≡ c.result.answer
+    same_answer : (read_frame mode s m (take (frame_bytes mode) (bytes_of x ++ left))).answer ≡ c.result.answer
     same_answer = next.1 ∙ sym (ap (λ (y : Call). y.result.answer) is)
 
 not-0 : {n : ℕ} → suc n ≢ 0
@@ -101,7 +101,7 @@ not-true true n = absurd (n refl)
 not-true false n = refl
 
 module _ (dump : List ℕ) where
-  head-refused : (a : Answer) → a ≡ headAnswer dump → number_of a ≢ 0 → judged dump ≡ verdict a 0
+  head-refused : (a : Answer) → a ≡ head_answer dump → number_of a ≢ 0 → judged dump ≡ verdict a 0
   head-refused a e ne = sym (refused-head dump a e ne)
 
   judges-is : (v : Verdict) → Ruled dump v → judged dump ≡ v
@@ -137,7 +137,7 @@ module _ (dump : List ℕ) where
 -- ---- on each file one of the clauses holds
 
 -- a header that is not refused
-module _ (dump : List ℕ) (small : Bytes dump) (z : number_of (headAnswer dump) ≡ 0) where
+module _ (dump : List ℕ) (small : Bytes dump) (z : number_of (head_answer dump) ≡ 0) where
   abbrev mode₀ : ℕ
   mode₀ = get_or dump 5 0
 
@@ -145,13 +145,13 @@ module _ (dump : List ℕ) (small : Bytes dump) (z : number_of (headAnswer dump)
   count₀ = word (get_or dump 6 0) (get_or dump 7 0)
 
   abbrev begun₀ : Started
-  begun₀ = start readerLen mode₀ (zeros readerLen mode₀)
+  begun₀ = start reader_len mode₀ (zeros reader_len mode₀)
 
-  abbrev E : Ends mode₀ count₀ 0 begun₀.state begun₀.memory (drop 8 dump) (judgedFrames mode₀ count₀ 0 begun₀.state begun₀.memory (drop 8 dump))
+  abbrev E : Ends mode₀ count₀ 0 begun₀.state begun₀.memory (drop 8 dump) (judged_frames mode₀ count₀ 0 begun₀.state begun₀.memory (drop 8 dump))
   E = ends mode₀ count₀ 0 begun₀.state begun₀.memory (drop 8 dump)
 
-  judged-then : judged dump ≡ judgedFrames mode₀ count₀ 0 begun₀.state begun₀.memory (drop 8 dump)
-  unfolding judgedFresh
+  judged-then : judged dump ≡ judged_frames mode₀ count₀ 0 begun₀.state begun₀.memory (drop 8 dump)
+  unfolding judged_fresh
   judged-then = sym (taken-head dump z)
 
   laid_then : dump ≡ laid mode₀ count₀ E.signals E.left
@@ -161,7 +161,7 @@ module _ (dump : List ℕ) (small : Bytes dump) (z : number_of (headAnswer dump)
   unfolding readings
   accepts =
       record {
-        run = record { upon = zeros readerLen mode₀; started = start-clear readerLen mode₀ (head_of dump z).mode-covered; lents = E.lents };
+        run = record { upon = zeros reader_len mode₀; started = start-clear reader_len mode₀ (head_of dump z).mode-covered; lents = E.lents };
         before = E.before;
         split = E.split;
         given = E.given-calls;

@@ -13,17 +13,17 @@ use Rattle.runs.specs.declared.State.{State}
 use Rattle.runs.specs.Answers.{number_of}
 use Rattle.runs.specs.Causes.{judge}
 use Rattle.runs.specs.Handed.{Given, Handed, done, given, other}
-use Rattle.runs.specs.Lengths.{readerLen}
+use Rattle.runs.specs.Lengths.{reader_len}
 use Rattle.runs.specs.Lent.{Lent, Memory, Signal}
 use Rattle.runs.specs.Reading.{read_step}
 use Rattle.runs.specs.Runs.{Call, Every, calls, readings}
 use Rattle.runs.specs.Starting.{Started, start}
 use Rattle.runs.proofs.States.{start-ok}
 use Rattle.layout.specs.Layout.{body, bytes_of, header, mark}
-use Rattle.layout.specs.Heads.{headAnswer}
+use Rattle.layout.specs.Heads.{head_answer}
 use Rattle.layout.proofs.Laid.{Sized, sized_of}
 use Rattle.layout.proofs.Heads.{whole_word}
-use Rattle.dumps.specs.Judged.{judged, judgedFrames, judgedFresh}
+use Rattle.dumps.specs.Judged.{judged, judged_frames, judged_fresh}
 use Rattle.dumps.specs.Refused.{Accepts, laid}
 use Rattle.dumps.proofs.Taken.{taken-head}
 use Rattle.dumps.proofs.Handing.{Alike, Ok, OkCall, alike, fresh-of, given-step, handing, one-frame, other_step}
@@ -38,7 +38,7 @@ module _ (mode : ℕ) where
     pub mode-is : then-state.mode ≡ mode
     pub calls_are : after ≡ calls read_step then-state then-memory then-lents
     pub on : (j : ℕ) (left : List ℕ)
-        → judgedFrames mode (length xs + j) t s m (body xs ++ left) ≡ judgedFrames mode j (t + length xs) then-state then-memory left
+        → judged_frames mode (length xs + j) t s m (body xs ++ left) ≡ judged_frames mode j (t + length xs) then-state then-memory left
 
   on_none : (after : List Call) (t : ℕ) (s : State) (m : Memory) → s.mode ≡ mode → (ls : List Lent) → after ≡ calls read_step s m ls → On [] after t s m
   unfolding body
@@ -49,7 +49,7 @@ module _ (mode : ℕ) where
         then-lents = ls;
         mode-is = em;
         calls_are = q;
-        on = λ j left. ap₂ (λ (a b : ℕ). judgedFrames mode a b s m left) (zero-add j) (sym (add-zero t));
+        on = λ j left. ap₂ (λ (a b : ℕ). judged_frames mode a b s m left) (zero-add j) (sym (add-zero t));
       }
 
   on-cons : (x : Signal) (xs : List Signal) (after : List Call) (t : ℕ) (s : State) (m : Memory) (l : Lent) → s.mode ≡ mode → Given mode x l → Ok (read_step s m l)
@@ -63,11 +63,11 @@ module _ (mode : ℕ) where
         mode-is = o.mode-is;
         calls_are = o.calls_are;
         on = λ j left.
-            ap₂ (λ (a : ℕ) (b : List ℕ). judgedFrames mode a t s m b) (suc-add (length xs) j) (append_assoc (bytes_of x) (body xs) left)
+            ap₂ (λ (a : ℕ) (b : List ℕ). judged_frames mode a t s m b) (suc-add (length xs) j) (append_assoc (bytes_of x) (body xs) left)
             ∙ one-frame mode x (body xs ++ left) right (length xs + j) t s m like.ok
-            ∙ ap₂ (λ (r : State) (n : Memory). judgedFrames mode (length xs + j) (suc t) r n (body xs ++ left)) like.state-is like.memory-is
+            ∙ ap₂ (λ (r : State) (n : Memory). judged_frames mode (length xs + j) (suc t) r n (body xs ++ left)) like.state-is like.memory-is
             ∙ o.on j left
-            ∙ ap (λ (k : ℕ). judgedFrames mode j k o.then-state o.then-memory left) (suc-add t (length xs) ∙ sym (add-suc t (length xs)));
+            ∙ ap (λ (k : ℕ). judged_frames mode j k o.then-state o.then-memory left) (suc-add t (length xs) ∙ sym (add-suc t (length xs)));
       }
     where
       like : Alike s m l (read_step s m (handing mode x))
@@ -93,32 +93,32 @@ module _ (mode : ℕ) where
 
 -- ---- a header that is not refused
 
-head-laid : (mode count : ℕ) (bytes : List ℕ) → covered mode ≡ true → number_of (headAnswer (header mode count ++ bytes)) ≡ 0
-unfolding headAnswer judge header mark same
+head-laid : (mode count : ℕ) (bytes : List ℕ) → covered mode ≡ true → number_of (head_answer (header mode count ++ bytes)) ≡ 0
+unfolding head_answer judge header mark same
 head-laid mode count bytes cov = rw (le-ltb (length (header mode count ++ bytes)) 8 (omega arith), cov)
 
-laid-judged : (mode count : ℕ) (bytes : List ℕ) → covered mode ≡ true → judged (header mode count ++ bytes) ≡ judgedFresh mode count bytes
+laid-judged : (mode count : ℕ) (bytes : List ℕ) → covered mode ≡ true → judged (header mode count ++ bytes) ≡ judged_fresh mode count bytes
 unfolding header mark
 laid-judged mode count bytes cov =
-    sym (taken-head (header mode count ++ bytes) (head-laid mode count bytes cov)) ∙ ap (λ (n : ℕ). judgedFresh mode n bytes) (whole_word count)
+    sym (taken-head (header mode count ++ bytes) (head-laid mode count bytes cov)) ∙ ap (λ (n : ℕ). judged_fresh mode n bytes) (whole_word count)
 
 module _ (mode count : ℕ) (xs : List Signal) (after : List Call) (a : Accepts mode xs after) where
   abbrev begun : Started
-  begun = start readerLen mode a.run.upon
+  begun = start reader_len mode a.run.upon
 
   pub stands : On mode xs after 0 begun.state begun.memory
   unfolding readings
   stands =
       handed-on mode a.handed a.each after 0 begun.state begun.memory
-      (ap (λ (b : Started). b.state.mode) (start-ok readerLen mode a.run.upon a.run.started).1) a.run.lents (sym a.split)
+      (ap (λ (b : Started). b.state.mode) (start-ok reader_len mode a.run.upon a.run.started).1) a.run.lents (sym a.split)
 
   -- the verdict on what is left after xs
   pub left-judged : (j : ℕ) (left : List ℕ) → count ≡ length xs + j
-      → judged (laid mode count xs left) ≡ judgedFrames mode j (length xs) stands.then-state stands.then-memory left
-  unfolding judgedFresh
+      → judged (laid mode count xs left) ≡ judged_frames mode j (length xs) stands.then-state stands.then-memory left
+  unfolding judged_fresh
   left-judged j left e =
-      laid-judged mode count (body xs ++ left) (start-ok readerLen mode a.run.upon a.run.started).0
-      ∙ ap (λ (b : Started). judgedFrames mode count 0 b.state b.memory (body xs ++ left)) (fresh-of mode a.run)
-      ∙ ap (λ (n : ℕ). judgedFrames mode n 0 begun.state begun.memory (body xs ++ left)) e
+      laid-judged mode count (body xs ++ left) (start-ok reader_len mode a.run.upon a.run.started).0
+      ∙ ap (λ (b : Started). judged_frames mode count 0 b.state b.memory (body xs ++ left)) (fresh-of mode a.run)
+      ∙ ap (λ (n : ℕ). judged_frames mode n 0 begun.state begun.memory (body xs ++ left)) e
       ∙ stands.on j left
-      ∙ ap (λ (k : ℕ). judgedFrames mode j k stands.then-state stands.then-memory left) (zero-add (length xs))
+      ∙ ap (λ (k : ℕ). judged_frames mode j k stands.then-state stands.then-memory left) (zero-add (length xs))

@@ -4,8 +4,8 @@ use Rattle.bits.specs.Bits.{Bytes}
 use Rattle.runs.specs.Answers.{number_of}
 use Rattle.runs.specs.Handed.{Handed}
 use Rattle.runs.specs.Lent.{Signal}
-use Rattle.runs.specs.Runs.{Call, Every, ReaderRun, SenderRun, count, readings, signalsSent}
-use Rattle.layout.specs.Layout.{dumpOf}
+use Rattle.runs.specs.Runs.{Call, Every, ReaderRun, SenderRun, count, readings, signals_sent}
+use Rattle.layout.specs.Layout.{dump_of}
 use Rattle.dumps.specs.Judged.{accepted, judged}
 
 -- a dump of the layout, with nothing after it, and a reader's run that was handed its L1 frames in order and accepted each
@@ -13,7 +13,7 @@ pub record Readable (dump : List ℕ) : Type 0 where
   pub mode : ℕ
   pub signals : List Signal
   pub few : length signals ≤ 65535
-  pub layout : dump ≡ dumpOf mode signals
+  pub layout : dump ≡ dump_of mode signals
   pub run : ReaderRun mode
   pub given : List Call
   pub handed : Handed mode signals (readings mode run) given
@@ -25,4 +25,4 @@ pub record Dumps : Type 0 where
   pub complete : (dump : List ℕ) → Readable dump → judged dump ≡ accepted
   -- each dump of a sender's whole run, refused calls or not, is made of bytes and accepted
   pub sent : (mode : ℕ) (a : SenderRun mode) → count mode a ≤ 65535
-      → Bytes (dumpOf mode (signalsSent mode a)) × (judged (dumpOf mode (signalsSent mode a)) ≡ accepted)
+      → Bytes (dump_of mode (signals_sent mode a)) × (judged (dump_of mode (signals_sent mode a)) ≡ accepted)

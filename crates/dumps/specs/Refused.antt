@@ -7,7 +7,7 @@ use Rattle.runs.specs.Handed.{Given, Handed}
 use Rattle.runs.specs.Lent.{Signal}
 use Rattle.runs.specs.Runs.{Call, Every, ReaderRun, readings}
 use Rattle.runs.specs.TableStates.{Covered}
-use Rattle.layout.specs.Layout.{body, bytes_of, frameBytes, header, mark, word}
+use Rattle.layout.specs.Layout.{body, bytes_of, frame_bytes, header, mark, word}
 use Rattle.dumps.specs.declared.Verdict.{Verdict}
 use Rattle.dumps.specs.Judged.{accepted, judged, verdict}
 
@@ -41,7 +41,7 @@ pub data Ruled (dump : List ℕ) : Verdict → Type 0 where
       → Ruled dump (verdict c.result.answer (length xs))
   -- "one that the file's end cuts short is 19 with its number, place 0,
   cut_short : (mode count : ℕ) (xs : List Signal) (left : List ℕ) → dump ≡ laid mode count xs left → length xs < count
-      → Accepts mode xs [] → length left < frameBytes mode → Ruled dump (verdict WrongEnd (length xs))
+      → Accepts mode xs [] → length left < frame_bytes mode → Ruled dump (verdict WrongEnd (length xs))
   -- and bytes after the last frame are 19 with the count as frame number, place 0"
   left_over : (mode count : ℕ) (xs : List Signal) (left : List ℕ) → dump ≡ laid mode count xs left → length xs ≡ count
       → Accepts mode xs [] → left ≢ [] → Ruled dump (verdict WrongEnd count)

@@ -1,10 +1,10 @@
 // Document 02, S-13: judging a dump.
 ghost use Rattle.std.specs.Prelude.{◌≡◌};
-ghost use Rattle.runs.specs.Lengths.{readerLen};
+ghost use Rattle.runs.specs.Lengths.{reader_len};
 ghost use Rattle.runs.specs.Starting.{zeros};
 ghost use Rattle.calls.specs.Called.{memory};
-ghost use Rattle.dumps.specs.Next.{judgedOne, next};
-ghost use Rattle.dumps.specs.Judged.{judged, judgedFresh, verdict};
+ghost use Rattle.dumps.specs.Next.{judged_one, next};
+ghost use Rattle.dumps.specs.Judged.{judged, judged_fresh, verdict};
 
 use calls::start_reader;
 use causes::number;
@@ -44,7 +44,7 @@ pub fn judge_frame(
     delay: &mut [u8],
 ) -> Judged
     ensures { next result (memory memory3.new memory4.new delay.new)
-        ≡ judgedOne mode t state (memory memory3.old memory4.old delay.old) bytes.now }
+        ≡ judged_one mode t state (memory memory3.old memory4.old delay.old) bytes.now }
 {
     let n = frame_bytes(mode);
     if bytes.len() < n {
@@ -71,8 +71,8 @@ fn judge_frames(
     memory4: &mut [u8],
     delay: &mut [u8],
 ) -> Verdict
-    requires { memory memory3.old memory4.old delay.old ≡ zeros readerLen mode }
-    ensures { result ≡ judgedFresh mode count frames.now }
+    requires { memory memory3.old memory4.old delay.old ≡ zeros reader_len mode }
+    ensures { result ≡ judged_fresh mode count frames.now }
 {
     let begun = start_reader(mode, memory3, memory4, delay);
     let n = frame_bytes(mode);

@@ -6,14 +6,14 @@ use native.Mathlib.Decide.{dec_lt}
 use native.Mathlib.Omega.{arith}
 use Rattle.runs.specs.Answers.{place_of}
 use Rattle.runs.specs.declared.Answer.TheVariants.{Success}
-use Rattle.trellis.specs.Cells.{scrambledOf}
+use Rattle.trellis.specs.Cells.{scrambled_of}
 use Rattle.trellis.proofs.Distances.{distance-low}
 use Rattle.decoding.specs.declared.Decoded.{Decoded}
 use Rattle.decoding.specs.Nearness.{Margin}
 use Rattle.decoding.specs.Outcomes.{judged, Answered}
 use Rattle.decoding.proofs.Answering.{budget-low, is-success, judged-place}
 use Rattle.decoding.proofs.Outcomes.{answered-once}
-use Rattle.words.specs.Words.{decodedWord}
+use Rattle.words.specs.Words.{decoded_word}
 use Rattle.words.proofs.Fields.{SmallDecoded}
 use Rattle.exported.specs.Decoded.{AnsweredBy}
 
@@ -33,7 +33,7 @@ decoded-small cells before after budget d a = go (is-success (judged cells befor
     go : Dec (judged cells before budget ≡ Success) → SmallDecoded d
     go (yes e) =
         let n = a.named e in
-        let low = distance-low cells (scrambledOf after) in
+        let low = distance-low cells (scrambled_of after) in
         let m = margin-low cells budget d.distance d.margin (budget-low cells before budget e) n.margin in
         (omega (arith, n.distance), omega (arith, n.distance), place)
     go (no e) = let r = a.refused e in (omega (arith, r.distance), omega (arith, r.margin), place)
@@ -41,4 +41,4 @@ decoded-small cells before after budget d a = go (is-success (judged cells befor
 pub word-once : (cells before x y : List ℕ) (budget v w : ℕ) → AnsweredBy cells before x budget v → AnsweredBy cells before y budget w → (x ≡ y) × (v ≡ w)
 word-once cells before x y budget v w a b =
     let (same, one) = answered-once cells before x y budget a.decoded b.decoded a.answered b.answered in
-    (same, a.told ∙ ap decodedWord one ∙ sym b.told)
+    (same, a.told ∙ ap decoded_word one ∙ sym b.told)

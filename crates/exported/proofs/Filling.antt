@@ -15,9 +15,9 @@ use Rattle.runs.proofs.Answered.{on_both}
 use Rattle.runs.proofs.Places.{Small, met, not-met, end, and, judged, small-lengths, small-when}
 use Rattle.points.specs.Points.{usable}
 use Rattle.subcarriers.specs.Tables.{mapped}
-use Rattle.mapping.specs.Vector.{Vector, admitted, answer_of, filled, imaginaryParts, realParts, vector, vectorSizes}
-use Rattle.exported.specs.Left.{vectorLeft, vectorLeftBy}
-use Rattle.words.specs.Words.{answerWord}
+use Rattle.mapping.specs.Vector.{Vector, admitted, answer_of, filled, imaginary_parts, real_parts, vector, vector_sizes}
+use Rattle.exported.specs.Left.{vector_left, vector_left_by}
+use Rattle.words.specs.Words.{answer_word}
 
 -- the place of a scale is 0 or 1
 small-scale : (t : Bool) (k : ℕ) → k < 2 → Small (when t (ScaleNotUsable k))
@@ -25,11 +25,11 @@ small-scale true k h = met (ScaleNotUsable k) (omega arith)
 small-scale false k h = not-met
 
 fill-place : (mode symbol : ℕ) (lower upper : Float) (g : Signal) (re im : List Float) → place_of (filled mode symbol lower upper g re im).answer < 2 ^ 24
-unfolding filled answer_of admitted vectorSizes
+unfolding filled answer_of admitted vector_sizes
 fill-place mode symbol lower upper g re im =
-    on_both (λ (v : Vector). place_of v.answer < 2 ^ 24) _ (vector Success (realParts mode symbol lower upper g) (imaginaryParts mode symbol lower upper g)) _ (omega arith)
+    on_both (λ (v : Vector). place_of v.answer < 2 ^ 24) _ (vector Success (real_parts mode symbol lower upper g) (imaginary_parts mode symbol lower upper g)) _ (omega arith)
     (judged (and (small-when (not (mapped mode)) ModeNotCovered refl)
-    (and (small-lengths (vectorSizes mode g re im) (omega arith))
+    (and (small-lengths (vector_sizes mode g re im) (omega arith))
     (and (small-when (not (ltb symbol 512)) SymbolTooHigh refl)
     (and (small-scale (not (usable lower)) 0 (omega arith))
     (and (small-scale (not (usable upper)) 1 (omega arith)) end))))))
@@ -41,5 +41,5 @@ module _ (answer : Answer) (mode symbol : ℕ) (lower upper : Float) (g : Signal
       let small = subst (λ (v : Vector). place_of v.answer < 2 ^ 24) (sym e) (fill-place mode symbol lower upper g re im) in
       omega (arith, small)
 
-  pub vector-left : (word : ℕ) → word ≡ answerWord answer → vectorLeft word re' im' ≡ vectorLeftBy (filled mode symbol lower upper g re im)
-  vector-left word a = ap (λ (n : ℕ). vectorLeft n re' im') a ∙ ap vectorLeftBy e
+  pub vector-left : (word : ℕ) → word ≡ answer_word answer → vector_left word re' im' ≡ vector_left_by (filled mode symbol lower upper g re im)
+  vector-left word a = ap (λ (n : ℕ). vector_left n re' im') a ∙ ap vector_left_by e

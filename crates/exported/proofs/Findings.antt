@@ -9,33 +9,33 @@ use lib.Dec.{eqb, ltb}
 use lib.ListN.{length}
 use Rattle.interleaving.specs.FinderPM.{source}
 use Rattle.interleaving.specs.Source.{Source, Either, first, second}
-use Rattle.interleaving.specs.Matrix.{Inside, positionAt}
+use Rattle.interleaving.specs.Matrix.{Inside, position_at}
 use Rattle.interleaving.proofs.PositionsPM.{positions-pm}
 use Rattle.control.specs.declared.Looked.{Looked}
 use Rattle.control.specs.declared.Looked.TheVariants.{Found, NotABlock}
-use Rattle.control.specs.Lookup.{lookedUp}
+use Rattle.control.specs.Lookup.{looked_up}
 use Rattle.blockset.specs.declared.LookedFrame.TheVariants.{Faulty, Unfit}
-use Rattle.blockset.specs.LookupFrame.{says, named, faulty, unfit, lookedUpFrame}
+use Rattle.blockset.specs.LookupFrame.{says, named, faulty, unfit, looked_up_frame}
 use Rattle.bits.specs.Tests.{lowest}
 use Rattle.bits.proofs.Tests.{lowest-up-to}
-use Rattle.interleaving.specs.FinderPX.{codedBit, earlier, origin}
+use Rattle.interleaving.specs.FinderPX.{coded_bit, earlier, origin}
 use Rattle.runs.specs.declared.Answer.{Answer}
 use Rattle.runs.specs.declared.Answer.TheVariants.{StateNotValid, WrongLength}
 use Rattle.runs.specs.declared.Kind.{Kind}
 use Rattle.runs.specs.declared.Kind.TheVariants.{Unused, Narrow, Wide}
 use Rattle.runs.specs.declared.State.{State}
 use Rattle.runs.specs.Answers.{place_of}
-use Rattle.runs.specs.Lengths.{tableRow}
+use Rattle.runs.specs.Lengths.{table_row}
 use Rattle.runs.specs.Starting.{valid}
 use Rattle.queries.specs.declared.finder_px.FoundPx.TheVariants.{Coded, Fill, Refused as RefusedPX}
-use Rattle.queries.specs.FinderPX.{columnsOf, cell_of, frameCoded, kindOfNumber, foundPX, told as toldPX, values as valuesPX}
-use Rattle.interleaving.specs.PX.{codedBits, codedBytes}
+use Rattle.queries.specs.FinderPX.{columns_of, cell_of, frame_coded, kind_of_number, found_px, told as told_px, values as values_px}
+use Rattle.interleaving.specs.PX.{coded_bits, coded_bytes}
 use native.Mathlib.Nat.{div-lt_iff_lt-mul, mod-lt}
-use Rattle.queries.specs.declared.blocks.LookedUp.TheVariants.{Refused as notLookedUp}
-use Rattle.queries.specs.declared.blocks.LookedUpFrame.TheVariants.{Refused as noFrame}
+use Rattle.queries.specs.declared.blocks.LookedUp.TheVariants.{Refused as not_looked_up}
+use Rattle.queries.specs.declared.blocks.LookedUpFrame.TheVariants.{Refused as no_frame}
 use Rattle.queries.specs.Finder.{found, told, values}
-use Rattle.queries.specs.Lookup.{lookupOf, values as valuesOfBlock, told as toldOfBlock}
-use Rattle.queries.specs.LookupFrame.{lookupFrameOf, values as valuesOfFrame, told as toldOfFrame}
+use Rattle.queries.specs.Lookup.{lookup_of, values as values_of_block, told as told_of_block}
+use Rattle.queries.specs.LookupFrame.{lookup_frame_of, values as values_of_frame, told as told_of_frame}
 use Rattle.queries.specs.Places.{placed}
 use Rattle.queries.specs.Places as Places
 use Rattle.words.proofs.Fields.{Small, SmallPlace, SmallPX}
@@ -60,7 +60,7 @@ found-small row column =
     refused-row-column row column
     (λ h. rw (found-row-out row column h) (omega arith, omega arith, omega arith))
     (λ h l. rw (found-column-out row column h l) (omega arith, omega arith, omega arith))
-    (λ h l. rw (found_within row column h l) (told-small (source (positionAt 36 row column)) (positions-pm.once.back _ (positions-pm.inside row column h l))))
+    (λ h l. rw (found_within row column h l) (told-small (source (position_at 36 row column)) (positions-pm.once.back _ (positions-pm.inside row column h l))))
 
 -- ---- the position of a row and a column
 
@@ -76,43 +76,43 @@ placed-small row column =
 
 -- ---- PX1 and PX2
 
-refused-small : (a : Answer) → place_of a < 2 ^ 8 → SmallPX (valuesPX (RefusedPX a))
+refused-small : (a : Answer) → place_of a < 2 ^ 8 → SmallPX (values_px (RefusedPX a))
 refused-small a h = (h, omega arith, omega arith, omega arith)
 
-coded-small : (t : Bool) (n f b : ℕ) → n ≤ 2 → f < 8 → b < 9216 → SmallPX (valuesPX (cond t Fill (Coded n f b)))
+coded-small : (t : Bool) (n f b : ℕ) → n ≤ 2 → f < 8 → b < 9216 → SmallPX (values_px (cond t Fill (Coded n f b)))
 coded-small true n f b ln lf lb = (omega arith, omega arith, omega arith, omega arith)
 coded-small false n f b ln lf lb = (omega arith, omega arith, omega arith, omega arith)
 
 -- the coded bits of an L1 frame are those of eight transfer frames
-eight : (k : Kind) → eqb (columnsOf k) 0 ≡ false → (codedBits (tableRow k) ≡ 8 * frameCoded k) × (0 < frameCoded k) × (frameCoded k ≤ 9216)
-unfolding codedBytes
+eight : (k : Kind) → eqb (columns_of k) 0 ≡ false → (coded_bits (table_row k) ≡ 8 * frame_coded k) × (0 < frame_coded k) × (frame_coded k ≤ 9216)
+unfolding coded_bytes
 eight Unused e = absurd (true≢false e)
 eight Narrow e = (refl, omega arith, omega arith)
 eight Wide e = (refl, omega arith, omega arith)
 
-toldPX-small : (k : Kind) (half age cell : ℕ) → eqb (columnsOf k) 0 ≡ false → SmallPX (valuesPX (toldPX k half age cell))
-unfolding toldPX
-toldPX-small k half age cell e =
+told_px-small : (k : Kind) (half age cell : ℕ) → eqb (columns_of k) 0 ≡ false → SmallPX (values_px (told_px k half age cell))
+unfolding told_px
+told_px-small k half age cell e =
     let (all, some, most) = eight k e in
-    let j = codedBit (tableRow k) half cell in
-    let below : j < codedBits (tableRow k) = mod-lt (origin (tableRow k) half cell) (omega arith) in
-    let bit : j % frameCoded k < frameCoded k = mod-lt j some in
-    let l : j < 8 * frameCoded k = omega arith in
-    coded-small (ltb age (earlier (tableRow k) half cell)) _ (j / frameCoded k) (j % frameCoded k) (omega arith) ((div-lt_iff_lt-mul some).1 l) (omega arith)
+    let j = coded_bit (table_row k) half cell in
+    let below : j < coded_bits (table_row k) = mod-lt (origin (table_row k) half cell) (omega arith) in
+    let bit : j % frame_coded k < frame_coded k = mod-lt j some in
+    let l : j < 8 * frame_coded k = omega arith in
+    coded-small (ltb age (earlier (table_row k) half cell)) _ (j / frame_coded k) (j % frame_coded k) (omega arith) ((div-lt_iff_lt-mul some).1 l) (omega arith)
 
-pub foundPX-small : (s : State) (channel pair row column : ℕ) → SmallPX (valuesPX (foundPX s channel pair row column))
-unfolding foundPX
-foundPX-small s channel pair row column =
-    let k = kindOfNumber s.mode channel in
-    go k (valid s) (eqb (columnsOf k) 0) refl (ltb pair 8) (ltb row 64) (ltb column (columnsOf k))
+pub found_px-small : (s : State) (channel pair row column : ℕ) → SmallPX (values_px (found_px s channel pair row column))
+unfolding found_px
+found_px-small s channel pair row column =
+    let k = kind_of_number s.mode channel in
+    go k (valid s) (eqb (columns_of k) 0) refl (ltb pair 8) (ltb row 64) (ltb column (columns_of k))
   where
-    go : (k : Kind) (v z : Bool) → eqb (columnsOf k) 0 ≡ z → (p r c : Bool)
-        → SmallPX (valuesPX (
+    go : (k : Kind) (v z : Bool) → eqb (columns_of k) 0 ≡ z → (p r c : Bool)
+        → SmallPX (values_px (
         cond v
         (cond z (RefusedPX (WrongLength 0))
         (cond p
         (cond r
-        (cond c (toldPX k s.half s.age (cell_of k pair row column)) (RefusedPX (WrongLength 3)))
+        (cond c (told_px k s.half s.age (cell_of k pair row column)) (RefusedPX (WrongLength 3)))
         (RefusedPX (WrongLength 2)))
         (RefusedPX (WrongLength 1))))
         (RefusedPX StateNotValid)))
@@ -121,28 +121,28 @@ foundPX-small s channel pair row column =
     go k true false e false r c = refused-small (WrongLength 1) (omega arith)
     go k true false e true false c = refused-small (WrongLength 2) (omega arith)
     go k true false e true true false = refused-small (WrongLength 3) (omega arith)
-    go k true false e true true true = toldPX-small k _ _ _ e
+    go k true false e true true true = told_px-small k _ _ _ e
 
 -- ---- control blocks
 
-told-place : (looked : Looked) → (valuesOfBlock (toldOfBlock looked)).place ≡ 0
+told-place : (looked : Looked) → (values_of_block (told_of_block looked)).place ≡ 0
 told-place (Found mode count reserved) = refl
 told-place NotABlock = refl
 
-pub lookup-place : (block : List ℕ) → (valuesOfBlock (lookupOf block)).place < 2 ^ 8
-unfolding lookupOf
+pub lookup-place : (block : List ℕ) → (values_of_block (lookup_of block)).place < 2 ^ 8
+unfolding lookup_of
 lookup-place block = go (eqb (length block) 256)
   where
-    go : (t : Bool) → (valuesOfBlock (cond t (toldOfBlock (lookedUp block)) (notLookedUp (WrongLength 0)))).place < 2 ^ 8
-    go true = omega (arith, told-place (lookedUp block))
+    go : (t : Bool) → (values_of_block (cond t (told_of_block (looked_up block)) (not_looked_up (WrongLength 0)))).place < 2 ^ 8
+    go true = omega (arith, told-place (looked_up block))
     go false = omega arith
 
-named-place : (looked : Looked) → (valuesOfFrame (toldOfFrame (named looked))).place ≡ 0
+named-place : (looked : Looked) → (values_of_frame (told_of_frame (named looked))).place ≡ 0
 named-place (Found mode count reserved) = refl
 named-place NotABlock = refl
 
-pub lookup-frame-place : (control : List ℕ) → (valuesOfFrame (lookupFrameOf control)).place < 2 ^ 8
-unfolding lookupFrameOf lookedUpFrame
+pub lookup-frame-place : (control : List ℕ) → (values_of_frame (lookup_frame_of control)).place < 2 ^ 8
+unfolding lookup_frame_of looked_up_frame
 lookup-frame-place control = go (eqb (length control) 4096) (ltb bad 16) (ltb odd 16)
   where
     bad : ℕ
@@ -152,7 +152,7 @@ lookup-frame-place control = go (eqb (length control) 4096) (ltb bad 16) (ltb od
     odd = lowest 16 (unfit control)
 
     go : (t b o : Bool)
-        → (valuesOfFrame (cond t (toldOfFrame (cond b (Faulty bad) (cond o (Unfit odd) (named (says control 0))))) (noFrame (WrongLength 0)))).place < 2 ^ 8
+        → (values_of_frame (cond t (told_of_frame (cond b (Faulty bad) (cond o (Unfit odd) (named (says control 0))))) (no_frame (WrongLength 0)))).place < 2 ^ 8
     go false b o = omega arith
     go true true o = omega (arith, lowest-up-to 16 (faulty control))
     go true false true = omega (arith, lowest-up-to 16 (unfit control))

@@ -8,9 +8,9 @@ use lib.Dec.{eqb, ltb}
 use lib.ListN.{length, take, drop, length-take, length-drop}
 use borrow.Author.Tests.{ltb-true, eqb-true, ne_eqb}
 use Rattle.bits.proofs.Tests.{and-true}
-use Rattle.runs.specs.Lengths.{pmLen}
-use Rattle.rows.specs.Rows.{part_of, pmRow, pxRow}
-use Rattle.words.specs.Words.{chosen, part_at, rowWord}
+use Rattle.runs.specs.Lengths.{pm_len}
+use Rattle.rows.specs.Rows.{part_of, pm_row, px_row}
+use Rattle.words.specs.Words.{chosen, part_at, row_word}
 use Rattle.words.proofs.Fields.{start-lt}
 
 -- a part of a matrix of 512 rows of n bytes: row `row` of it, or none
@@ -23,8 +23,8 @@ pub long : (n row : ℕ) (matrix part : List ℕ) → n < 256 → Handed n row m
 long n row matrix part h (whole l e) = (omega (arith, e), λ z. l)
 long n row matrix part h empty = (omega arith, λ z. absurd (omega arith))
 
-told : (n row : ℕ) (matrix part : List ℕ) → 0 < n → n < 256 → Handed n row matrix part → part_at (rowWord n row part) matrix ≡ part
-unfolding rowWord
+told : (n row : ℕ) (matrix part : List ℕ) → 0 < n → n < 256 → Handed n row matrix part → part_at (row_word n row part) matrix ≡ part
+unfolding row_word
 told n row matrix part p h (whole l e) =
     let k : ℕ = length (part_of n row matrix) in
     let s = start-lt row n h l in
@@ -34,16 +34,16 @@ told n row matrix part p h (whole l e) =
     ∙ (λ i. take (size i) (drop (start i) matrix))
 told n row matrix part p h empty = refl
 
-pub tells : (n row : ℕ) (matrix part : List ℕ) (r : ℕ) → 0 < n → n < 256 → Handed n row matrix part → r ≡ rowWord n row part
-    → (r ≡ rowWord n row part) × (part_at r matrix ≡ part)
+pub tells : (n row : ℕ) (matrix part : List ℕ) (r : ℕ) → 0 < n → n < 256 → Handed n row matrix part → r ≡ row_word n row part
+    → (r ≡ row_word n row part) × (part_at r matrix ≡ part)
 tells n row matrix part r p h d e = (e, ap (λ (w : ℕ). part_at w matrix) e ∙ told n row matrix part p h d)
 
 row-long : (n row : ℕ) (matrix : List ℕ) → row * n + n ≤ length matrix → length (part_of n row matrix) ≡ n
 row-long n row matrix h = simp (length-take, length-drop) (omega arith)
 
 -- of PM, and of PX1 and PX2
-pub pm-handed : (row : ℕ) (pm : List ℕ) → Handed 90 row pm (pmRow row pm)
-unfolding pmRow pmLen
+pub pm-handed : (row : ℕ) (pm : List ℕ) → Handed 90 row pm (pm_row row pm)
+unfolding pm_row pm_len
 pm-handed row pm = go (eqb (length pm) 46080 && ltb row 512) refl
   where
     go : (t : Bool) → (eqb (length pm) 46080 && ltb row 512) ≡ t → Handed 90 row pm (cond t (part_of 90 row pm) [])
@@ -64,8 +64,8 @@ module _ (channel row : ℕ) (px1 px2 : List ℕ) where
   of-channel false true e f l h1 h2 = whole l (row-long 18 row px2 (omega arith))
   of-channel false false e f l h1 h2 = empty
 
-  pub px-handed : Handed 18 row (chosen channel px1 px2) (pxRow channel row px1 px2)
-  unfolding pxRow
+  pub px-handed : Handed 18 row (chosen channel px1 px2) (px_row channel row px1 px2)
+  unfolding px_row
   px-handed = go Fits refl
     where
       go : (t : Bool) → Fits ≡ t

@@ -10,8 +10,8 @@ use Rattle.runs.specs.declared.Answer.{Answer}
 use Rattle.runs.specs.declared.Answer.TheVariants.{Success, WrongLength, SharesTooMany}
 use Rattle.runs.specs.Answers.{place_of}
 use Rattle.allocation.specs.Allocation.{Outcome, granted, outcome, places_of, shared, total}
-use Rattle.exported.specs.Left.{placesLeft, placesLeftBy}
-use Rattle.words.specs.Words.{answerWord, eightOf}
+use Rattle.exported.specs.Left.{places_left, places_left_by}
+use Rattle.words.specs.Words.{answer_word, eight_of}
 
 shared-place : (shares waiting places : List ℕ) → place_of (shared shares waiting places).answer < 2 ^ 32
 unfolding shared
@@ -26,7 +26,7 @@ module _ (answer : Answer) (shares waiting entry exit : List ℕ) (e : outcome a
   pub answer-small : place_of answer < 2 ^ 32
   answer-small = subst (λ (o : Outcome). place_of o.answer < 2 ^ 32) (sym e) (shared-place shares waiting entry)
 
-  pub places-left : (s w : ℕ) → shares ≡ eightOf s → waiting ≡ eightOf w → (word : ℕ) → word ≡ answerWord answer
-      → placesLeft word exit ≡ placesLeftBy (shared (eightOf s) (eightOf w) entry)
+  pub places-left : (s w : ℕ) → shares ≡ eight_of s → waiting ≡ eight_of w → (word : ℕ) → word ≡ answer_word answer
+      → places_left word exit ≡ places_left_by (shared (eight_of s) (eight_of w) entry)
   places-left s w h k word a =
-      ap (λ (n : ℕ). placesLeft n exit) a ∙ ap placesLeftBy (e ∙ ap₂ (λ (x y : List ℕ). shared x y entry) h k)
+      ap (λ (n : ℕ). places_left n exit) a ∙ ap places_left_by (e ∙ ap₂ (λ (x y : List ℕ). shared x y entry) h k)

@@ -2,18 +2,18 @@
 use Rattle.std.specs.Prelude.{ℕ, List, Float}
 use Rattle.allocation.specs.Allocation.{Outcome}
 use Rattle.mapping.specs.Vector.{Vector}
-use Rattle.words.specs.Words.{answerWord}
+use Rattle.words.specs.Words.{answer_word}
 
 -- by sharing places
 pub record PlacesLeft : Type 0 where
   pub word : ℕ
   pub places : List ℕ
 
-abbrev pub placesLeft : ℕ → List ℕ → PlacesLeft
-placesLeft word places = record { word = word; places = places }
+abbrev pub places_left : ℕ → List ℕ → PlacesLeft
+places_left word places = record { word = word; places = places }
 
-abbrev pub placesLeftBy : Outcome → PlacesLeft
-placesLeftBy g = placesLeft (answerWord g.answer) g.places
+abbrev pub places_left_by : Outcome → PlacesLeft
+places_left_by g = places_left (answer_word g.answer) g.places
 
 -- by filling a vector
 pub record VectorLeft : Type 0 where
@@ -21,8 +21,8 @@ pub record VectorLeft : Type 0 where
   pub re : List Float
   pub im : List Float
 
-abbrev pub vectorLeft : ℕ → (re im : List Float) → VectorLeft
-vectorLeft word re im = record { word = word; re = re; im = im }
+abbrev pub vector_left : ℕ → (re im : List Float) → VectorLeft
+vector_left word re im = record { word = word; re = re; im = im }
 
-abbrev pub vectorLeftBy : Vector → VectorLeft
-vectorLeftBy g = vectorLeft (answerWord g.answer) g.re g.im
+abbrev pub vector_left_by : Vector → VectorLeft
+vector_left_by g = vector_left (answer_word g.answer) g.re g.im

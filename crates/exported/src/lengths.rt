@@ -1,7 +1,7 @@
 // Document 01, the lent lengths, one at a time.
 ghost use Rattle.std.specs.Prelude.{◌≡◌, get_or};
 ghost use Rattle.runs.specs.declared.Extended.TheVariants.{P3, P4};
-ghost use Rattle.runs.specs.Lengths.{kind_of, readerLen, senderLen};
+ghost use Rattle.runs.specs.Lengths.{kind_of, reader_len, sender_len};
 ghost use Rattle.modes.specs.Sizes.{wanted};
 
 // The length at a place, 0 past the last.
@@ -17,7 +17,7 @@ fn at(lengths: &[usize], place: usize) -> usize
 // The length of the buffer at a place of a sending in this mode, 0 past the last.
 #[unsafe(no_mangle)]
 pub extern "C" fn layer1_sender_length(mode: u8, place: usize) -> usize
-    ensures { result ≡ get_or (wanted mode (senderLen (kind_of mode P3)) (senderLen (kind_of mode P4))) place 0 }
+    ensures { result ≡ get_or (wanted mode (sender_len (kind_of mode P3)) (sender_len (kind_of mode P4))) place 0 }
 {
     let lengths = layer1::sender_lengths(mode);
     at(&lengths, place)
@@ -26,7 +26,7 @@ pub extern "C" fn layer1_sender_length(mode: u8, place: usize) -> usize
 // The length of the buffer at a place of a reading in this mode, 0 past the last.
 #[unsafe(no_mangle)]
 pub extern "C" fn layer1_reader_length(mode: u8, place: usize) -> usize
-    ensures { result ≡ get_or (wanted mode (readerLen (kind_of mode P3)) (readerLen (kind_of mode P4))) place 0 }
+    ensures { result ≡ get_or (wanted mode (reader_len (kind_of mode P3)) (reader_len (kind_of mode P4))) place 0 }
 {
     let lengths = layer1::reader_lengths(mode);
     at(&lengths, place)

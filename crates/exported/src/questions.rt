@@ -2,10 +2,10 @@
 ghost use Rattle.std.specs.Prelude.{◌≡◌};
 ghost use Rattle.queries.specs.Finder.{found, values};
 ghost use Rattle.queries.specs.Places.{placed, values as valuesOfPlace};
-ghost use Rattle.queries.specs.FinderPX.{foundPX, values as valuesPX};
-ghost use Rattle.queries.specs.Lookup.{lookupOf, values as valuesOfBlock};
-ghost use Rattle.queries.specs.LookupFrame.{lookupFrameOf, values as valuesOfFrame};
-ghost use Rattle.words.specs.Words.{foundPxWord, foundWord, lookedUpFrameWord, lookedUpWord, placedWord, state_of};
+ghost use Rattle.queries.specs.FinderPX.{found_px, values as values_px};
+ghost use Rattle.queries.specs.Lookup.{lookup_of, values as values_of_block};
+ghost use Rattle.queries.specs.LookupFrame.{lookup_frame_of, values as values_of_frame};
+ghost use Rattle.words.specs.Words.{found_px_word, found_word, looked_up_frame_word, looked_up_word, placed_word, state_of};
 
 use layer1::State;
 use words::{found_px_word, found_word, looked_up_frame_word, looked_up_word, placed_word};
@@ -13,7 +13,7 @@ use words::{found_px_word, found_word, looked_up_frame_word, looked_up_word, pla
 // Whose coded bit stands in a cell of PM.
 #[unsafe(no_mangle)]
 pub extern "C" fn layer1_find(row: usize, column: usize) -> u64
-    ensures { result ≡ foundWord (values (found row column)) }
+    ensures { result ≡ found_word (values (found row column)) }
 {
     let cell = layer1::find(row, column);
     found_word(cell)
@@ -22,7 +22,7 @@ pub extern "C" fn layer1_find(row: usize, column: usize) -> u64
 // Where a row and a column of PM stand.
 #[unsafe(no_mangle)]
 pub extern "C" fn layer1_place_of(row: usize, column: usize) -> u64
-    ensures { result ≡ placedWord (valuesOfPlace (placed row column)) }
+    ensures { result ≡ placed_word (valuesOfPlace (placed row column)) }
 {
     let place = layer1::place_of(row, column);
     placed_word(place)
@@ -40,7 +40,7 @@ pub extern "C" fn layer1_find_px(
     row: usize,
     column: usize,
 ) -> u64
-    ensures { result ≡ foundPxWord (valuesPX (foundPX (state_of mode half age last) channel pair row column)) }
+    ensures { result ≡ found_px_word (values_px (found_px (state_of mode half age last) channel pair row column)) }
 {
     let state = State {
         mode,
@@ -55,7 +55,7 @@ pub extern "C" fn layer1_find_px(
 // The mode, the block count and the number of one control block.
 #[unsafe(no_mangle)]
 pub extern "C" fn layer1_lookup(block: &[u8]) -> u64
-    ensures { result ≡ lookedUpWord (valuesOfBlock (lookupOf block.now)) }
+    ensures { result ≡ looked_up_word (values_of_block (lookup_of block.now)) }
 {
     let said = layer1::lookup(block);
     looked_up_word(said)
@@ -64,7 +64,7 @@ pub extern "C" fn layer1_lookup(block: &[u8]) -> u64
 // The mode and the number of the sixteen control blocks of an L1 frame.
 #[unsafe(no_mangle)]
 pub extern "C" fn layer1_lookup_frame(control: &[u8]) -> u64
-    ensures { result ≡ lookedUpFrameWord (valuesOfFrame (lookupFrameOf control.now)) }
+    ensures { result ≡ looked_up_frame_word (values_of_frame (lookup_frame_of control.now)) }
 {
     let said = layer1::lookup_frame(control);
     looked_up_frame_word(said)

@@ -2,7 +2,7 @@
 ghost use Rattle.std.specs.Prelude.{◌≡◌};
 ghost use Rattle.calls.specs.Called.{signal};
 ghost use Rattle.mapping.specs.Vector.{filled};
-ghost use Rattle.exported.specs.Left.{vectorLeft, vectorLeftBy};
+ghost use Rattle.exported.specs.Left.{vector_left, vector_left_by};
 
 use words::answer_word;
 
@@ -21,8 +21,8 @@ pub extern "C" fn layer1_fill_vector(
     re: &mut [f32],
     im: &mut [f32],
 ) -> u64
-    ensures { vectorLeft result re.new im.new
-        ≡ vectorLeftBy (filled mode symbol lower upper (signal pm.now px1.now px2.now control.now) re.old im.old) }
+    ensures { vector_left result re.new im.new
+        ≡ vector_left_by (filled mode symbol lower upper (signal pm.now px1.now px2.now control.now) re.old im.old) }
 {
     let answer = layer1::fill_vector(mode, symbol, lower, upper, pm, px1, px2, control, re, im);
     answer_word(answer)

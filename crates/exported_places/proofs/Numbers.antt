@@ -7,9 +7,9 @@ use borrow.Author.Tests.{eq-eqb, ne_eqb}
 use lib.ListN.{length, get_or, take, drop}
 use Rattle.runs.specs.declared.Answer.TheVariants.{WrongLength}
 use Rattle.runs.specs.Answers.{number_of}
-use Rattle.words.specs.Words.{answerWord}
+use Rattle.words.specs.Words.{answer_word}
 use Rattle.workings.specs.declared.Worked.{Worked}
-use Rattle.exported_places.specs.Left.{numbersOf, workingLeft, workingLeftBy}
+use Rattle.exported_places.specs.Left.{numbers_of, working_left, working_left_by}
 
 -- a list of seven is its seven numbers
 pub seven : (xs : List ℕ) → length xs ≡ 7
@@ -36,8 +36,8 @@ pub numbers-are : (w : Worked) → length w.bits ≡ 7 → length w.scrambling �
     ∷ b0 ∷ b1 ∷ b2 ∷ b3 ∷ b4 ∷ b5 ∷ b6
     ∷ s0 ∷ s1 ∷ s2 ∷ s3 ∷ s4 ∷ s5 ∷ s6
     ∷ w.sum ∷ w.coded ∷ g.step ∷ g.k ∷ p.block ∷ p.row ∷ p.partition ∷ p.column ∷ g.cell ∷ []
-    ≡ numbersOf w
-unfolding numbersOf
+    ≡ numbers_of w
+unfolding numbers_of
 numbers-are w lb ls b0 b1 b2 b3 b4 b5 b6 s0 s1 s2 s3 s4 s5 s6 p0 p1 p2 p3 p4 p5 p6 q0 q1 q2 q3 q4 q5 q6 =
     let g = w.writing in
     let p = g.position in
@@ -55,11 +55,11 @@ parted x y rest m n lx ly = rw (seven x lx, seven y ly) (refl, refl, refl, refl)
 pub numbers-fields : (w : Worked) → length w.bits ≡ 7 → length w.scrambling ≡ 7
     → let g = w.writing in
     let p = g.position in
-    (take 2 (numbersOf w) ≡ w.number ∷ w.generator ∷ [])
-    × (take 7 (drop 2 (numbersOf w)) ≡ w.bits)
-    × (take 7 (drop 9 (numbersOf w)) ≡ w.scrambling)
-    × (drop 16 (numbersOf w) ≡ w.sum ∷ w.coded ∷ g.step ∷ g.k ∷ p.block ∷ p.row ∷ p.partition ∷ p.column ∷ g.cell ∷ [])
-unfolding numbersOf
+    (take 2 (numbers_of w) ≡ w.number ∷ w.generator ∷ [])
+    × (take 7 (drop 2 (numbers_of w)) ≡ w.bits)
+    × (take 7 (drop 9 (numbers_of w)) ≡ w.scrambling)
+    × (drop 16 (numbers_of w) ≡ w.sum ∷ w.coded ∷ g.step ∷ g.k ∷ p.block ∷ p.row ∷ p.partition ∷ p.column ∷ g.cell ∷ [])
+unfolding numbers_of
 numbers-fields w lb ls =
     let g = w.writing in
     let p = g.position in
@@ -67,24 +67,24 @@ numbers-fields w lb ls =
     parted w.bits w.scrambling rest w.number w.generator lb ls
 
 module _ (w : Worked) (out : List ℕ) (n : ℕ) (number : n ≡ number_of w.answer) where
-  pub refused-left : (n ≡ 0 → ⊥) → (word : ℕ) → word ≡ answerWord w.answer → workingLeft word out ≡ workingLeftBy w out
-  unfolding workingLeftBy
+  pub refused-left : (n ≡ 0 → ⊥) → (word : ℕ) → word ≡ answer_word w.answer → working_left word out ≡ working_left_by w out
+  unfolding working_left_by
   refused-left h word e =
-      ap (λ (r : ℕ). workingLeft r out) e
+      ap (λ (r : ℕ). working_left r out) e
       ∙ sym (rw (ne_eqb (number_of w.answer) 0 (λ z. h (number ∙ z))))
 
   module _ (done : n ≡ 0) where
-    pub length-left : (length out ≡ 25 → ⊥) → (word : ℕ) → word ≡ answerWord (WrongLength 4) → workingLeft word out ≡ workingLeftBy w out
-    unfolding workingLeftBy
+    pub length-left : (length out ≡ 25 → ⊥) → (word : ℕ) → word ≡ answer_word (WrongLength 4) → working_left word out ≡ working_left_by w out
+    unfolding working_left_by
     length-left h word e =
-        ap (λ (r : ℕ). workingLeft r out) e
+        ap (λ (r : ℕ). working_left r out) e
         ∙ sym (rw (eq-eqb (number_of w.answer) 0 (sym number ∙ done), ne_eqb (length out) 25 h))
 
-    pub done-left : length out ≡ 25 → (after : List ℕ) → after ≡ numbersOf w → workingLeft 0 after ≡ workingLeftBy w out
-    unfolding workingLeftBy
+    pub done-left : length out ≡ 25 → (after : List ℕ) → after ≡ numbers_of w → working_left 0 after ≡ working_left_by w out
+    unfolding working_left_by
     done-left h after e =
-        ap (λ (xs : List ℕ). workingLeft 0 xs) e
+        ap (λ (xs : List ℕ). working_left 0 xs) e
         ∙ sym (rw (eq-eqb (number_of w.answer) 0 (sym number ∙ done), eq-eqb (length out) 25 h))
 
-pub left_by : {w x : Worked} (out : List ℕ) → w ≡ x → workingLeftBy w out ≡ workingLeftBy x out
-left_by out e = ap (λ (y : Worked). workingLeftBy y out) e
+pub left_by : {w x : Worked} (out : List ℕ) → w ≡ x → working_left_by w out ≡ working_left_by x out
+left_by out e = ap (λ (y : Worked). working_left_by y out) e

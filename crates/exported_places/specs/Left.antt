@@ -2,12 +2,12 @@
 use Rattle.std.specs.Prelude.{ℕ, ◌^◌, ◌<◌, ◌≡◌, cond, List, [], ◌∷◌, ◌++◌, eqb, length}
 use Rattle.runs.specs.declared.Answer.TheVariants.{WrongLength}
 use Rattle.runs.specs.Answers.{number_of, place_of}
-use Rattle.words.specs.Words.{answerWord}
+use Rattle.words.specs.Words.{answer_word}
 use Rattle.workings.specs.declared.Worked.{Worked}
 
 -- the numbers of a working, 25 of them
-unfoldable pub numbersOf : Worked → List ℕ
-numbersOf w =
+unfoldable pub numbers_of : Worked → List ℕ
+numbers_of w =
     let g = w.writing in
     let p = g.position in
     w.number
@@ -24,12 +24,12 @@ pub record WorkingLeft : Type 0 where
   pub word : ℕ
   pub out : List ℕ
 
-abbrev pub workingLeft : ℕ → List ℕ → WorkingLeft
-workingLeft word out = record { word = word; out = out }
+abbrev pub working_left : ℕ → List ℕ → WorkingLeft
+working_left word out = record { word = word; out = out }
 
 -- refused as the working is, and then, under 3 at place 4, for a buffer of another length; then the buffer stays as it was
-unfoldable pub workingLeftBy : Worked → List ℕ → WorkingLeft
-workingLeftBy w out =
+unfoldable pub working_left_by : Worked → List ℕ → WorkingLeft
+working_left_by w out =
     cond (eqb (number_of w.answer) 0)
-    (cond (eqb (length out) 25) (workingLeft 0 (numbersOf w)) (workingLeft (answerWord (WrongLength 4)) out))
-    (workingLeft (answerWord w.answer) out)
+    (cond (eqb (length out) 25) (working_left 0 (numbers_of w)) (working_left (answer_word (WrongLength 4)) out))
+    (working_left (answer_word w.answer) out)

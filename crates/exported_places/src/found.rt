@@ -1,9 +1,9 @@
 // Whose coded bit stands in a cell, in all six modes.
 ghost use Rattle.std.specs.Prelude.{◌≡◌};
-ghost use Rattle.finding.specs.Finder.{foundIn, values};
-ghost use Rattle.finding_px.specs.Finder.{foundPxIn, values as valuesPX};
+ghost use Rattle.finding.specs.Finder.{found_in, values};
+ghost use Rattle.finding_px.specs.Finder.{found_px_in, values as values_px};
 ghost use Rattle.words.specs.Words.{state_of};
-ghost use Rattle.exported_places.specs.Found.{SmallFound, SmallFoundPX, foundInWord, foundPxInWord};
+ghost use Rattle.exported_places.specs.Found.{SmallFound, SmallFoundPX, found_in_word, found_px_in_word};
 
 use finding::Owner;
 use finding_px::FoundPxIn;
@@ -13,7 +13,7 @@ use words::answer_word;
 // The word of a finding in PM.
 fn found_in_word(cell: Owner) -> u64
     requires { SmallFound (values cell) }
-    ensures { result ≡ foundInWord (values cell) }
+    ensures { result ≡ found_in_word (values cell) }
 {
     match cell {
         Owner::P1 { frame, bit } => 256 + 65536 * (frame as u64) + 1099511627776 * (bit as u64),
@@ -27,8 +27,8 @@ fn found_in_word(cell: Owner) -> u64
 
 // The word of a finding in PX1 or PX2.
 fn found_px_in_word(cell: FoundPxIn) -> u64
-    requires { SmallFoundPX (valuesPX cell) }
-    ensures { result ≡ foundPxInWord (valuesPX cell) }
+    requires { SmallFoundPX (values_px cell) }
+    ensures { result ≡ found_px_in_word (values_px cell) }
 {
     match cell {
         FoundPxIn::Coded {
@@ -51,7 +51,7 @@ fn found_px_in_word(cell: FoundPxIn) -> u64
 // Whose coded bit stands in a cell of PM, in any mode.
 #[unsafe(no_mangle)]
 pub extern "C" fn layer1_find_in(mode: u8, row: usize, column: usize) -> u64
-    ensures { result ≡ foundInWord (values (foundIn mode row column)) }
+    ensures { result ≡ found_in_word (values (found_in mode row column)) }
 {
     let cell = finding::find_in(mode, row, column);
     found_in_word(cell)
@@ -69,7 +69,7 @@ pub extern "C" fn layer1_find_px_in(
     row: usize,
     column: usize,
 ) -> u64
-    ensures { result ≡ foundPxInWord (valuesPX (foundPxIn (state_of mode half age last) channel pair row column)) }
+    ensures { result ≡ found_px_in_word (values_px (found_px_in (state_of mode half age last) channel pair row column)) }
 {
     let state = State {
         mode,

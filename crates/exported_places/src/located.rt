@@ -1,10 +1,10 @@
 // Into which cell a coded bit goes.
 ghost use Rattle.std.specs.Prelude.{◌≡◌};
 ghost use Rattle.locating.specs.Locator.{located, values};
-ghost use Rattle.locating.specs.LocatorPX.{locatedPX, values as valuesPX};
-ghost use Rattle.finding.specs.Locator.{locatedIn};
-ghost use Rattle.finding_px.specs.Locator.{locatedPxIn};
-ghost use Rattle.words.specs.Words.{locatedPxWord, locatedWord, state_of};
+ghost use Rattle.locating.specs.LocatorPX.{located_px, values as values_px};
+ghost use Rattle.finding.specs.Locator.{located_in};
+ghost use Rattle.finding_px.specs.Locator.{located_px_in};
+ghost use Rattle.words.specs.Words.{located_px_word, located_word, state_of};
 
 use runs::State;
 use words::{located_px_word, located_word};
@@ -12,7 +12,7 @@ use words::{located_px_word, located_word};
 // Into which cell of PM a coded bit of P1 (channel 1) or PIDS (channel 2) goes.
 #[unsafe(no_mangle)]
 pub extern "C" fn layer1_locate(channel: u8, frame: usize, bit: usize) -> u64
-    ensures { result ≡ locatedWord (values (located channel frame bit)) }
+    ensures { result ≡ located_word (values (located channel frame bit)) }
 {
     let cell = locating::locate(channel, frame, bit);
     located_word(cell)
@@ -29,7 +29,7 @@ pub extern "C" fn layer1_locate_px(
     frame: usize,
     bit: usize,
 ) -> u64
-    ensures { result ≡ locatedPxWord (valuesPX (locatedPX (state_of mode half age last) channel frame bit)) }
+    ensures { result ≡ located_px_word (values_px (located_px (state_of mode half age last) channel frame bit)) }
 {
     let state = State {
         mode,
@@ -44,7 +44,7 @@ pub extern "C" fn layer1_locate_px(
 // Into which cell of PM a coded bit of P1 (channel 1), PIDS (2) or P2 (5) goes, in any mode.
 #[unsafe(no_mangle)]
 pub extern "C" fn layer1_locate_in(mode: u8, channel: u8, frame: usize, bit: usize) -> u64
-    ensures { result ≡ locatedWord (values (locatedIn mode channel frame bit)) }
+    ensures { result ≡ located_word (values (located_in mode channel frame bit)) }
 {
     let cell = finding::locate_in(mode, channel, frame, bit);
     located_word(cell)
@@ -61,7 +61,7 @@ pub extern "C" fn layer1_locate_px_in(
     frame: usize,
     bit: usize,
 ) -> u64
-    ensures { result ≡ locatedPxWord (valuesPX (locatedPxIn (state_of mode half age last) channel frame bit)) }
+    ensures { result ≡ located_px_word (values_px (located_px_in (state_of mode half age last) channel frame bit)) }
 {
     let state = State {
         mode,

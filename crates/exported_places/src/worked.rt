@@ -1,9 +1,9 @@
 // The working of a coded bit, as numbers in a row.
 ghost use Rattle.std.specs.Prelude.{◌≡◌, length};
 ghost use Rattle.workings.specs.Shown.{worked};
-ghost use Rattle.workings_in.specs.Shown.{workedIn};
+ghost use Rattle.workings_in.specs.Shown.{worked_in};
 ghost use Rattle.words.specs.Words.{state_of};
-ghost use Rattle.exported_places.specs.Left.{SmallWorked, numbersOf, workingLeft, workingLeftBy};
+ghost use Rattle.exported_places.specs.Left.{SmallWorked, numbers_of, working_left, working_left_by};
 
 use runs::{Answer, State};
 use words::answer_word;
@@ -19,7 +19,7 @@ fn wide(bit: u8) -> u64
 // The numbers of a working, in the order of the header's `layer1_worked`.
 fn numbers(w: Worked) -> [u64; 25]
     requires { (length w.bits ≡ 7) × (length w.scrambling ≡ 7) }
-    ensures { result ≡ numbersOf w }
+    ensures { result ≡ numbers_of w }
 {
     let b = w.bits;
     let s = w.scrambling;
@@ -69,7 +69,7 @@ fn copy(src: &[u64], dst: &mut [u64])
 // Leaves the numbers of a working in the buffer, and gives its word.
 fn leave(w: Worked, out: &mut [u64]) -> u64
     requires { SmallWorked w }
-    ensures { workingLeft result out.new ≡ workingLeftBy w out.old }
+    ensures { working_left result out.new ≡ working_left_by w out.old }
 {
     let answer = w.answer;
     if causes::number(answer) != 0 {
@@ -96,8 +96,8 @@ pub extern "C" fn layer1_working(
     bit: usize,
     out: &mut [u64],
 ) -> u64
-    ensures { workingLeft result out.new
-        ≡ workingLeftBy (worked (state_of mode half age last) channel frames.now frame bit) out.old }
+    ensures { working_left result out.new
+        ≡ working_left_by (worked (state_of mode half age last) channel frames.now frame bit) out.old }
 {
     let state = State {
         mode,
@@ -122,8 +122,8 @@ pub extern "C" fn layer1_working_in(
     bit: usize,
     out: &mut [u64],
 ) -> u64
-    ensures { workingLeft result out.new
-        ≡ workingLeftBy (workedIn (state_of mode half age last) channel frames.now frame bit) out.old }
+    ensures { working_left result out.new
+        ≡ working_left_by (worked_in (state_of mode half age last) channel frames.now frame bit) out.old }
 {
     let state = State {
         mode,

@@ -2,18 +2,18 @@
 use Rattle.std.specs.Prelude.{ℕ}
 use Rattle.runs.specs.Lent.{Lent, Memory, Result}
 use Rattle.runs.specs.Starting.{Started}
-use Rattle.words.specs.Words.{outcomeWord}
+use Rattle.words.specs.Words.{outcome_word}
 
 -- by a start
 pub record StartLeft : Type 0 where
   pub word : ℕ
   pub memory : Memory
 
-abbrev pub startLeft : ℕ → Memory → StartLeft
-startLeft word memory = record { word = word; memory = memory }
+abbrev pub start_left : ℕ → Memory → StartLeft
+start_left word memory = record { word = word; memory = memory }
 
-abbrev pub startLeftBy : Started → StartLeft
-startLeftBy g = startLeft (outcomeWord g.answer g.state) g.memory
+abbrev pub start_left_by : Started → StartLeft
+start_left_by g = start_left (outcome_word g.answer g.state) g.memory
 
 -- by a sending or a reading
 pub record Left : Type 0 where
@@ -24,5 +24,5 @@ pub record Left : Type 0 where
 abbrev pub left : ℕ → Memory → Lent → Left
 left word memory lent = record { word = word; memory = memory; lent = lent }
 
-abbrev pub leftBy : Result → Left
-leftBy g = left (outcomeWord g.answer g.state) g.memory g.lent
+abbrev pub left_by : Result → Left
+left_by g = left (outcome_word g.answer g.state) g.memory g.lent

@@ -2,8 +2,8 @@
 ghost use Rattle.std.specs.Prelude.{◌≡◌};
 ghost use Rattle.runs.specs.Reading.{read_step};
 ghost use Rattle.calls.specs.Called.{lent, memory};
-ghost use Rattle.exported_runs.specs.Left.{left, leftBy};
-ghost use Rattle.words.specs.Words.{numberRead, state_of};
+ghost use Rattle.exported_runs.specs.Left.{left, left_by};
+ghost use Rattle.words.specs.Words.{number_read, state_of};
 
 use layer1::State;
 use words::outcome_word;
@@ -29,8 +29,8 @@ pub extern "C" fn layer1_read(
     delay: &mut [u8],
 ) -> u64
     ensures { left result (memory memory3.new memory4.new delay.new)
-        (lent (numberRead result) p1.new pids.new p2.new p3.new p4.new pm.now px1.now px2.now control.now)
-        ≡ leftBy (read_step (state_of mode half age last) (memory memory3.old memory4.old delay.old)
+        (lent (number_read result) p1.new pids.new p2.new p3.new p4.new pm.now px1.now px2.now control.now)
+        ≡ left_by (read_step (state_of mode half age last) (memory memory3.old memory4.old delay.old)
         (lent 0 p1.old pids.old p2.old p3.old p4.old pm.now px1.now px2.now control.now)) }
 {
     let state = State {

@@ -1,8 +1,8 @@
 // Document 01: sending an L1 frame.
 ghost use Rattle.std.specs.Prelude.{◌≡◌};
-ghost use Rattle.runs.specs.Sending.{sendStep};
+ghost use Rattle.runs.specs.Sending.{send_step};
 ghost use Rattle.calls.specs.Called.{lent, memory};
-ghost use Rattle.exported_runs.specs.Left.{left, leftBy};
+ghost use Rattle.exported_runs.specs.Left.{left, left_by};
 ghost use Rattle.words.specs.Words.{state_of};
 
 use layer1::State;
@@ -31,7 +31,7 @@ pub extern "C" fn layer1_send(
 ) -> u64
     ensures { left result (memory memory3.new memory4.new delay.new)
         (lent reserved p1.now pids.now p2.now p3.now p4.now pm.new px1.new px2.new control.new)
-        ≡ leftBy (sendStep (state_of mode half age last) (memory memory3.old memory4.old delay.old)
+        ≡ left_by (send_step (state_of mode half age last) (memory memory3.old memory4.old delay.old)
         (lent reserved p1.now pids.now p2.now p3.now p4.now pm.old px1.old px2.old control.old)) }
 {
     let state = State {

@@ -1,9 +1,9 @@
 // Document 01: starting a sender and starting a reader.
 ghost use Rattle.std.specs.Prelude.{◌≡◌};
-ghost use Rattle.runs.specs.Lengths.{readerLen, senderLen};
+ghost use Rattle.runs.specs.Lengths.{reader_len, sender_len};
 ghost use Rattle.runs.specs.Starting.{start};
 ghost use Rattle.calls.specs.Called.{memory};
-ghost use Rattle.exported_runs.specs.Left.{startLeft, startLeftBy};
+ghost use Rattle.exported_runs.specs.Left.{start_left, start_left_by};
 
 use words::outcome_word;
 
@@ -15,8 +15,8 @@ pub extern "C" fn layer1_start_sender(
     memory4: &mut [u8],
     delay: &mut [u8],
 ) -> u64
-    ensures { startLeft result (memory memory3.new memory4.new delay.new)
-        ≡ startLeftBy (start senderLen mode (memory memory3.old memory4.old delay.old)) }
+    ensures { start_left result (memory memory3.new memory4.new delay.new)
+        ≡ start_left_by (start sender_len mode (memory memory3.old memory4.old delay.old)) }
 {
     let outcome = layer1::start_sender(mode, memory3, memory4, delay);
     let answer = outcome.answer;
@@ -32,8 +32,8 @@ pub extern "C" fn layer1_start_reader(
     memory4: &mut [u8],
     delay: &mut [u8],
 ) -> u64
-    ensures { startLeft result (memory memory3.new memory4.new delay.new)
-        ≡ startLeftBy (start readerLen mode (memory memory3.old memory4.old delay.old)) }
+    ensures { start_left result (memory memory3.new memory4.new delay.new)
+        ≡ start_left_by (start reader_len mode (memory memory3.old memory4.old delay.old)) }
 {
     let outcome = layer1::start_reader(mode, memory3, memory4, delay);
     let answer = outcome.answer;

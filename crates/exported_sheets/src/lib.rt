@@ -1,7 +1,7 @@
 // The entry point of `layer1` for C that puts an answer sheet. `include/layer1.h` declares it.
 ghost use Rattle.std.specs.Prelude.{◌≡◌};
-ghost use Rattle.sheets.specs.Call.{sheetCall};
-ghost use Rattle.exported_sheets.specs.Left.{said, sheetLeft, sheetLeftBy};
+ghost use Rattle.sheets.specs.Call.{sheet_call};
+ghost use Rattle.exported_sheets.specs.Left.{said, sheet_left, sheet_left_by};
 
 use words::answer_word;
 
@@ -23,7 +23,7 @@ pub extern "C" fn layer1_sheet(
     input: &[u8],
     out: &mut [u8],
 ) -> u64
-    ensures { sheetLeft result out.new ≡ sheetLeftBy (sheetCall mode count (said without3) (said without4) (said work) input.now out.old) }
+    ensures { sheet_left result out.new ≡ sheet_left_by (sheet_call mode count (said without3) (said without4) (said work) input.now out.old) }
 {
     let sheet = layer1::sheet(
         mode,

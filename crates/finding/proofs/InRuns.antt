@@ -11,13 +11,13 @@ use Rattle.bits.specs.Bits.{bit_at}
 use Rattle.coding.specs.declared.Rate.TheVariants.{TwoFifths}
 use Rattle.coding.specs.Channel.{channel}
 use Rattle.control.specs.Modes.{covered}
-use Rattle.interleaving.specs.PM.{p1Place}
+use Rattle.interleaving.specs.PM.{p1_place}
 use Rattle.runs.specs.declared.Answer.{Answer}
 use Rattle.runs.specs.declared.Main.{Main}
 use Rattle.runs.specs.declared.Main.TheVariants.{Plain, Mp5, Mp6}
-use Rattle.runs.specs.MainChannels.{mainOf, p1Bits, p1Frames, p2Bits}
-use Rattle.runs.specs.Chain.{p1Coded}
-use Rattle.runs.specs.Runs.{SenderRun, count, frame_at, matricesAt}
+use Rattle.runs.specs.MainChannels.{main_of, p1_bits, p1_frames, p2_bits}
+use Rattle.runs.specs.Chain.{p1_coded}
+use Rattle.runs.specs.Runs.{SenderRun, count, frame_at, matrices_at}
 use Rattle.runs.proofs.Sender.{covered_of}
 use Rattle.runs.proofs.Shown.{p1-shown, p2-shown, pids-shown}
 use Rattle.queries.specs.declared.finder.Found.{Found}
@@ -33,10 +33,10 @@ use Rattle.locating.proofs.AgainPM.{both_ways}
 use Rattle.locating.proofs.CasesPM as pm
 use Rattle.finding.specs.declared.finder.Owner.{Owner}
 use Rattle.finding.specs.declared.finder.Owner.TheVariants.{P1, P2, Pids, Refused}
-use Rattle.finding.specs.VectorU.{frameCoded, p2Coded}
-use Rattle.finding.specs.Finder.{foundIn, ownerIn, told}
-use Rattle.finding.specs.Locator.{locatedIn, p1In}
-use Rattle.finding.specs.InRuns.{AsBefore, BothWays, Sheet, asOwner, foundAgain, locatedAgain}
+use Rattle.finding.specs.VectorU.{frame_coded, p2_coded}
+use Rattle.finding.specs.Finder.{found_in, owner_in, told}
+use Rattle.finding.specs.Locator.{located_in, p1_in}
+use Rattle.finding.specs.InRuns.{AsBefore, BothWays, Sheet, as_owner, found_again, located_again}
 use Rattle.finding.proofs.Cases.{together, in-frames, of-p1, of-p2, found_some, found-told}
 use Rattle.finding.proofs.Cases.{p1-frame-out, p1-bit-out, p1-in, p2-in, located-p1, located-p2, located-other}
 
@@ -58,43 +58,43 @@ p1-lt row column bit e =
     ]
 
 -- bit i of the P1 frames is a bit of one of them
-frame-lt : (k : Main) (i : ℕ) → i < p1Coded k → i / frameCoded k < p1Frames k
+frame-lt : (k : Main) (i : ℕ) → i < p1_coded k → i / frame_coded k < p1_frames k
 frame-lt Plain i l = omega arith
 frame-lt Mp5 i l = omega arith
 frame-lt Mp6 i l = omega arith
 
-bit-lt : (k : Main) (i : ℕ) → i % frameCoded k < frameCoded k
+bit-lt : (k : Main) (i : ℕ) → i % frame_coded k < frame_coded k
 bit-lt Plain i = omega arith
 bit-lt Mp5 i = omega arith
 bit-lt Mp6 i = omega arith
 
-frame_is : (k : Main) (frame bit : ℕ) → bit < frameCoded k → (frame * frameCoded k + bit) / frameCoded k ≡ frame
+frame_is : (k : Main) (frame bit : ℕ) → bit < frame_coded k → (frame * frame_coded k + bit) / frame_coded k ≡ frame
 frame_is Plain frame bit l = omega arith
 frame_is Mp5 frame bit l = omega arith
 frame_is Mp6 frame bit l = omega arith
 
-bit_is : (k : Main) (frame bit : ℕ) → bit < frameCoded k → (frame * frameCoded k + bit) % frameCoded k ≡ bit
+bit_is : (k : Main) (frame bit : ℕ) → bit < frame_coded k → (frame * frame_coded k + bit) % frame_coded k ≡ bit
 bit_is Plain frame bit l = omega arith
 bit_is Mp5 frame bit l = omega arith
 bit_is Mp6 frame bit l = omega arith
 
-whole : (k : Main) (i : ℕ) → i / frameCoded k * frameCoded k + i % frameCoded k ≡ i
-whole k i = div-add-mod' i (frameCoded k)
+whole : (k : Main) (i : ℕ) → i / frame_coded k * frame_coded k + i % frame_coded k ≡ i
+whole k i = div-add-mod' i (frame_coded k)
 
 -- ---- in the older modes U is the one P1 frame
 
-plain-owner : (i : ℕ) → i < 365440 → ownerIn Plain i ≡ P1 0 i
+plain-owner : (i : ℕ) → i < 365440 → owner_in Plain i ≡ P1 0 i
 plain-owner i l = sym (of-p1 Plain i l) ∙ ap₂ P1 (omega arith) (omega arith)
 
-plain-told : (f : Found) → ((i : ℕ) → f ≡ finder.P1 i → i < 365440) → told Plain f ≡ asOwner f
+plain-told : (f : Found) → ((i : ℕ) → f ≡ finder.P1 i → i < 365440) → told Plain f ≡ as_owner f
 plain-told (finder.P1 i) l = plain-owner i (l i refl)
 plain-told (finder.Pids frame bit) l = refl
 plain-told (finder.Refused answer) l = refl
 
-plain-p1 : (frame bit : ℕ) → p1In Plain frame bit ≡ located 1 frame bit
+plain-p1 : (frame bit : ℕ) → p1_in Plain frame bit ≡ located 1 frame bit
 plain-p1 frame bit = go (dec_lt frame 1) (dec_lt bit 365440)
   where
-    go : Dec (frame < 1) → Dec (bit < 365440) → p1In Plain frame bit ≡ located 1 frame bit
+    go : Dec (frame < 1) → Dec (bit < 365440) → p1_in Plain frame bit ≡ located 1 frame bit
     go (no f) b = sym (p1-frame-out Plain frame bit (omega arith)) ∙ pm.p1-frame-out frame bit (omega arith) ∙ pm.of-p1 frame bit 1 refl
     go (yes f) (no b) = sym (p1-bit-out Plain frame bit f (omega arith)) ∙ pm.p1-bit-out frame bit f (omega arith) ∙ pm.of-p1 frame bit 1 refl
     go (yes f) (yes b) =
@@ -102,19 +102,19 @@ plain-p1 frame bit = go (dec_lt frame 1) (dec_lt bit 365440)
 
 module _ (mode : ℕ) (is : covered mode ≡ true) where
   abbrev k : Main
-  k = mainOf mode
+  k = main_of mode
 
-  module _ (plain : mainOf mode ≡ Plain) where
-    as-found : (row column : ℕ) → foundIn mode row column ≡ asOwner (found row column)
+  module _ (plain : main_of mode ≡ Plain) where
+    as-found : (row column : ℕ) → found_in mode row column ≡ as_owner (found row column)
     as-found row column =
         sym (found_some mode row column is) ∙ ap (λ (m : Main). told m (found row column)) plain ∙ plain-told (found row column) (p1-lt row column)
 
-    as-located : (channel frame bit : ℕ) → channel < 5 → locatedIn mode channel frame bit ≡ located channel frame bit
+    as-located : (channel frame bit : ℕ) → channel < 5 → located_in mode channel frame bit ≡ located channel frame bit
     as-located channel frame bit l = go (ℕ_discrete channel 1)
       where
-        go : Dec (channel ≡ 1) → locatedIn mode channel frame bit ≡ located channel frame bit
+        go : Dec (channel ≡ 1) → located_in mode channel frame bit ≡ located channel frame bit
         go (yes e) =
-            sym (located-p1 mode channel frame bit is e) ∙ ap (λ (m : Main). p1In m frame bit) plain ∙ plain-p1 frame bit
+            sym (located-p1 mode channel frame bit is e) ∙ ap (λ (m : Main). p1_in m frame bit) plain ∙ plain-p1 frame bit
             ∙ ap (λ (u : ℕ). located u frame bit) (sym e)
         go (no n) = sym (located-other mode channel frame bit is n (λ e. omega arith))
 
@@ -123,57 +123,57 @@ module _ (mode : ℕ) (is : covered mode ≡ true) where
 
   -- ---- both ways
 
-  again : (x : Located) → foundAgain mode x ≡ told (mainOf mode) (older.foundAgain x)
+  again : (x : Located) → found_again mode x ≡ told (main_of mode) (older.found_again x)
   again (At p row column) = sym (found_some mode row column is)
   again (NotLocated answer) = refl
 
-  p1-again : (frame bit : ℕ) → frame < p1Frames k → bit < frameCoded k → foundAgain mode (locatedIn mode 1 frame bit) ≡ P1 frame bit
+  p1-again : (frame bit : ℕ) → frame < p1_frames k → bit < frame_coded k → found_again mode (located_in mode 1 frame bit) ≡ P1 frame bit
   p1-again frame bit lf lb =
-      let i : ℕ = frame * frameCoded k + bit in
+      let i : ℕ = frame * frame_coded k + bit in
       let l = in-frames k frame bit lf lb in
-      let h : frame * frameCoded k + bit < 365440 = omega (arith, l, together k) in
-      ap (foundAgain mode) (sym (p1-in k frame bit lf lb ∙ located-p1 mode 1 frame bit is refl))
-      ∙ again (located 1 0 (frame * frameCoded k + bit))
-      ∙ ap (told k) (both_ways.p1-there (frame * frameCoded k + bit) h)
-      ∙ sym (of-p1 k (frame * frameCoded k + bit) l)
+      let h : frame * frame_coded k + bit < 365440 = omega (arith, l, together k) in
+      ap (found_again mode) (sym (p1-in k frame bit lf lb ∙ located-p1 mode 1 frame bit is refl))
+      ∙ again (located 1 0 (frame * frame_coded k + bit))
+      ∙ ap (told k) (both_ways.p1-there (frame * frame_coded k + bit) h)
+      ∙ sym (of-p1 k (frame * frame_coded k + bit) l)
       ∙ ap₂ P1 (frame_is k frame bit lb) (bit_is k frame bit lb)
 
-  p2-again : (bit : ℕ) → bit < p2Coded k → foundAgain mode (locatedIn mode 5 0 bit) ≡ P2 bit
+  p2-again : (bit : ℕ) → bit < p2_coded k → found_again mode (located_in mode 5 0 bit) ≡ P2 bit
   p2-again bit l =
-      let h : p1Coded k + bit < 365440 = omega (arith, l, together k) in
-      let some : p2Coded k ≡ 0 → ⊥ = λ e. omega (arith, e, l) in
-      let first : p1Coded k ≤ p1Coded k + bit = omega arith in
-      let back : p1Coded k + bit - p1Coded k ≡ bit = omega arith in
-      ap (foundAgain mode) (sym (p2-in k 0 bit some (omega arith) l ∙ located-p2 mode 5 0 bit is (λ e. omega arith) refl))
-      ∙ again (located 1 0 (p1Coded k + bit))
-      ∙ ap (told k) (both_ways.p1-there (p1Coded k + bit) h)
-      ∙ sym (of-p2 k (p1Coded k + bit) first)
+      let h : p1_coded k + bit < 365440 = omega (arith, l, together k) in
+      let some : p2_coded k ≡ 0 → ⊥ = λ e. omega (arith, e, l) in
+      let first : p1_coded k ≤ p1_coded k + bit = omega arith in
+      let back : p1_coded k + bit - p1_coded k ≡ bit = omega arith in
+      ap (found_again mode) (sym (p2-in k 0 bit some (omega arith) l ∙ located-p2 mode 5 0 bit is (λ e. omega arith) refl))
+      ∙ again (located 1 0 (p1_coded k + bit))
+      ∙ ap (told k) (both_ways.p1-there (p1_coded k + bit) h)
+      ∙ sym (of-p2 k (p1_coded k + bit) first)
       ∙ ap P2 back
 
-  pids-again : (frame bit : ℕ) → frame < 16 → bit < 200 → foundAgain mode (locatedIn mode 2 frame bit) ≡ Pids frame bit
+  pids-again : (frame bit : ℕ) → frame < 16 → bit < 200 → found_again mode (located_in mode 2 frame bit) ≡ Pids frame bit
   pids-again frame bit lf lb =
-      ap (foundAgain mode) (sym (located-other mode 2 frame bit is (λ e. omega arith) (λ e. omega arith)))
+      ap (found_again mode) (sym (located-other mode 2 frame bit is (λ e. omega arith) (λ e. omega arith)))
       ∙ again (located 2 frame bit)
       ∙ ap (told k) (both_ways.pids-there frame bit lf lb)
 
-  u-again : (i : ℕ) → i < 365440 → locatedAgain mode (ownerIn k i) ≡ located 1 0 i
-  u-again i l = go (dec_lt i (p1Coded k))
+  u-again : (i : ℕ) → i < 365440 → located_again mode (owner_in k i) ≡ located 1 0 i
+  u-again i l = go (dec_lt i (p1_coded k))
     where
-      go : Dec (i < p1Coded k) → locatedAgain mode (ownerIn k i) ≡ located 1 0 i
+      go : Dec (i < p1_coded k) → located_again mode (owner_in k i) ≡ located 1 0 i
       go (yes h) =
-          ap (locatedAgain mode) (sym (of-p1 k i h))
-          ∙ sym (p1-in k (i / frameCoded k) (i % frameCoded k) (frame-lt k i h) (bit-lt k i) ∙ located-p1 mode 1 _ _ is refl)
+          ap (located_again mode) (sym (of-p1 k i h))
+          ∙ sym (p1-in k (i / frame_coded k) (i % frame_coded k) (frame-lt k i h) (bit-lt k i) ∙ located-p1 mode 1 _ _ is refl)
           ∙ ap (located 1 0) (whole k i)
       go (no h) =
-          let n : p1Coded k ≤ i = omega arith in
-          let b : i - p1Coded k < p2Coded k = omega (arith, together k) in
-          let some : p2Coded k ≡ 0 → ⊥ = λ e. omega (arith, e, b) in
-          let sum : p1Coded k + (i - p1Coded k) ≡ i = omega arith in
-          ap (locatedAgain mode) (sym (of-p2 k i n))
-          ∙ sym (p2-in k 0 (i - p1Coded k) some (omega arith) b ∙ located-p2 mode 5 0 _ is (λ e. omega arith) refl)
+          let n : p1_coded k ≤ i = omega arith in
+          let b : i - p1_coded k < p2_coded k = omega (arith, together k) in
+          let some : p2_coded k ≡ 0 → ⊥ = λ e. omega (arith, e, b) in
+          let sum : p1_coded k + (i - p1_coded k) ≡ i = omega arith in
+          ap (located_again mode) (sym (of-p2 k i n))
+          ∙ sym (p2-in k 0 (i - p1_coded k) some (omega arith) b ∙ located-p2 mode 5 0 _ is (λ e. omega arith) refl)
           ∙ ap (located 1 0) sum
 
-  told-again : (f : Found) → ((i : ℕ) → f ≡ finder.P1 i → i < 365440) → locatedAgain mode (told k f) ≡ older.locatedAgain f
+  told-again : (f : Found) → ((i : ℕ) → f ≡ finder.P1 i → i < 365440) → located_again mode (told k f) ≡ older.located_again f
   told-again (finder.P1 i) l = u-again i (l i refl)
   told-again (finder.Pids frame bit) l = sym (located-other mode 2 frame bit is (λ e. omega arith) (λ e. omega arith))
   told-again (finder.Refused answer) l = refl
@@ -185,7 +185,7 @@ module _ (mode : ℕ) (is : covered mode ≡ true) where
         p2-there = p2-again;
         pids-there = pids-again;
         back = λ row column lr lc.
-            ap (locatedAgain mode) (sym (found_some mode row column is))
+            ap (located_again mode) (sym (found_some mode row column is))
             ∙ told-again (found row column) (p1-lt row column)
             ∙ both_ways.back row column lr lc;
       }
@@ -194,87 +194,87 @@ module _ (mode : ℕ) (is : covered mode ≡ true) where
 
 module _ (mode : ℕ) (a : SenderRun mode) (t : ℕ) (h : t < count mode a) (row column : ℕ) where
   abbrev main : Main
-  main = mainOf mode
+  main = main_of mode
 
   is : covered mode ≡ true
   is = covered_of mode a
 
   -- of a cell that is not refused
-  inside : (o : Owner) → foundIn mode row column ≡ o → ((answer : Answer) → o ≡ Refused answer → ⊥) → (row < 512) × (column < 720)
+  inside : (o : Owner) → found_in mode row column ≡ o → ((answer : Answer) → o ≡ Refused answer → ⊥) → (row < 512) × (column < 720)
   inside o e n = found_inside row column (λ r f. n r (sym e ∙ sym (found-told mode row column is (finder.Refused r) f)))
 
-  p1-in-cell : (frame bit : ℕ) → foundIn mode row column ≡ P1 frame bit
-      → bit_at (matricesAt mode a t).pm (row * 720 + column)
-      ≡ channel TwoFifths (p1Bits main) (bit_at (frame_at mode a t).p1) (frame * frameCoded main + bit)
+  p1-in-cell : (frame bit : ℕ) → found_in mode row column ≡ P1 frame bit
+      → bit_at (matrices_at mode a t).pm (row * 720 + column)
+      ≡ channel TwoFifths (p1_bits main) (bit_at (frame_at mode a t).p1) (frame * frame_coded main + bit)
   p1-in-cell frame bit e =
       let (lr, lc) = inside (P1 frame bit) e (λ r n. let z : ◌≡◌ {A = ℕ} 0 1 = cc in omega arith) in
       elim (found-stands row column lr lc) [
-        | inl (i, x) ↦ go i x.stands (found-told mode row column is (finder.P1 i) x.named ∙ e) (dec_lt i (p1Coded main))
+        | inl (i, x) ↦ go i x.stands (found-told mode row column is (finder.P1 i) x.named ∙ e) (dec_lt i (p1_coded main))
         | inr (f, i, x) ↦
             let told-pids = found-told mode row column is (finder.Pids f i) x.named ∙ e in
             let z : ◌≡◌ {A = ℕ} 0 1 = cc in
             absurd (omega arith)
       ]
     where
-      go : (i : ℕ) → p1Place i ≡ row * 720 + column → ownerIn main i ≡ P1 frame bit → Dec (i < p1Coded main)
-          → bit_at (matricesAt mode a t).pm (row * 720 + column)
-          ≡ channel TwoFifths (p1Bits main) (bit_at (frame_at mode a t).p1) (frame * frameCoded main + bit)
+      go : (i : ℕ) → p1_place i ≡ row * 720 + column → owner_in main i ≡ P1 frame bit → Dec (i < p1_coded main)
+          → bit_at (matrices_at mode a t).pm (row * 720 + column)
+          ≡ channel TwoFifths (p1_bits main) (bit_at (frame_at mode a t).p1) (frame * frame_coded main + bit)
       go i s n (yes l) =
           let own = of-p1 main i l ∙ n in
-          let same-frame : i / frameCoded main ≡ frame = cc in
-          let same : i % frameCoded main ≡ bit = cc in
-          ap (bit_at (matricesAt mode a t).pm) (sym s)
+          let same-frame : i / frame_coded main ≡ frame = cc in
+          let same : i % frame_coded main ≡ bit = cc in
+          ap (bit_at (matrices_at mode a t).pm) (sym s)
           ∙ p1-shown mode a t h i l
-          ∙ ap (channel TwoFifths (p1Bits main) (bit_at (frame_at mode a t).p1))
-          (sym (whole main i) ∙ ap₂ (λ (f b : ℕ). f * frameCoded main + b) same-frame same)
+          ∙ ap (channel TwoFifths (p1_bits main) (bit_at (frame_at mode a t).p1))
+          (sym (whole main i) ∙ ap₂ (λ (f b : ℕ). f * frame_coded main + b) same-frame same)
       go i s n (no l) =
           let own = of-p2 main i (omega arith) ∙ n in
           let z : ◌≡◌ {A = ℕ} 0 1 = cc in
           absurd (omega arith)
 
-  p2-in-cell : (bit : ℕ) → foundIn mode row column ≡ P2 bit
-      → bit_at (matricesAt mode a t).pm (row * 720 + column) ≡ channel TwoFifths (p2Bits main) (bit_at (frame_at mode a t).p2) bit
+  p2-in-cell : (bit : ℕ) → found_in mode row column ≡ P2 bit
+      → bit_at (matrices_at mode a t).pm (row * 720 + column) ≡ channel TwoFifths (p2_bits main) (bit_at (frame_at mode a t).p2) bit
   p2-in-cell bit e =
       let (lr, lc) = inside (P2 bit) e (λ r n. let z : ◌≡◌ {A = ℕ} 0 1 = cc in omega arith) in
       elim (found-stands row column lr lc) [
-        | inl (i, x) ↦ go i x.inside x.stands (found-told mode row column is (finder.P1 i) x.named ∙ e) (dec_lt i (p1Coded main))
+        | inl (i, x) ↦ go i x.inside x.stands (found-told mode row column is (finder.P1 i) x.named ∙ e) (dec_lt i (p1_coded main))
         | inr (f, i, x) ↦
             let told-pids = found-told mode row column is (finder.Pids f i) x.named ∙ e in
             let z : ◌≡◌ {A = ℕ} 0 1 = cc in
             absurd (omega arith)
       ]
     where
-      go : (i : ℕ) → i < 365440 → p1Place i ≡ row * 720 + column → ownerIn main i ≡ P2 bit → Dec (i < p1Coded main)
-          → bit_at (matricesAt mode a t).pm (row * 720 + column) ≡ channel TwoFifths (p2Bits main) (bit_at (frame_at mode a t).p2) bit
+      go : (i : ℕ) → i < 365440 → p1_place i ≡ row * 720 + column → owner_in main i ≡ P2 bit → Dec (i < p1_coded main)
+          → bit_at (matrices_at mode a t).pm (row * 720 + column) ≡ channel TwoFifths (p2_bits main) (bit_at (frame_at mode a t).p2) bit
       go i u s n (yes l) =
           let own = of-p1 main i l ∙ n in
           let z : ◌≡◌ {A = ℕ} 0 1 = cc in
           absurd (omega arith)
       go i u s n (no l) =
-          let first : p1Coded main ≤ i = omega arith in
+          let first : p1_coded main ≤ i = omega arith in
           let own = of-p2 main i first ∙ n in
-          let same : i - p1Coded main ≡ bit = cc in
-          let place : p1Coded main + bit ≡ i = omega (arith, same, first) in
-          let small : bit < p2Coded main = omega (arith, same, first, together main) in
-          ap (bit_at (matricesAt mode a t).pm) (sym s ∙ ap p1Place (sym place)) ∙ p2-shown mode a t h bit small
+          let same : i - p1_coded main ≡ bit = cc in
+          let place : p1_coded main + bit ≡ i = omega (arith, same, first) in
+          let small : bit < p2_coded main = omega (arith, same, first, together main) in
+          ap (bit_at (matrices_at mode a t).pm) (sym s ∙ ap p1_place (sym place)) ∙ p2-shown mode a t h bit small
 
-  pids-in-cell : (frame bit : ℕ) → foundIn mode row column ≡ Pids frame bit
-      → bit_at (matricesAt mode a t).pm (row * 720 + column) ≡ channel TwoFifths 80 (bit_at (frame_at mode a t).pids) (frame * 200 + bit)
+  pids-in-cell : (frame bit : ℕ) → found_in mode row column ≡ Pids frame bit
+      → bit_at (matrices_at mode a t).pm (row * 720 + column) ≡ channel TwoFifths 80 (bit_at (frame_at mode a t).pids) (frame * 200 + bit)
   pids-in-cell frame bit e =
       let (lr, lc) = inside (Pids frame bit) e (λ r n. let z : ◌≡◌ {A = ℕ} 0 1 = cc in omega arith) in
       elim (found-stands row column lr lc) [
-        | inl (i, x) ↦ go i (found-told mode row column is (finder.P1 i) x.named ∙ e) (dec_lt i (p1Coded main))
+        | inl (i, x) ↦ go i (found-told mode row column is (finder.P1 i) x.named ∙ e) (dec_lt i (p1_coded main))
         | inr (f, i, x) ↦
             let told-pids = found-told mode row column is (finder.Pids f i) x.named ∙ e in
             let same-frame : f ≡ frame = cc in
             let same : i ≡ bit = cc in
-            ap (bit_at (matricesAt mode a t).pm) (sym x.stands)
+            ap (bit_at (matrices_at mode a t).pm) (sym x.stands)
             ∙ pids-shown mode a t h (f * 200 + i) (omega (arith, x.inside.0, x.inside.1))
             ∙ ap₂ (λ (u b : ℕ). channel TwoFifths 80 (bit_at (frame_at mode a t).pids) (u * 200 + b)) same-frame same
       ]
     where
-      go : (i : ℕ) → ownerIn main i ≡ Pids frame bit → Dec (i < p1Coded main)
-          → bit_at (matricesAt mode a t).pm (row * 720 + column) ≡ channel TwoFifths 80 (bit_at (frame_at mode a t).pids) (frame * 200 + bit)
+      go : (i : ℕ) → owner_in main i ≡ Pids frame bit → Dec (i < p1_coded main)
+          → bit_at (matrices_at mode a t).pm (row * 720 + column) ≡ channel TwoFifths 80 (bit_at (frame_at mode a t).pids) (frame * 200 + bit)
       go i n (yes l) =
           let own = of-p1 main i l ∙ n in
           let z : ◌≡◌ {A = ℕ} 0 1 = cc in

@@ -4,28 +4,28 @@ use Rattle.control.specs.Modes.{covered}
 use Rattle.runs.specs.declared.Answer.TheVariants.{ModeNotCovered}
 use Rattle.runs.specs.declared.Main.{Main}
 use Rattle.runs.specs.Answers.{number_of, place_of}
-use Rattle.runs.specs.MainChannels.{mainOf}
-use Rattle.runs.specs.Chain.{p1Coded}
+use Rattle.runs.specs.MainChannels.{main_of}
+use Rattle.runs.specs.Chain.{p1_coded}
 use Rattle.queries.specs.declared.finder.Found.{Found}
 use Rattle.queries.specs.declared.finder.Found.TheVariants as finder
 use Rattle.queries.specs.Finder.{found}
 use Rattle.finding.specs.declared.finder.Owner.{Owner}
 use Rattle.finding.specs.declared.finder.Owner.TheVariants.{P1, P2, Pids, Refused}
-use Rattle.finding.specs.VectorU.{frameCoded}
+use Rattle.finding.specs.VectorU.{frame_coded}
 
 -- whose bit i of U is
-unfoldable pub ownerIn : Main → ℕ → Owner
-ownerIn k i = cond (ltb i (p1Coded k)) (P1 (i / frameCoded k) (i % frameCoded k)) (P2 (i - p1Coded k))
+unfoldable pub owner_in : Main → ℕ → Owner
+owner_in k i = cond (ltb i (p1_coded k)) (P1 (i / frame_coded k) (i % frame_coded k)) (P2 (i - p1_coded k))
 
 -- what the cell finder names as P1's is a bit of U
 abbrev pub told : Main → Found → Owner
-told k (finder.P1 bit) = ownerIn k bit
+told k (finder.P1 bit) = owner_in k bit
 told k (finder.Pids frame bit) = Pids frame bit
 told k (finder.Refused answer) = Refused answer
 
 -- refused: a mode that is not covered, under 1; then as the cell finder refuses
-unfoldable pub foundIn : (mode row column : ℕ) → Owner
-foundIn mode row column = cond (covered mode) (told (mainOf mode) (found row column)) (Refused ModeNotCovered)
+unfoldable pub found_in : (mode row column : ℕ) → Owner
+found_in mode row column = cond (covered mode) (told (main_of mode) (found row column)) (Refused ModeNotCovered)
 
 -- the values for each case: number and place of the table of causes, channel, transfer frame and bit
 pub data Channel : Type 0 where

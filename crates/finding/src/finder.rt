@@ -1,7 +1,7 @@
 // Whose coded bit stands in a cell of PM.
 ghost use Rattle.std.specs.Prelude.{◌≡◌};
 ghost use Rattle.interleaving.specs.TableI.{ks};
-ghost use Rattle.finding.specs.Finder.{foundIn, ownerIn, values};
+ghost use Rattle.finding.specs.Finder.{found_in, owner_in, values};
 
 use crate::vector_u::{frame_coded, p1_coded};
 use queries::Found;
@@ -18,7 +18,7 @@ pub enum Owner {
 
 // Whose bit i of U is.
 fn owner_of(main: Main, i: usize) -> Owner
-    ensures { result ≡ ownerIn main i }
+    ensures { result ≡ owner_in main i }
 {
     let all = p1_coded(main);
     let n = frame_coded(main);
@@ -33,7 +33,7 @@ fn owner_of(main: Main, i: usize) -> Owner
 
 // Finds the channel, the transfer frame and the coded bit in it of a cell of PM, in any mode.
 pub fn find_in(mode: u8, row: usize, column: usize) -> Owner
-    ensures { (result ≡ foundIn mode row column) × (values result ≡ values (foundIn mode row column)) }
+    ensures { (result ≡ found_in mode row column) × (values result ≡ values (found_in mode row column)) }
 {
     let table = pm::index_table();
     find_in_by(&table, mode, row, column)
@@ -42,7 +42,7 @@ pub fn find_in(mode: u8, row: usize, column: usize) -> Owner
 // The same by the table of S-1, lent: who finds many cells reads it once.
 pub fn find_in_by(table: &[u16; 1152], mode: u8, row: usize, column: usize) -> Owner
     requires { table.now ≡ ks }
-    ensures { (result ≡ foundIn mode row column) × (values result ≡ values (foundIn mode row column)) }
+    ensures { (result ≡ found_in mode row column) × (values result ≡ values (found_in mode row column)) }
 {
     if !control::is_covered(mode) {
         return Owner::Refused {

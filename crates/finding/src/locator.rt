@@ -1,7 +1,7 @@
 // Into which cell of PM a coded bit goes.
 ghost use Rattle.std.specs.Prelude.{◌≡◌};
 ghost use Rattle.locating.specs.Locator.{values};
-ghost use Rattle.finding.specs.Locator.{locatedIn, p1In, p2In, refusedAt as «refused-at»};
+ghost use Rattle.finding.specs.Locator.{located_in, p1_in, p2_in, refused_at as «refused-at»};
 
 use crate::vector_u::{frame_coded, p1_coded, p2_coded};
 use locating::Located;
@@ -18,7 +18,7 @@ fn refused(place: usize) -> Located
 
 // A coded bit of a P1 frame.
 fn locate_p1(main: Main, frame: usize, bit: usize) -> Located
-    ensures { result ≡ p1In main frame bit }
+    ensures { result ≡ p1_in main frame bit }
 {
     let n = frame_coded(main);
     if frame >= p1_coded(main) / n {
@@ -32,7 +32,7 @@ fn locate_p1(main: Main, frame: usize, bit: usize) -> Located
 
 // A coded bit of P2, whose one transfer frame is frame 0.
 fn locate_p2(main: Main, frame: usize, bit: usize) -> Located
-    ensures { result ≡ p2In main frame bit }
+    ensures { result ≡ p2_in main frame bit }
 {
     let n = p2_coded(main);
     if n == 0 {
@@ -49,7 +49,7 @@ fn locate_p2(main: Main, frame: usize, bit: usize) -> Located
 
 // Tells into which cell of PM a coded bit goes, in any mode: of P1 (channel 1), PIDS (2) or P2 (5), of this transfer frame of the L1 frame.
 pub fn locate_in(mode: u8, channel: u8, frame: usize, bit: usize) -> Located
-    ensures { (result ≡ locatedIn mode channel frame bit) × (values result ≡ values (locatedIn mode channel frame bit)) }
+    ensures { (result ≡ located_in mode channel frame bit) × (values result ≡ values (located_in mode channel frame bit)) }
 {
     if !control::is_covered(mode) {
         return Located::Refused {

@@ -1,13 +1,13 @@
 // Figure 10-5: the coded bits of the vector U that Interleaver I takes to PM.
 ghost use Rattle.std.specs.Prelude.{◌≡◌, ◌<◌, ◌≤◌};
-ghost use Rattle.runs.specs.Chain.{p1Coded};
-ghost use Rattle.finding.specs.VectorU.{frameCoded, p2Coded};
+ghost use Rattle.runs.specs.Chain.{p1_coded};
+ghost use Rattle.finding.specs.VectorU.{frame_coded, p2_coded};
 
 use runs::Main;
 
 // The coded bits of a P1 frame.
 pub fn frame_coded(main: Main) -> usize
-    ensures { (result ≡ frameCoded main) × (0 < result) × (result ≤ 365440) }
+    ensures { (result ≡ frame_coded main) × (0 < result) × (result ≤ 365440) }
 {
     match main {
         Main::Plain => 365440,
@@ -18,7 +18,7 @@ pub fn frame_coded(main: Main) -> usize
 
 // The coded bits of the P1 frames of an L1 frame.
 pub fn p1_coded(main: Main) -> usize
-    ensures { (result ≡ p1Coded main) × (result ≤ 365440) }
+    ensures { (result ≡ p1_coded main) × (result ≤ 365440) }
 {
     match main {
         Main::Plain => 365440,
@@ -29,7 +29,7 @@ pub fn p1_coded(main: Main) -> usize
 
 // The coded bits of P2; 0 in a mode that does not send it.
 pub fn p2_coded(main: Main) -> usize
-    ensures { (result ≡ p2Coded main) × (result ≤ 273280) }
+    ensures { (result ≡ p2_coded main) × (result ≤ 273280) }
 {
     match main {
         Main::Plain => 0,

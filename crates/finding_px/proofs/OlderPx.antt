@@ -11,11 +11,11 @@ use Rattle.runs.specs.declared.Extended.TheVariants.{P3, P4}
 use Rattle.runs.specs.declared.Main.{Main}
 use Rattle.runs.specs.declared.Main.TheVariants.{Plain, Mp5, Mp6}
 use Rattle.runs.specs.declared.State.{State}
-use Rattle.runs.specs.MainChannels.{mainOf, lastAge}
+use Rattle.runs.specs.MainChannels.{main_of, last_age}
 use Rattle.runs.specs.Lengths.{kind_of}
-use Rattle.runs.specs.Starting.{stateAt}
+use Rattle.runs.specs.Starting.{state_at}
 use Rattle.runs.proofs.States.{two-le}
-use Rattle.finding_px.specs.Finder.{asOlder, inMode}
+use Rattle.finding_px.specs.Finder.{as_older, in_mode}
 
 -- the older mode
 abbrev pub alike : Main → ℕ → ℕ
@@ -23,8 +23,8 @@ alike Plain mode = mode
 alike Mp5 mode = 3
 alike Mp6 mode = 1
 
-is-five : (mode : ℕ) → Mp5 ≡ mainOf mode → mode ≡ 5
-unfolding mainOf
+is-five : (mode : ℕ) → Mp5 ≡ main_of mode → mode ≡ 5
+unfolding main_of
 is-five mode e = go (ℕ_discrete mode 5) (ℕ_discrete mode 6)
   where
     go : Dec (mode ≡ 5) → Dec (mode ≡ 6) → mode ≡ 5
@@ -38,8 +38,8 @@ is-five mode e = go (ℕ_discrete mode 5) (ℕ_discrete mode 6)
         let z : ◌≡◌ {A = ℕ} 0 1 = cc in
         absurd (omega arith)
 
-is-six : (mode : ℕ) → Mp6 ≡ mainOf mode → mode ≡ 6
-unfolding mainOf
+is-six : (mode : ℕ) → Mp6 ≡ main_of mode → mode ≡ 6
+unfolding main_of
 is-six mode e = go (ℕ_discrete mode 5) (ℕ_discrete mode 6)
   where
     go : Dec (mode ≡ 5) → Dec (mode ≡ 6) → mode ≡ 6
@@ -53,8 +53,8 @@ is-six mode e = go (ℕ_discrete mode 5) (ℕ_discrete mode 6)
         let z : ◌≡◌ {A = ℕ} 0 1 = cc in
         absurd (omega arith)
 
-pub alike-plain : (k : Main) (mode : ℕ) → k ≡ mainOf mode → mainOf (alike k mode) ≡ Plain
-unfolding mainOf
+pub alike-plain : (k : Main) (mode : ℕ) → k ≡ main_of mode → main_of (alike k mode) ≡ Plain
+unfolding main_of
 alike-plain Plain mode e = sym e
 alike-plain Mp5 mode e = refl
 alike-plain Mp6 mode e = refl
@@ -75,35 +75,35 @@ unfolding kind_of
 six-kind P3 = refl
 six-kind P4 = refl
 
-pub alike-kind : (k : Main) (mode : ℕ) → k ≡ mainOf mode → (e : Extended) → kind_of mode e ≡ kind_of (alike k mode) e
+pub alike-kind : (k : Main) (mode : ℕ) → k ≡ main_of mode → (e : Extended) → kind_of mode e ≡ kind_of (alike k mode) e
 alike-kind Plain mode is e = refl
 alike-kind Mp5 mode is e = ap (λ (m : ℕ). kind_of m e) (is-five mode is) ∙ five-kind e
 alike-kind Mp6 mode is e = ap (λ (m : ℕ). kind_of m e) (is-six mode is) ∙ six-kind e
 
 -- the state before L1 frame t
-plain-age : (k : Main) (t : ℕ) → min 2 (min (lastAge k) t) ≡ min 2 t
+plain-age : (k : Main) (t : ℕ) → min 2 (min (last_age k) t) ≡ min 2 t
 plain-age k t = omega (arith, two-le k)
 
-in-mode-at : (older mode z t : ℕ) → mainOf older ≡ Plain → inMode older (stateAt mode z t) ≡ stateAt older z t
+in-mode-at : (older mode z t : ℕ) → main_of older ≡ Plain → in_mode older (state_at mode z t) ≡ state_at older z t
 in-mode-at older mode z t is = λ i. record { mode = older; half = t % 2; age = same i; reserved = z }
   where
-    same : min 2 (min (lastAge (mainOf mode)) t) ≡ min (lastAge (mainOf older)) t
-    same = plain-age (mainOf mode) t ∙ ap (λ (k : Main). min (lastAge k) t) (sym is)
+    same : min 2 (min (last_age (main_of mode)) t) ≡ min (last_age (main_of older)) t
+    same = plain-age (main_of mode) t ∙ ap (λ (k : Main). min (last_age k) t) (sym is)
 
-pub older-at : (k : Main) (mode z t : ℕ) → k ≡ mainOf mode → asOlder k (stateAt mode z t) ≡ stateAt (alike k mode) z t
+pub older-at : (k : Main) (mode z t : ℕ) → k ≡ main_of mode → as_older k (state_at mode z t) ≡ state_at (alike k mode) z t
 older-at Plain mode z t is = refl
 older-at Mp5 mode z t is = in-mode-at 3 mode z t (alike-plain Mp5 mode is)
 older-at Mp6 mode z t is = in-mode-at 1 mode z t (alike-plain Mp6 mode is)
 
 -- ---- what the function computes
 
-pub age-capped : (mode : ℕ) (s : State) → 2 < s.age → record { mode = mode; half = s.half; age = 2; reserved = s.reserved } ≡ inMode mode s
+pub age-capped : (mode : ℕ) (s : State) → 2 < s.age → record { mode = mode; half = s.half; age = 2; reserved = s.reserved } ≡ in_mode mode s
 age-capped mode s l = λ i. record { mode = mode; half = s.half; age = two i; reserved = s.reserved }
   where
     two : 2 ≡ min 2 s.age
     two = omega arith
 
-pub age-kept : (mode : ℕ) (s : State) → s.age ≤ 2 → record { mode = mode; half = s.half; age = s.age; reserved = s.reserved } ≡ inMode mode s
+pub age-kept : (mode : ℕ) (s : State) → s.age ≤ 2 → record { mode = mode; half = s.half; age = s.age; reserved = s.reserved } ≡ in_mode mode s
 age-kept mode s l = λ i. record { mode = mode; half = s.half; age = same i; reserved = s.reserved }
   where
     same : s.age ≡ min 2 s.age

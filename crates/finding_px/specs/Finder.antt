@@ -1,60 +1,60 @@
 -- House matter: whose coded bit stands in a cell of PX1 or PX2 of the L1 frame that a state comes before, in all six modes.
 use Rattle.std.specs.Prelude.{ℕ, min, cond, ltb}
-use Rattle.interleaving.specs.Matrix.{positionAt}
+use Rattle.interleaving.specs.Matrix.{position_at}
 use Rattle.runs.specs.declared.Answer.TheVariants.{StateNotValid, WrongLength}
 use Rattle.runs.specs.declared.Main.{Main}
 use Rattle.runs.specs.declared.Main.TheVariants.{Plain, Mp5, Mp6}
 use Rattle.runs.specs.declared.State.{State}
 use Rattle.runs.specs.Answers.{number_of, place_of}
-use Rattle.runs.specs.MainChannels.{mainOf, delayFrames}
+use Rattle.runs.specs.MainChannels.{main_of, delay_frames}
 use Rattle.runs.specs.Starting.{valid}
 use Rattle.queries.specs.declared.finder_px.FoundPx.{FoundPx}
 use Rattle.queries.specs.declared.finder_px.FoundPx.TheVariants as finder
-use Rattle.queries.specs.FinderPX.{foundPX}
+use Rattle.queries.specs.FinderPX.{found_px}
 use Rattle.finding_px.specs.declared.finder.FoundPxIn.{FoundPxIn}
 use Rattle.finding_px.specs.declared.finder.FoundPxIn.TheVariants.{Coded, Fill, Second, DelayZero, Refused}
-use Rattle.finding_px.specs.Second.{bit_of, columnsOf, named}
+use Rattle.finding_px.specs.Second.{bit_of, columns_of, named}
 
 -- ---- P3 and P4: Table 10-18 gives MP5's P3 the row that MP3's has in Table 10-15, and MP6 sends neither, as MP1
 
 -- the same half and number in an older mode, and the age as far as that counts it
-abbrev pub inMode : ℕ → State → State
-inMode mode s = record { mode = mode; half = s.half; age = min 2 s.age; reserved = s.reserved }
+abbrev pub in_mode : ℕ → State → State
+in_mode mode s = record { mode = mode; half = s.half; age = min 2 s.age; reserved = s.reserved }
 
-abbrev pub asOlder : Main → State → State
-asOlder Plain s = s
-asOlder Mp5 s = inMode 3 s
-asOlder Mp6 s = inMode 1 s
+abbrev pub as_older : Main → State → State
+as_older Plain s = s
+as_older Mp5 s = in_mode 3 s
+as_older Mp6 s = in_mode 1 s
 
-abbrev pub asIn : FoundPx → FoundPxIn
-asIn (finder.Coded earlier frame bit) = Coded earlier frame bit
-asIn finder.Fill = Fill
-asIn (finder.Refused answer) = Refused answer
+abbrev pub as_in : FoundPx → FoundPxIn
+as_in (finder.Coded earlier frame bit) = Coded earlier frame bit
+as_in finder.Fill = Fill
+as_in (finder.Refused answer) = Refused answer
 
 -- ---- P1'
 
-abbrev pub refusedAt : ℕ → FoundPxIn
-refusedAt place = Refused (WrongLength place)
+abbrev pub refused_at : ℕ → FoundPxIn
+refused_at place = Refused (WrongLength place)
 
 -- 9.2: PX2 has the P1 frames of the L1 frame so much earlier, and before that the delay's zeros, which are coded to zeros. Refused: a block pair above 7 at
 -- place 1, a row above 63 at 2, a column past the row's end at 3
-unfoldable pub inSecond : Main → (age pair row column : ℕ) → FoundPxIn
-inSecond k age pair row column =
+unfoldable pub in_second : Main → (age pair row column : ℕ) → FoundPxIn
+in_second k age pair row column =
     cond (ltb pair 8)
     (cond (ltb row 64)
-    (cond (ltb column (columnsOf k))
-    (cond (ltb age (delayFrames k)) DelayZero (Second pair (bit_of k (positionAt 36 row column))))
-    (refusedAt 3))
-    (refusedAt 2))
-    (refusedAt 1)
+    (cond (ltb column (columns_of k))
+    (cond (ltb age (delay_frames k)) DelayZero (Second pair (bit_of k (position_at 36 row column))))
+    (refused_at 3))
+    (refused_at 2))
+    (refused_at 1)
 
 -- ---- channel 3 is PX1 and channel 4 PX2; refused: a state that is not valid; then as the finder of the older modes refuses
 
-unfoldable pub foundPxIn : State → (channel pair row column : ℕ) → FoundPxIn
-foundPxIn s channel pair row column =
-    let k = mainOf s.mode in
+unfoldable pub found_px_in : State → (channel pair row column : ℕ) → FoundPxIn
+found_px_in s channel pair row column =
+    let k = main_of s.mode in
     cond (valid s)
-    (cond (named k channel 4) (inSecond k s.age pair row column) (asIn (foundPX (asOlder k s) channel pair row column)))
+    (cond (named k channel 4) (in_second k s.age pair row column) (as_in (found_px (as_older k s) channel pair row column)))
     (Refused StateNotValid)
 
 -- the values for each case: number and place of the table of causes, what stands in the cell, how many L1 frames earlier, transfer frame and bit

@@ -4,31 +4,31 @@ use Rattle.interleaving.specs.PX2.{place}
 use Rattle.runs.specs.declared.Answer.TheVariants.{StateNotValid, WrongLength}
 use Rattle.runs.specs.declared.Main.{Main}
 use Rattle.runs.specs.declared.State.{State}
-use Rattle.runs.specs.MainChannels.{mainOf, delayFrames, p1'Row}
+use Rattle.runs.specs.MainChannels.{main_of, delay_frames, p1'_row}
 use Rattle.runs.specs.Starting.{valid}
 use Rattle.locating.specs.declared.locator_px.LocatedPx.{LocatedPx}
 use Rattle.locating.specs.declared.locator_px.LocatedPx.TheVariants.{At, Refused}
-use Rattle.locating.specs.LocatorPX.{locatedPX}
-use Rattle.finding_px.specs.Second.{codedOf, columnsOf, named}
-use Rattle.finding_px.specs.Finder.{asOlder}
+use Rattle.locating.specs.LocatorPX.{located_px}
+use Rattle.finding_px.specs.Second.{coded_of, columns_of, named}
+use Rattle.finding_px.specs.Finder.{as_older}
 
-abbrev pub refusedAt : ℕ → LocatedPx
-refusedAt place = Refused (WrongLength place)
+abbrev pub refused_at : ℕ → LocatedPx
+refused_at place = Refused (WrongLength place)
 
 -- the delay, and block pair, row and column of the cell of PX2
 unfoldable pub standing : Main → (frame bit : ℕ) → LocatedPx
 standing k frame bit =
-    let c = place (p1'Row k) (frame * codedOf k + bit) in
-    At (delayFrames k) (c / columnsOf k / 64) (c / columnsOf k % 64) (c % columnsOf k)
+    let c = place (p1'_row k) (frame * coded_of k + bit) in
+    At (delay_frames k) (c / columns_of k / 64) (c / columns_of k % 64) (c % columns_of k)
 
 -- refused: a P1 frame above 7 at place 1, a bit past its end at 2
-unfoldable pub secondAt : Main → (frame bit : ℕ) → LocatedPx
-secondAt k frame bit = cond (ltb frame 8) (cond (ltb bit (codedOf k)) (standing k frame bit) (refusedAt 2)) (refusedAt 1)
+unfoldable pub second_at : Main → (frame bit : ℕ) → LocatedPx
+second_at k frame bit = cond (ltb frame 8) (cond (ltb bit (coded_of k)) (standing k frame bit) (refused_at 2)) (refused_at 1)
 
 -- channel 3 is P3, 4 P4 and 6 P1'; refused: a state that is not valid; then as the locator of the older modes refuses
-unfoldable pub locatedPxIn : State → (channel frame bit : ℕ) → LocatedPx
-locatedPxIn s channel frame bit =
-    let k = mainOf s.mode in
+unfoldable pub located_px_in : State → (channel frame bit : ℕ) → LocatedPx
+located_px_in s channel frame bit =
+    let k = main_of s.mode in
     cond (valid s)
-    (cond (named k channel 6) (secondAt k frame bit) (locatedPX (asOlder k s) channel frame bit))
+    (cond (named k channel 6) (second_at k frame bit) (located_px (as_older k s) channel frame bit))
     (Refused StateNotValid)

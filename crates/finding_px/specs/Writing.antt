@@ -2,14 +2,14 @@
 -- matrix, and the cell, counted through the eight. Row 0 of Tables 10-17 and 10-19 is MP5, and row 1 is MP6.
 use Rattle.std.specs.Prelude.{ℕ, ◌+◌, ◌*◌}
 use Rattle.interleaving.specs.EquationsI as I
-use Rattle.interleaving.specs.PX2.{partitions, blocks, columns, runs, order, frameBits, place}
+use Rattle.interleaving.specs.PX2.{partitions, blocks, columns, runs, order, frame_bits, place}
 use Rattle.locating.specs.declared.writing.Writing.{Writing}
 
-unfoldable pub p1'Writing : (row frame bit : ℕ) → Writing
-p1'Writing row frame bit =
+unfoldable pub p1'_writing : (row frame bit : ℕ) → Writing
+p1'_writing row frame bit =
     record {
       step = bit;
       k = I.k_of (partitions row) blocks columns (runs row) (order row) bit;
       position = I.position (partitions row) blocks columns (runs row) (order row) bit;
-      cell = place row (frame * frameBits row + bit);
+      cell = place row (frame * frame_bits row + bit);
     }

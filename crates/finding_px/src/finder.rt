@@ -1,6 +1,6 @@
 // Whose coded bit stands in a cell of PX1 or PX2.
 ghost use Rattle.std.specs.Prelude.{◌≡◌};
-ghost use Rattle.finding_px.specs.Finder.{asIn, foundPxIn, inSecond, refusedAt as «refused-at», values};
+ghost use Rattle.finding_px.specs.Finder.{as_in, found_px_in, in_second, refused_at as «refused-at», values};
 
 use crate::older::as_older;
 use crate::second::{bit_of, columns, delay, is_named};
@@ -37,7 +37,7 @@ fn refused(place: usize) -> FoundPxIn
 
 // What the finder of the older modes says.
 fn as_in(found: FoundPx) -> FoundPxIn
-    ensures { result ≡ asIn found }
+    ensures { result ≡ as_in found }
 {
     match found {
         FoundPx::Coded {
@@ -56,7 +56,7 @@ fn as_in(found: FoundPx) -> FoundPxIn
 
 // What stands in a cell of PX2 in a mode that has P1'.
 fn find_second(main: Main, age: usize, pair: usize, row: usize, column: usize) -> FoundPxIn
-    ensures { result ≡ inSecond main age pair row column }
+    ensures { result ≡ in_second main age pair row column }
 {
     if pair >= 8 {
         return refused(1);
@@ -76,7 +76,7 @@ fn find_second(main: Main, age: usize, pair: usize, row: usize, column: usize) -
 
 // Finds whose coded bit stands in a cell of PX1 (channel 3) or PX2 (channel 4) of the L1 frame that comes next, in any mode.
 pub fn find_px_in(state: State, channel: u8, pair: usize, row: usize, column: usize) -> FoundPxIn
-    ensures { (result ≡ foundPxIn state channel pair row column) × (values result ≡ values (foundPxIn state channel pair row column)) }
+    ensures { (result ≡ found_px_in state channel pair row column) × (values result ≡ values (found_px_in state channel pair row column)) }
 {
     if !calls::is_valid(state) {
         return FoundPxIn::Refused {

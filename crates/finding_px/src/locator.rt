@@ -1,8 +1,8 @@
 // Into which cell of PX1 or PX2 a coded bit goes.
 ghost use Rattle.std.specs.Prelude.{◌≡◌, ◌<◌};
 ghost use Rattle.locating.specs.LocatorPX.{values};
-ghost use Rattle.finding_px.specs.Second.{codedOf};
-ghost use Rattle.finding_px.specs.Locator.{locatedPxIn, refusedAt as «refused-at», secondAt, standing as «standing-of»};
+ghost use Rattle.finding_px.specs.Second.{coded_of};
+ghost use Rattle.finding_px.specs.Locator.{located_px_in, refused_at as «refused-at», second_at, standing as «standing-of»};
 
 use crate::older::as_older;
 use crate::second::{columns, delay, is_named, row_of};
@@ -21,7 +21,7 @@ fn refused(place: usize) -> LocatedPx
 
 // The cell of a coded bit of a P1' frame.
 fn standing(main: Main, frame: usize, bit: usize) -> LocatedPx
-    requires { (frame < 8) × (bit < codedOf main) }
+    requires { (frame < 8) × (bit < coded_of main) }
     ensures { result ≡ «standing-of» main frame bit }
 {
     let w = columns(main);
@@ -37,7 +37,7 @@ fn standing(main: Main, frame: usize, bit: usize) -> LocatedPx
 
 // Into which cell of PX2 a coded bit of P1' goes, of this P1 frame of the L1 frame.
 fn locate_second(main: Main, frame: usize, bit: usize) -> LocatedPx
-    ensures { result ≡ secondAt main frame bit }
+    ensures { result ≡ second_at main frame bit }
 {
     if frame >= 8 {
         return refused(1);
@@ -50,7 +50,7 @@ fn locate_second(main: Main, frame: usize, bit: usize) -> LocatedPx
 
 // Tells in which matrix of PX1 or PX2 a coded bit of P3 (channel 3), P4 (4) or P1' (6) is sent, and in which cell of it, in any mode: of this transfer frame of the L1 frame that comes next.
 pub fn locate_px_in(state: State, channel: u8, frame: usize, bit: usize) -> LocatedPx
-    ensures { (result ≡ locatedPxIn state channel frame bit) × (values result ≡ values (locatedPxIn state channel frame bit)) }
+    ensures { (result ≡ located_px_in state channel frame bit) × (values result ≡ values (located_px_in state channel frame bit)) }
 {
     if !calls::is_valid(state) {
         return LocatedPx::Refused {

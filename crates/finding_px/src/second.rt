@@ -1,11 +1,11 @@
 // P1' in PX2 (sections 10.4.2.3 and 10.4.2.4): Interleaver I turned round.
 ghost use Rattle.std.specs.Prelude.{◌≡◌, ◌<◌, ◌≤◌, get_or};
-ghost use Rattle.interleaving.specs.InverseI.{kAt};
-ghost use Rattle.interleaving.specs.Matrix.{positionAt};
+ghost use Rattle.interleaving.specs.InverseI.{k_at};
+ghost use Rattle.interleaving.specs.Matrix.{position_at};
 ghost use Rattle.interleaving.specs.PX2.{v8};
-ghost use Rattle.runs.specs.MainChannels.{delayFrames, p1'Row};
+ghost use Rattle.runs.specs.MainChannels.{delay_frames, p1'_row};
 ghost use Rattle.runs.specs.declared.Main.TheVariants.{Mp5, Mp6};
-ghost use Rattle.finding_px.specs.Second.{bit_of, columnsOf, named};
+ghost use Rattle.finding_px.specs.Second.{bit_of, columns_of, named};
 
 use runs::Main;
 
@@ -22,7 +22,7 @@ pub fn is_named(main: Main, channel: u8, number: u8) -> bool
 
 // The cells of a row of its matrices; 0 in a mode that does not have it.
 pub fn columns(main: Main) -> usize
-    ensures { (result ≡ columnsOf main) × (result ≤ 288) }
+    ensures { (result ≡ columns_of main) × (result ≤ 288) }
 {
     match main {
         Main::Plain => 0,
@@ -33,7 +33,7 @@ pub fn columns(main: Main) -> usize
 
 // The L1 frames by which it is delayed (section 9.2).
 pub fn delay(main: Main) -> usize
-    ensures { result ≡ delayFrames main }
+    ensures { result ≡ delay_frames main }
 {
     match main {
         Main::Plain => 0,
@@ -44,7 +44,7 @@ pub fn delay(main: Main) -> usize
 
 // Its row of Tables 10-17 and 10-19.
 pub fn row_of(main: Main) -> usize
-    ensures { result ≡ p1'Row main }
+    ensures { result ≡ p1'_row main }
 {
     match main {
         Main::Mp5 => 0,
@@ -56,7 +56,7 @@ pub fn row_of(main: Main) -> usize
 // 10.2.3.3: the k of a row and a column of an interleaver block.
 fn index_of(row: usize, column: usize) -> usize
     requires { (row < 32) × (column < 36) }
-    ensures { (result ≡ kAt 4 row column) × (result < 1152) }
+    ensures { (result ≡ k_at 4 row column) × (result < 1152) }
 {
     let turn = (column + 32 - row) % 4;
     288 * turn + (99 * row + 32 * column + 256 * turn) % 288
@@ -75,7 +75,7 @@ fn turn_of(partition: usize) -> usize
 // MP5: the coded bit of a P1' frame that stands in a row and a column of its matrix.
 fn narrow_bit(row: usize, column: usize) -> usize
     requires { (row < 64) × (column < 144) }
-    ensures { result ≡ bit_of Mp5 (positionAt 36 row column) }
+    ensures { result ≡ bit_of Mp5 (position_at 36 row column) }
 {
     let k = index_of(row % 32, column % 36);
     8 * k + 2 * (column / 36) + (row / 32 + k) % 2
@@ -84,7 +84,7 @@ fn narrow_bit(row: usize, column: usize) -> usize
 // MP6: the same.
 fn wide_bit(row: usize, column: usize) -> usize
     requires { (row < 64) × (column < 288) }
-    ensures { result ≡ bit_of Mp6 (positionAt 36 row column) }
+    ensures { result ≡ bit_of Mp6 (position_at 36 row column) }
 {
     let p = column / 36;
     let k = index_of(row % 32, column % 36);
@@ -94,8 +94,8 @@ fn wide_bit(row: usize, column: usize) -> usize
 
 // The coded bit of a P1' frame that stands in a row and a column of its matrix.
 pub fn bit_of(main: Main, row: usize, column: usize) -> usize
-    requires { (row < 64) × (column < columnsOf main) }
-    ensures { result ≡ bit_of main (positionAt 36 row column) }
+    requires { (row < 64) × (column < columns_of main) }
+    ensures { result ≡ bit_of main (position_at 36 row column) }
 {
     match main {
         Main::Plain => 0,

@@ -1,8 +1,8 @@
 // Interleaver I for P1' (sections 10.4.2.3 and 10.4.2.4), bit by bit: how a coded bit of a frame is written.
 ghost use Rattle.std.specs.Prelude.{◌≡◌, ◌<◌, get_or};
 ghost use Rattle.interleaving.specs.PX.{v4};
-ghost use Rattle.interleaving.specs.PX2.{v8, frameBits};
-ghost use Rattle.finding_px.specs.Writing.{p1'Writing};
+ghost use Rattle.interleaving.specs.PX2.{v8, frame_bits};
+ghost use Rattle.finding_px.specs.Writing.{p1'_writing};
 
 use locating::Writing;
 use pm::Position;
@@ -42,7 +42,7 @@ fn partition(s: usize) -> usize
 // 10.2.3, MP5: of bit i of a frame.
 fn narrow(frame: usize, i: usize) -> Writing
     requires { (frame < 8) × (i < 9216) }
-    ensures { result ≡ p1'Writing 0 frame i }
+    ensures { result ≡ p1'_writing 0 frame i }
 {
     let p = partition_of_4(i / M[0] % J[0]);
     let k = i / (J[0] * B[0]);
@@ -67,7 +67,7 @@ fn narrow(frame: usize, i: usize) -> Writing
 // 10.2.3, MP6: of bit i of a frame.
 fn wide(frame: usize, i: usize) -> Writing
     requires { (frame < 8) × (i < 18432) }
-    ensures { result ≡ p1'Writing 1 frame i }
+    ensures { result ≡ p1'_writing 1 frame i }
 {
     let p = partition(i / M[1] % J[1]);
     let k = i / (J[1] * B[1]);
@@ -91,8 +91,8 @@ fn wide(frame: usize, i: usize) -> Writing
 
 // How a coded bit of one of the eight P1' frames is written: row 0 is for MP5, row 1 for MP6.
 pub fn write_second(row: usize, frame: usize, bit: usize) -> Writing
-    requires { (row < 2) × (frame < 8) × (bit < frameBits row) }
-    ensures { result ≡ p1'Writing row frame bit }
+    requires { (row < 2) × (frame < 8) × (bit < frame_bits row) }
+    ensures { result ≡ p1'_writing row frame bit }
 {
     if row == 0 {
         return narrow(frame, bit);

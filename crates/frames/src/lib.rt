@@ -1,9 +1,9 @@
 // Reading an L1 frame of a dump, or of a reader's input: PM, PX1, PX2 and control end to end.
 ghost use Rattle.std.specs.Prelude.{◌≡◌};
 ghost use Rattle.runs.specs.Reading.{read_step};
-ghost use Rattle.calls.specs.Called.{frames, memory, readGave};
-ghost use Rattle.layout.specs.Layout.{signalIn};
-ghost use Rattle.frames.specs.Read.{handed, readFrame};
+ghost use Rattle.calls.specs.Called.{frames, memory, read_gave};
+ghost use Rattle.layout.specs.Layout.{signal_in};
+ghost use Rattle.frames.specs.Read.{handed, read_frame};
 
 use calls::ReadOutcome;
 use layout::end_of;
@@ -24,8 +24,8 @@ pub fn read_bytes(
     memory4: &mut [u8],
     delay: &mut [u8],
 ) -> ReadOutcome
-    ensures { readGave result (memory memory3.new memory4.new delay.new) (handed (frames result.reserved p1.new pids.new p2.new p3.new p4.new) (signalIn mode bytes.now))
-        ≡ read_step state (memory memory3.old memory4.old delay.old) (handed (frames 0 p1.old pids.old p2.old p3.old p4.old) (signalIn mode bytes.now)) }
+    ensures { read_gave result (memory memory3.new memory4.new delay.new) (handed (frames result.reserved p1.new pids.new p2.new p3.new p4.new) (signal_in mode bytes.now))
+        ≡ read_step state (memory memory3.old memory4.old delay.old) (handed (frames 0 p1.old pids.old p2.old p3.old p4.old) (signal_in mode bytes.now)) }
 {
     let n = bytes.len();
     let want = reader_lengths(mode);
@@ -59,10 +59,10 @@ pub fn read_frame(
     memory4: &mut [u8],
     delay: &mut [u8],
 ) -> ReadOutcome
-    ensures { (result.answer ≡ (readFrame mode state (memory memory3.old memory4.old delay.old) bytes.now).answer)
-        × (result.state ≡ (readFrame mode state (memory memory3.old memory4.old delay.old) bytes.now).state)
-        × (memory memory3.new memory4.new delay.new ≡ (readFrame mode state (memory memory3.old memory4.old delay.old) bytes.now).memory)
-        × (result.reserved ≡ (readFrame mode state (memory memory3.old memory4.old delay.old) bytes.now).lent.frames.reserved) }
+    ensures { (result.answer ≡ (read_frame mode state (memory memory3.old memory4.old delay.old) bytes.now).answer)
+        × (result.state ≡ (read_frame mode state (memory memory3.old memory4.old delay.old) bytes.now).state)
+        × (memory memory3.new memory4.new delay.new ≡ (read_frame mode state (memory memory3.old memory4.old delay.old) bytes.now).memory)
+        × (result.reserved ≡ (read_frame mode state (memory memory3.old memory4.old delay.old) bytes.now).lent.frames.reserved) }
 {
     let want = reader_lengths(mode);
     let n1 = want[0];

@@ -15,12 +15,12 @@ use Rattle.runs.specs.declared.Extended.{Extended}
 use Rattle.runs.specs.declared.Extended.TheVariants.{P3, P4}
 use Rattle.runs.specs.declared.Kind.{Kind}
 use Rattle.runs.specs.declared.Kind.TheVariants.{Unused}
-use Rattle.runs.specs.Chain.{codedOf}
-use Rattle.runs.specs.Defined.{defined, memoryBefore}
+use Rattle.runs.specs.Chain.{coded_of}
+use Rattle.runs.specs.Defined.{defined, memory_before}
 use Rattle.runs.specs.Lengths.{kind_of}
-use Rattle.runs.specs.Lent.{Frames, Matrices, frame_of, matrixOf}
-use Rattle.runs.specs.Runs.{SenderRun, count, frame_at, matricesAt}
-use Rattle.runs.specs.Starting.{stateAt, valid}
+use Rattle.runs.specs.Lent.{Frames, Matrices, frame_of, matrix_of}
+use Rattle.runs.specs.Runs.{SenderRun, count, frame_at, matrices_at}
+use Rattle.runs.specs.Starting.{state_at, valid}
 use Rattle.runs.proofs.Older.{older-p4, older-px2}
 use Rattle.runs.proofs.PX.{matrix-length}
 use Rattle.runs.proofs.Sender.{matrices-at}
@@ -29,45 +29,45 @@ use Rattle.queries.specs.declared.finder.Found.TheVariants.{P1 as found-p1, Pids
 use Rattle.queries.specs.declared.finder_px.FoundPx.{FoundPx}
 use Rattle.queries.specs.declared.finder_px.FoundPx.TheVariants.{Coded, Fill as found-fill, Refused as px-refused}
 use Rattle.queries.specs.Finder.{found}
-use Rattle.queries.specs.FinderPX.{cell_of, foundPX, frameCoded, kindOfNumber}
-use Rattle.queries.specs.Sheets.{Sheet, channelNumber}
+use Rattle.queries.specs.FinderPX.{cell_of, found_px, frame_coded, kind_of_number}
+use Rattle.queries.specs.Sheets.{Sheet, channel_number}
 use Rattle.queries.proofs.Sheets.{sheets}
 use Rattle.locating.specs.declared.locator.Located.{Located}
 use Rattle.locating.specs.declared.locator.Located.TheVariants.{At, Refused as not-located}
 use Rattle.locating.specs.declared.locator_px.LocatedPx.{LocatedPx}
 use Rattle.locating.specs.declared.locator_px.LocatedPx.TheVariants.{At as AtPX, Refused as not-located-px}
 use Rattle.locating.specs.Locator.{located}
-use Rattle.locating.specs.LocatorPX.{locatedPX}
+use Rattle.locating.specs.LocatorPX.{located_px}
 use Rattle.locating.specs.Sheets.{LocatedSheet}
 use Rattle.locating.proofs.Sheets.{located-sheets}
-use Rattle.sheetlines.specs.Entries.{entry_of, inPM, ofPM, pmPlaced, turn_of}
-use Rattle.sheetlines.specs.Older.{bitEntry, olderOf, pmEntry, pxEntry, pxPlaced}
+use Rattle.sheetlines.specs.Entries.{entry_of, in_pm, of_pm, pm_placed, turn_of}
+use Rattle.sheetlines.specs.Older.{bit_entry, older_of, pm_entry, px_entry, px_placed}
 use Rattle.sheetlines.specs.declared.questions.Question.{Question}
 use Rattle.sheetlines.specs.declared.questions.Question.TheVariants.{Bit, Pm, Px, Wrong}
 use Rattle.sheetlines.specs.declared.entries.Entry.{Entry}
 use Rattle.sheetlines.specs.declared.entries.Entry.TheVariants.{Refused}
 use Rattle.sheetlines.proofs.Ranges.{by-channel}
 use Rattle.sheetlines.proofs.Older.{as-older}
-use Rattle.sheettext.specs.Texts.{valueIn}
+use Rattle.sheettext.specs.Texts.{value_in}
 use Rattle.sheetinputs.specs.Inputs.{older}
-use Rattle.idealsheets.specs.Ideal.{bit_of, codedBit}
+use Rattle.idealsheets.specs.Ideal.{bit_of, coded_bit}
 use Rattle.sheetinputs.proofs.Older.{older-cases, older-covered, older-main}
 
-p3-is : (mode : ℕ) → older mode ≡ true → kind_of mode P3 ≡ kindOfNumber mode 3
-unfolding kind_of kindOfNumber
-p3-is = older-cases (λ mode. kind_of mode P3 ≡ kindOfNumber mode 3) refl refl refl refl
+p3-is : (mode : ℕ) → older mode ≡ true → kind_of mode P3 ≡ kind_of_number mode 3
+unfolding kind_of kind_of_number
+p3-is = older-cases (λ mode. kind_of mode P3 ≡ kind_of_number mode 3) refl refl refl refl
 
-p4-is : (mode : ℕ) → older mode ≡ true → kind_of mode P4 ≡ kindOfNumber mode 4
-unfolding kind_of kindOfNumber
-p4-is = older-cases (λ mode. kind_of mode P4 ≡ kindOfNumber mode 4) refl refl refl refl
+p4-is : (mode : ℕ) → older mode ≡ true → kind_of mode P4 ≡ kind_of_number mode 4
+unfolding kind_of kind_of_number
+p4-is = older-cases (λ mode. kind_of mode P4 ≡ kind_of_number mode 4) refl refl refl refl
 
-pub number_is : (mode : ℕ) → older mode ≡ true → (e : Extended) → kind_of mode e ≡ kindOfNumber mode (channelNumber e)
+pub number_is : (mode : ℕ) → older mode ≡ true → (e : Extended) → kind_of mode e ≡ kind_of_number mode (channel_number e)
 number_is mode o P3 = p3-is mode o
 number_is mode o P4 = p4-is mode o
 
 -- a channel of another number is in no mode
-no-channel : (mode channel : ℕ) → eqb channel 3 ≡ false → eqb channel 4 ≡ false → kindOfNumber mode channel ≡ Unused
-unfolding kindOfNumber
+no-channel : (mode channel : ℕ) → eqb channel 3 ≡ false → eqb channel 4 ≡ false → kind_of_number mode channel ≡ Unused
+unfolding kind_of_number
 no-channel mode channel e f = rw (e, f) (go (eqb mode 5))
   where
     go : (b : Bool) → cond b Unused Unused ≡ Unused
@@ -75,7 +75,7 @@ no-channel mode channel e f = rw (e, f) (go (eqb mode 5))
     go false = refl
 
 -- by the channel's number
-pub by_number : (mode : ℕ) (P : ℕ → Type 0) → P 3 → P 4 → ((c : ℕ) → kindOfNumber mode c ≡ Unused → P c) → (c : ℕ) → P c
+pub by_number : (mode : ℕ) (P : ℕ → Type 0) → P 3 → P 4 → ((c : ℕ) → kind_of_number mode c ≡ Unused → P c) → (c : ℕ) → P c
 by_number mode P p3 p4 other c = go (eqb c 3) (eqb c 4) refl refl
   where
     go : (x y : Bool) → eqb c 3 ≡ x → eqb c 4 ≡ y → P c
@@ -84,12 +84,12 @@ by_number mode P p3 p4 other c = go (eqb c 3) (eqb c 4) refl refl
     go false false e f = other c (no-channel mode c e f)
 
 -- PX2 is the matrices of P4
-pub px2-is : (mode : ℕ) → older mode ≡ true → (a : SenderRun mode) (t : ℕ) → t < count mode a → matrixOf mode (matricesAt mode a t) P4 ≡ (matricesAt mode a t).px2
+pub px2-is : (mode : ℕ) → older mode ≡ true → (a : SenderRun mode) (t : ℕ) → t < count mode a → matrix_of mode (matrices_at mode a t) P4 ≡ (matrices_at mode a t).px2
 unfolding defined
 px2-is mode o a t h =
-    let X : Matrices = matricesAt mode a t in
+    let X : Matrices = matrices_at mode a t in
     let m = matrices-at mode a t h in
-    let px2-of : X.px2 ≡ _ = ap (λ (x : Matrices). x.px2) m ∙ older-px2 mode (older-main mode o) (t % 2) (memoryBefore mode (frame_at mode a) t) (frame_at mode a t) in
+    let px2-of : X.px2 ≡ _ = ap (λ (x : Matrices). x.px2) m ∙ older-px2 mode (older-main mode o) (t % 2) (memory_before mode (frame_at mode a) t) (frame_at mode a t) in
     older-p4 mode (older-main mode o) X (ap length px2-of ∙ matrix-length (kind_of mode P4) _ _ _)
 
 -- L1 frame t of the run, among whose answers an entry of a sheet of n L1 frames stands
@@ -102,14 +102,14 @@ module _ (mode : ℕ) (o : older mode ≡ true) (a : SenderRun mode) (t : ℕ) (
   L = located-sheets mode (older-main mode o) a t h
 
   abbrev X : Matrices
-  X = matricesAt mode a t
+  X = matrices_at mode a t
 
   -- the value that stands in the cell is that of the coded bit
   abbrev Right : Entry → Type 0
-  Right e = turn_of n e ≡ t → valueIn X e ≡ codedBit mode F e
+  Right e = turn_of n e ≡ t → value_in X e ≡ coded_bit mode F e
 
   refused-right : Right Refused
-  unfolding valueIn codedBit
+  unfolding value_in coded_bit
   refused-right q = refl
 
   sent-here : (u : ℕ) → min n u ≡ t → u ≡ t
@@ -127,17 +127,17 @@ module _ (mode : ℕ) (o : older mode ≡ true) (a : SenderRun mode) (t : ℕ) (
   pids-is u cell i e v =
       v ∙ ap (λ (f : Frames). channel TwoFifths 80 (bit_at f.pids) i) (agree t (omega arith)) ∙ ap (λ (k : ℕ). channel TwoFifths 80 (bit_at (F k).pids) i) (sym e)
 
-  pm-found : (u row column : ℕ) (f : Found) → found row column ≡ f → Right (pmEntry u row column f)
-  unfolding valueIn ofPM codedBit bit_of turn_of
+  pm-found : (u row column : ℕ) (f : Found) → found row column ≡ f → Right (pm_entry u row column f)
+  unfolding value_in of_pm coded_bit bit_of turn_of
   pm-found u row column (found-p1 bit) e q = p1-is u (row * 720 + column) bit (sent-here u q) (S.p1-cell row column bit e)
   pm-found u row column (found-pids frame bit) e q =
       pids-is u (row * 720 + column) (frame * 200 + bit) (sent-here u q) (S.pids-cell row column frame bit e)
   pm-found u row column (pm-refused r) e q = refl
 
-  pm-located : (u c frame bit : ℕ) (l : Located) → located c frame bit ≡ l → Right (pmPlaced u c frame bit l)
-  unfolding valueIn ofPM codedBit bit_of turn_of
+  pm-located : (u c frame bit : ℕ) (l : Located) → located c frame bit ≡ l → Right (pm_placed u c frame bit l)
+  unfolding value_in of_pm coded_bit bit_of turn_of
   pm-located u c frame bit (At p row column) e q =
-      by-channel (λ (k f : ℕ). valueIn X (inPM u k f bit row column) ≡ codedBit mode F (inPM u k f bit row column)) bit row column p
+      by-channel (λ (k f : ℕ). value_in X (in_pm u k f bit row column) ≡ coded_bit mode F (in_pm u k f bit row column)) bit row column p
       (λ d. p1-is u (row * 720 + column) bit (sent-here u q) (L.p1-bit bit row column p d))
       (λ f d. pids-is u (row * 720 + column) (f * 200 + bit) (sent-here u q) (L.pids-bit f bit row column p d))
       c frame e
@@ -148,89 +148,89 @@ module _ (mode : ℕ) (o : older mode ≡ true) (a : SenderRun mode) (t : ℕ) (
   -- the cell of a bit of L1 frame `from`
   abbrev Cell : (e : Extended) (from frame bit pair row column : ℕ) → Type 0
   Cell e from frame bit pair row column =
-      bit_at (matrixOf mode X e) (cell_of (kindOfNumber mode (channelNumber e)) pair row column)
-      ≡ codedOf (kind_of mode e) (frame_of (F from) e) (frame * frameCoded (kind_of mode e) + bit)
+      bit_at (matrix_of mode X e) (cell_of (kind_of_number mode (channel_number e)) pair row column)
+      ≡ coded_of (kind_of mode e) (frame_of (F from) e) (frame * frame_coded (kind_of mode e) + bit)
 
-  coded-found : (e : Extended) (u pair row column k frame bit : ℕ) → u ≡ t → foundPX (stateAt mode 0 u) (channelNumber e) pair row column ≡ Coded k frame bit
+  coded-found : (e : Extended) (u pair row column k frame bit : ℕ) → u ≡ t → found_px (state_at mode 0 u) (channel_number e) pair row column ≡ Coded k frame bit
       → Cell e (u - k) frame bit pair row column
   coded-found e u pair row column k frame bit same f =
-      let here = subst (λ (v : ℕ). foundPX (stateAt mode 0 v) (channelNumber e) pair row column ≡ Coded k frame bit) same f in
-      ap (λ (k : Kind). bit_at (matrixOf mode X e) (cell_of k pair row column)) (sym (number_is mode o e))
+      let here = subst (λ (v : ℕ). found_px (state_at mode 0 v) (channel_number e) pair row column ≡ Coded k frame bit) same f in
+      ap (λ (k : Kind). bit_at (matrix_of mode X e) (cell_of k pair row column)) (sym (number_is mode o e))
       ∙ (S.coded-cell e 0 pair row column k frame bit (omega arith) here).1
-      ∙ ap (λ (x : Frames). codedOf (kind_of mode e) (frame_of x e) (frame * frameCoded (kind_of mode e) + bit)) (agree (t - k) (omega arith))
-      ∙ ap (λ (v : ℕ). codedOf (kind_of mode e) (frame_of (F (v - k)) e) (frame * frameCoded (kind_of mode e) + bit)) (sym same)
+      ∙ ap (λ (x : Frames). coded_of (kind_of mode e) (frame_of x e) (frame * frame_coded (kind_of mode e) + bit)) (agree (t - k) (omega arith))
+      ∙ ap (λ (v : ℕ). coded_of (kind_of mode e) (frame_of (F (v - k)) e) (frame * frame_coded (kind_of mode e) + bit)) (sym same)
 
   coded-located : (e : Extended) (u frame bit later pair row column : ℕ) → u + later ≡ t
-      → locatedPX (stateAt mode 0 u) (channelNumber e) frame bit ≡ AtPX later pair row column → Cell e u frame bit pair row column
+      → located_px (state_at mode 0 u) (channel_number e) frame bit ≡ AtPX later pair row column → Cell e u frame bit pair row column
   coded-located e u frame bit later pair row column same f =
-      ap (λ (k : Kind). bit_at (matrixOf mode X e) (cell_of k pair row column)) (sym (number_is mode o e))
-      ∙ ap (λ (v : ℕ). bit_at (matrixOf mode (matricesAt mode a v) e) (cell_of (kind_of mode e) pair row column)) (sym same)
+      ap (λ (k : Kind). bit_at (matrix_of mode X e) (cell_of k pair row column)) (sym (number_is mode o e))
+      ∙ ap (λ (v : ℕ). bit_at (matrix_of mode (matrices_at mode a v) e) (cell_of (kind_of mode e) pair row column)) (sym same)
       ∙ (located-sheets mode (older-main mode o) a u (omega arith)).coded-bit e 0 frame bit later pair row column (omega arith) f (omega arith)
-      ∙ ap (λ (x : Frames). codedOf (kind_of mode e) (frame_of x e) (frame * frameCoded (kind_of mode e) + bit)) (agree u (omega arith))
+      ∙ ap (λ (x : Frames). coded_of (kind_of mode e) (frame_of x e) (frame * frame_coded (kind_of mode e) + bit)) (agree u (omega arith))
 
   -- in PX1, and in PX2
-  px1-found : (u pair row column : ℕ) (f : FoundPx) → foundPX (stateAt mode 0 u) 3 pair row column ≡ f → Right (pxEntry mode 3 u pair row column f)
-  unfolding valueIn ofPM codedBit bit_of turn_of
+  px1-found : (u pair row column : ℕ) (f : FoundPx) → found_px (state_at mode 0 u) 3 pair row column ≡ f → Right (px_entry mode 3 u pair row column f)
+  unfolding value_in of_pm coded_bit bit_of turn_of
   px1-found u pair row column (Coded k frame bit) e q = coded-found P3 u pair row column k frame bit (sent-here u q) e
   px1-found u pair row column found-fill e q = refl
   px1-found u pair row column (px-refused r) e q = refl
 
-  px2-found : (u pair row column : ℕ) (f : FoundPx) → foundPX (stateAt mode 0 u) 4 pair row column ≡ f → Right (pxEntry mode 4 u pair row column f)
-  unfolding valueIn ofPM codedBit bit_of turn_of
+  px2-found : (u pair row column : ℕ) (f : FoundPx) → found_px (state_at mode 0 u) 4 pair row column ≡ f → Right (px_entry mode 4 u pair row column f)
+  unfolding value_in of_pm coded_bit bit_of turn_of
   px2-found u pair row column (Coded k frame bit) e q =
-      ap (λ (b : List ℕ). bit_at b (cell_of (kindOfNumber mode 4) pair row column)) (sym (px2-is mode o a t h)) ∙ coded-found P4 u pair row column k frame bit (sent-here u q) e
+      ap (λ (b : List ℕ). bit_at b (cell_of (kind_of_number mode 4) pair row column)) (sym (px2-is mode o a t h)) ∙ coded-found P4 u pair row column k frame bit (sent-here u q) e
   px2-found u pair row column found-fill e q = refl
   px2-found u pair row column (px-refused r) e q = refl
 
-  px1-located : (u frame bit : ℕ) (l : LocatedPx) → locatedPX (stateAt mode 0 u) 3 frame bit ≡ l → Right (pxPlaced mode 3 u frame bit l)
-  unfolding valueIn ofPM codedBit bit_of turn_of
+  px1-located : (u frame bit : ℕ) (l : LocatedPx) → located_px (state_at mode 0 u) 3 frame bit ≡ l → Right (px_placed mode 3 u frame bit l)
+  unfolding value_in of_pm coded_bit bit_of turn_of
   px1-located u frame bit (AtPX later pair row column) e q = coded-located P3 u frame bit later pair row column (sent-here (u + later) q) e
   px1-located u frame bit (not-located-px r) e q = refl
 
-  px2-located : (u frame bit : ℕ) (l : LocatedPx) → locatedPX (stateAt mode 0 u) 4 frame bit ≡ l → Right (pxPlaced mode 4 u frame bit l)
-  unfolding valueIn ofPM codedBit bit_of turn_of
+  px2-located : (u frame bit : ℕ) (l : LocatedPx) → located_px (state_at mode 0 u) 4 frame bit ≡ l → Right (px_placed mode 4 u frame bit l)
+  unfolding value_in of_pm coded_bit bit_of turn_of
   px2-located u frame bit (AtPX later pair row column) e q =
-      ap (λ (b : List ℕ). bit_at b (cell_of (kindOfNumber mode 4) pair row column)) (sym (px2-is mode o a t h))
+      ap (λ (b : List ℕ). bit_at b (cell_of (kind_of_number mode 4) pair row column)) (sym (px2-is mode o a t h))
       ∙ coded-located P4 u frame bit later pair row column (sent-here (u + later) q) e
   px2-located u frame bit (not-located-px r) e q = refl
 
   -- any other channel is refused
-  other-found : (c u pair row column : ℕ) → kindOfNumber mode c ≡ Unused → Right (pxEntry mode c u pair row column (foundPX (stateAt mode 0 u) c pair row column))
-  unfolding foundPX
-  other-found c u pair row column e = rw e (go (valid (stateAt mode 0 u)))
+  other-found : (c u pair row column : ℕ) → kind_of_number mode c ≡ Unused → Right (px_entry mode c u pair row column (found_px (state_at mode 0 u) c pair row column))
+  unfolding found_px
+  other-found c u pair row column e = rw e (go (valid (state_at mode 0 u)))
     where
-      go : (b : Bool) → Right (pxEntry mode c u pair row column (cond b (px-refused (WrongLength 0)) (px-refused StateNotValid)))
+      go : (b : Bool) → Right (px_entry mode c u pair row column (cond b (px-refused (WrongLength 0)) (px-refused StateNotValid)))
       go true = refused-right
       go false = refused-right
 
-  other-located : (c u frame bit : ℕ) → kindOfNumber mode c ≡ Unused → Right (pxPlaced mode c u frame bit (locatedPX (stateAt mode 0 u) c frame bit))
-  unfolding locatedPX
-  other-located c u frame bit e = rw e (go (valid (stateAt mode 0 u)))
+  other-located : (c u frame bit : ℕ) → kind_of_number mode c ≡ Unused → Right (px_placed mode c u frame bit (located_px (state_at mode 0 u) c frame bit))
+  unfolding located_px
+  other-located c u frame bit e = rw e (go (valid (state_at mode 0 u)))
     where
-      go : (b : Bool) → Right (pxPlaced mode c u frame bit (cond b (not-located-px (WrongLength 0)) (not-located-px StateNotValid)))
+      go : (b : Bool) → Right (px_placed mode c u frame bit (cond b (not-located-px (WrongLength 0)) (not-located-px StateNotValid)))
       go true = refused-right
       go false = refused-right
 
-  px-found : (u c pair row column : ℕ) → Right (pxEntry mode c u pair row column (foundPX (stateAt mode 0 u) c pair row column))
+  px-found : (u c pair row column : ℕ) → Right (px_entry mode c u pair row column (found_px (state_at mode 0 u) c pair row column))
   px-found u c pair row column =
-      by_number mode (λ (k : ℕ). Right (pxEntry mode k u pair row column (foundPX (stateAt mode 0 u) k pair row column)))
-      (px1-found u pair row column (foundPX (stateAt mode 0 u) 3 pair row column) refl)
-      (px2-found u pair row column (foundPX (stateAt mode 0 u) 4 pair row column) refl)
+      by_number mode (λ (k : ℕ). Right (px_entry mode k u pair row column (found_px (state_at mode 0 u) k pair row column)))
+      (px1-found u pair row column (found_px (state_at mode 0 u) 3 pair row column) refl)
+      (px2-found u pair row column (found_px (state_at mode 0 u) 4 pair row column) refl)
       (λ k e. other-found k u pair row column e) c
 
-  px-located : (u c frame bit : ℕ) → Right (pxPlaced mode c u frame bit (locatedPX (stateAt mode 0 u) c frame bit))
+  px-located : (u c frame bit : ℕ) → Right (px_placed mode c u frame bit (located_px (state_at mode 0 u) c frame bit))
   px-located u c frame bit =
-      by_number mode (λ (k : ℕ). Right (pxPlaced mode k u frame bit (locatedPX (stateAt mode 0 u) k frame bit)))
-      (px1-located u frame bit (locatedPX (stateAt mode 0 u) 3 frame bit) refl)
-      (px2-located u frame bit (locatedPX (stateAt mode 0 u) 4 frame bit) refl)
+      by_number mode (λ (k : ℕ). Right (px_placed mode k u frame bit (located_px (state_at mode 0 u) k frame bit)))
+      (px1-located u frame bit (located_px (state_at mode 0 u) 3 frame bit) refl)
+      (px2-located u frame bit (located_px (state_at mode 0 u) 4 frame bit) refl)
       (λ k e. other-located k u frame bit e) c
 
-  bit-right : (c u frame bit : ℕ) → Right (bitEntry mode c u frame bit)
-  unfolding bitEntry
+  bit-right : (c u frame bit : ℕ) → Right (bit_entry mode c u frame bit)
+  unfolding bit_entry
   bit-right c u frame bit = go (ltb c 3)
     where
       go : (b : Bool)
-          → Right (cond b (pmPlaced u c frame bit (located c frame bit)) (pxPlaced mode c u frame bit (locatedPX (stateAt mode 0 u) c frame bit)))
+          → Right (cond b (pm_placed u c frame bit (located c frame bit)) (px_placed mode c u frame bit (located_px (state_at mode 0 u) c frame bit)))
       go true = pm-located u c frame bit (located c frame bit) refl
       go false = px-located u c frame bit
 
@@ -238,12 +238,12 @@ module _ (mode : ℕ) (o : older mode ≡ true) (a : SenderRun mode) (t : ℕ) (
   if-sent true e r = r
   if-sent false e r = refused-right
 
-  asked-older : (q : Question) → Right (olderOf mode n q)
-  unfolding olderOf
-  asked-older (Pm u row column) = if-sent (ltb u n) (pmEntry u row column (found row column)) (pm-found u row column (found row column) refl)
+  asked-older : (q : Question) → Right (older_of mode n q)
+  unfolding older_of
+  asked-older (Pm u row column) = if-sent (ltb u n) (pm_entry u row column (found row column)) (pm-found u row column (found row column) refl)
   asked-older (Px u c pair row column) =
-      if-sent (ltb u n) (pxEntry mode c u pair row column (foundPX (stateAt mode 0 u) c pair row column)) (px-found u c pair row column)
-  asked-older (Bit u c frame bit) = if-sent (ltb u n) (bitEntry mode c u frame bit) (bit-right c u frame bit)
+      if-sent (ltb u n) (px_entry mode c u pair row column (found_px (state_at mode 0 u) c pair row column)) (px-found u c pair row column)
+  asked-older (Bit u c frame bit) = if-sent (ltb u n) (bit_entry mode c u frame bit) (bit-right c u frame bit)
   asked-older Wrong = refused-right
 
   pub asked-value : (q : Question) → Right (entry_of mode n q)

@@ -7,7 +7,7 @@ use native.Mathlib.Omega.{arith}
 use lib.Dec.{ltb}
 use lib.ListN.{length-replicate, replicate}
 use Rattle.bits.specs.Bits.{bit_at}
-use Rattle.interleaving.specs.Matrix.{positionAt}
+use Rattle.interleaving.specs.Matrix.{position_at}
 use Rattle.interleaving.specs.declared.Position.{Position}
 use Rattle.runs.specs.declared.Answer.TheVariants.{StateNotValid, WrongLength}
 use Rattle.runs.specs.declared.Extended.{Extended}
@@ -15,29 +15,29 @@ use Rattle.runs.specs.declared.Extended.TheVariants.{P3, P4}
 use Rattle.runs.specs.declared.Kind.{Kind}
 use Rattle.runs.specs.declared.Kind.TheVariants.{Unused, Narrow, Wide}
 use Rattle.runs.specs.declared.State.{State}
-use Rattle.runs.specs.Lengths.{frameBits, frameLen, kind_of}
-use Rattle.runs.specs.Lent.{Frames, Matrices, filled, frame_of, matrixOf, orZeros}
-use Rattle.runs.specs.Runs.{SenderRun, count, frame_at, matricesAt}
-use Rattle.runs.specs.Starting.{stateAt, valid}
+use Rattle.runs.specs.Lengths.{frame_bits, frame_len, kind_of}
+use Rattle.runs.specs.Lent.{Frames, Matrices, filled, frame_of, matrix_of, or_zeros}
+use Rattle.runs.specs.Runs.{SenderRun, count, frame_at, matrices_at}
+use Rattle.runs.specs.Starting.{state_at, valid}
 use Rattle.runs.proofs.Filled.{or-zeros-right}
 use Rattle.queries.specs.declared.finder.Found.{Found}
 use Rattle.queries.specs.declared.finder.Found.TheVariants.{P1 as found-p1, Pids as found-pids, Refused as pm-refused}
 use Rattle.queries.specs.declared.finder_px.FoundPx.{FoundPx}
 use Rattle.queries.specs.declared.finder_px.FoundPx.TheVariants.{Coded, Fill as found-fill, Refused as px-refused}
 use Rattle.queries.specs.Finder.{found}
-use Rattle.queries.specs.FinderPX.{cell_of, foundPX, kindOfNumber}
-use Rattle.queries.specs.Sheets.{channelNumber}
+use Rattle.queries.specs.FinderPX.{cell_of, found_px, kind_of_number}
+use Rattle.queries.specs.Sheets.{channel_number}
 use Rattle.locating.specs.declared.locator.Located.{Located}
 use Rattle.locating.specs.declared.locator.Located.TheVariants.{At, Refused as not-located}
 use Rattle.locating.specs.declared.locator_px.LocatedPx.{LocatedPx}
 use Rattle.locating.specs.declared.locator_px.LocatedPx.TheVariants.{At as AtPX, Refused as not-located-px}
-use Rattle.locating.specs.BothWays.{locatedAgain}
+use Rattle.locating.specs.BothWays.{located_again}
 use Rattle.locating.specs.Locator.{located}
-use Rattle.locating.specs.LocatorPX.{locatedPX}
+use Rattle.locating.specs.LocatorPX.{located_px}
 use Rattle.locating.proofs.AgainPM.{both_ways}
 use Rattle.locating.proofs.AgainPX.{both-ways-px}
-use Rattle.sheetlines.specs.Entries.{entry_of, inPM, ofPM, pmPlaced}
-use Rattle.sheetlines.specs.Older.{bitEntry, olderOf, pmEntry, pxEntry, pxPlaced}
+use Rattle.sheetlines.specs.Entries.{entry_of, in_pm, of_pm, pm_placed}
+use Rattle.sheetlines.specs.Older.{bit_entry, older_of, pm_entry, px_entry, px_placed}
 use Rattle.sheetlines.specs.declared.questions.Question.{Question}
 use Rattle.sheetlines.specs.declared.questions.Question.TheVariants.{Bit, Pm, Px, Wrong}
 use Rattle.sheetlines.specs.declared.entries.CodedBit.{CodedBit}
@@ -45,13 +45,13 @@ use Rattle.sheetlines.specs.declared.entries.Entry.{Entry}
 use Rattle.sheetlines.specs.declared.entries.Entry.TheVariants.{Stands, Fill, Zeros, Refused}
 use Rattle.sheetlines.proofs.Ranges.{by-channel, p1-in-range, pids-in-range}
 use Rattle.sheetlines.proofs.Older.{as-older}
-use Rattle.sheettext.specs.Texts.{valueIn}
+use Rattle.sheettext.specs.Texts.{value_in}
 use Rattle.sheetinputs.specs.Inputs.{older}
 use Rattle.sheetinputs.proofs.Older.{older-covered, older-main}
-use Rattle.sheetworks.specs.Works.{channelIn}
+use Rattle.sheetworks.specs.Works.{channel_in}
 use Rattle.workings.specs.declared.Worked.{Worked}
 use Rattle.workings.specs.Sheets.{ComesTo}
-use Rattle.workings.specs.Shown.{bits_of, framesOf, meant, worked, workedOf}
+use Rattle.workings.specs.Shown.{bits_of, frames_of, meant, worked, worked_of}
 use Rattle.workings.proofs.Explained.{explained}
 use Rattle.workings.proofs.Sheets.{worked-sheets}
 use Rattle.idealsheets.specs.Ideal.{SumsTo}
@@ -62,165 +62,165 @@ sums-to bit cell s number frames frame m c = (c.success, sym (explained s number
 
 -- ---- nothing lent for P3 or P4
 
-or-zeros-twice : (n : ℕ) (b : List ℕ) → orZeros n (orZeros n b) ≡ orZeros n b
+or-zeros-twice : (n : ℕ) (b : List ℕ) → or_zeros n (or_zeros n b) ≡ or_zeros n b
 or-zeros-twice n [] = or-zeros-right n (replicate n 0) (length-replicate {A = ℕ} n 0)
 or-zeros-twice n (x ∷ b) = refl
 
-bytes-are : (k : Kind) → frameLen k ≡ 8 * frameBits k / 8
+bytes-are : (k : Kind) → frame_len k ≡ 8 * frame_bits k / 8
 bytes-are Unused = refl
 bytes-are Narrow = refl
 bytes-are Wide = refl
 
 meant-filled : (mode : ℕ) → older mode ≡ true → (e : Extended) (b : List ℕ)
-    → meant mode (channelNumber e) (orZeros (frameLen (kind_of mode e)) b) ≡ meant mode (channelNumber e) b
-unfolding meant framesOf bits_of
+    → meant mode (channel_number e) (or_zeros (frame_len (kind_of mode e)) b) ≡ meant mode (channel_number e) b
+unfolding meant frames_of bits_of
 meant-filled mode o P3 b =
-    let q : frameLen (kind_of mode P3) ≡ 8 * frameBits (kindOfNumber mode 3) / 8 = bytes-are (kind_of mode P3) ∙ ap (λ (k : Kind). 8 * frameBits k / 8) (number_is mode o P3) in
-    ap (λ (n : ℕ). orZeros (8 * frameBits (kindOfNumber mode 3) / 8) (orZeros n b)) q ∙ or-zeros-twice (8 * frameBits (kindOfNumber mode 3) / 8) b
+    let q : frame_len (kind_of mode P3) ≡ 8 * frame_bits (kind_of_number mode 3) / 8 = bytes-are (kind_of mode P3) ∙ ap (λ (k : Kind). 8 * frame_bits k / 8) (number_is mode o P3) in
+    ap (λ (n : ℕ). or_zeros (8 * frame_bits (kind_of_number mode 3) / 8) (or_zeros n b)) q ∙ or-zeros-twice (8 * frame_bits (kind_of_number mode 3) / 8) b
 meant-filled mode o P4 b =
-    let q : frameLen (kind_of mode P4) ≡ 8 * frameBits (kindOfNumber mode 4) / 8 = bytes-are (kind_of mode P4) ∙ ap (λ (k : Kind). 8 * frameBits k / 8) (number_is mode o P4) in
-    ap (λ (n : ℕ). orZeros (8 * frameBits (kindOfNumber mode 4) / 8) (orZeros n b)) q ∙ or-zeros-twice (8 * frameBits (kindOfNumber mode 4) / 8) b
+    let q : frame_len (kind_of mode P4) ≡ 8 * frame_bits (kind_of_number mode 4) / 8 = bytes-are (kind_of mode P4) ∙ ap (λ (k : Kind). 8 * frame_bits k / 8) (number_is mode o P4) in
+    ap (λ (n : ℕ). or_zeros (8 * frame_bits (kind_of_number mode 4) / 8) (or_zeros n b)) q ∙ or-zeros-twice (8 * frame_bits (kind_of_number mode 4) / 8) b
 
 -- ---- L1 frame t of the run, whose transfer frames are these where nothing means zeros
 module _ (mode : ℕ) (o : older mode ≡ true) (a : SenderRun mode) (t : ℕ) (h : t < count mode a) (G : ℕ → Frames)
     (agree : (u : ℕ) → u ≤ t → frame_at mode a u ≡ filled mode (G u)) where
   abbrev pub X : Matrices
-  X = matricesAt mode a t
+  X = matrices_at mode a t
 
   -- the working of a coded bit
-  abbrev pub workingIn : CodedBit → Worked
-  workingIn coded = worked (stateAt mode 0 coded.from) coded.channel (channelIn (G coded.from) coded.channel) coded.frame coded.bit
+  abbrev pub working_in : CodedBit → Worked
+  working_in coded = worked (state_at mode 0 coded.from) coded.channel (channel_in (G coded.from) coded.channel) coded.frame coded.bit
 
   -- an answer of this L1 frame
   abbrev pub Comes : Entry → Type 0
-  Comes (Stands coded cell) = cell.sent ≡ t → SumsTo (valueIn X (Stands coded cell)) (workingIn coded)
+  Comes (Stands coded cell) = cell.sent ≡ t → SumsTo (value_in X (Stands coded cell)) (working_in coded)
   Comes (Fill sent) = Unit {0}
   Comes (Zeros sent) = Unit {0}
   Comes Refused = Unit {0}
 
   -- ---- PM
 
-  p1-sums : (bit row column : ℕ) (p : Position) → located 1 0 bit ≡ At p row column → Comes (inPM t 1 0 bit row column)
-  unfolding valueIn ofPM channelIn filled
+  p1-sums : (bit row column : ℕ) (p : Position) → located 1 0 bit ≡ At p row column → Comes (in_pm t 1 0 bit row column)
+  unfolding value_in of_pm channel_in filled
   p1-sums bit row column p e q =
       let c = (worked-sheets mode (older-main mode o) a t h).p1-bit 0 bit row column p (omega arith) e in
-      subst (λ (f : Frames). SumsTo (bit_at X.pm (row * 720 + column)) (worked (stateAt mode 0 t) 1 f.p1 0 bit)) (agree t (omega arith)) (sums-to _ _ (stateAt mode 0 t) 1 (frame_at mode a t).p1 0 bit c)
+      subst (λ (f : Frames). SumsTo (bit_at X.pm (row * 720 + column)) (worked (state_at mode 0 t) 1 f.p1 0 bit)) (agree t (omega arith)) (sums-to _ _ (state_at mode 0 t) 1 (frame_at mode a t).p1 0 bit c)
 
-  pids-sums : (frame bit row column : ℕ) (p : Position) → located 2 frame bit ≡ At p row column → Comes (inPM t 2 frame bit row column)
-  unfolding valueIn ofPM channelIn filled
+  pids-sums : (frame bit row column : ℕ) (p : Position) → located 2 frame bit ≡ At p row column → Comes (in_pm t 2 frame bit row column)
+  unfolding value_in of_pm channel_in filled
   pids-sums frame bit row column p e q =
       let c = (worked-sheets mode (older-main mode o) a t h).pids-bit 0 frame bit row column p (omega arith) e in
-      subst (λ (f : Frames). SumsTo (bit_at X.pm (row * 720 + column)) (worked (stateAt mode 0 t) 2 f.pids frame bit)) (agree t (omega arith)) (sums-to _ _ (stateAt mode 0 t) 2 (frame_at mode a t).pids frame bit c)
+      subst (λ (f : Frames). SumsTo (bit_at X.pm (row * 720 + column)) (worked (state_at mode 0 t) 2 f.pids frame bit)) (agree t (omega arith)) (sums-to _ _ (state_at mode 0 t) 2 (frame_at mode a t).pids frame bit c)
 
-  back : (row column : ℕ) (f : Found) → found row column ≡ f → (row < 512) × (column < 720) → locatedAgain f ≡ At (positionAt 36 row column) row column
-  back row column f e (r, c) = ap locatedAgain (sym e) ∙ both_ways.back row column r c
+  back : (row column : ℕ) (f : Found) → found row column ≡ f → (row < 512) × (column < 720) → located_again f ≡ At (position_at 36 row column) row column
+  back row column f e (r, c) = ap located_again (sym e) ∙ both_ways.back row column r c
 
   here : (P : ℕ → Type 0) (u : ℕ) → u ≡ t → P t → P u
   here P u e p = subst P (sym e) p
 
-  pm-found : (u row column : ℕ) (f : Found) → found row column ≡ f → Comes (pmEntry u row column f)
+  pm-found : (u row column : ℕ) (f : Found) → found row column ≡ f → Comes (pm_entry u row column f)
   pm-found u row column (found-p1 bit) e = λ q.
-      here (λ (v : ℕ). v ≡ t → SumsTo (valueIn X (inPM v 1 0 bit row column)) (workingIn (record { channel = 1; from = v; frame = 0; bit = bit }))) u q
+      here (λ (v : ℕ). v ≡ t → SumsTo (value_in X (in_pm v 1 0 bit row column)) (working_in (record { channel = 1; from = v; frame = 0; bit = bit }))) u q
       (p1-sums bit row column _ (back row column (found-p1 bit) e (p1-in-range row column bit e))) q
   pm-found u row column (found-pids frame bit) e = λ q.
-      here (λ (v : ℕ). v ≡ t → SumsTo (valueIn X (inPM v 2 frame bit row column)) (workingIn (record { channel = 2; from = v; frame = frame; bit = bit }))) u q
+      here (λ (v : ℕ). v ≡ t → SumsTo (value_in X (in_pm v 2 frame bit row column)) (working_in (record { channel = 2; from = v; frame = frame; bit = bit }))) u q
       (pids-sums frame bit row column _ (back row column (found-pids frame bit) e (pids-in-range row column frame bit e))) q
   pm-found u row column (pm-refused r) e = tt
 
-  pm-located : (u c frame bit : ℕ) (l : Located) → located c frame bit ≡ l → Comes (pmPlaced u c frame bit l)
+  pm-located : (u c frame bit : ℕ) (l : Located) → located c frame bit ≡ l → Comes (pm_placed u c frame bit l)
   pm-located u c frame bit (At p row column) e = λ q.
-      here (λ (v : ℕ). v ≡ t → SumsTo (valueIn X (inPM v c frame bit row column)) (workingIn (record { channel = c; from = v; frame = frame; bit = bit }))) u q
-      (by-channel (λ (k f : ℕ). Comes (inPM t k f bit row column)) bit row column p (λ d. p1-sums bit row column p d) (λ f d. pids-sums f bit row column p d) c frame e) q
+      here (λ (v : ℕ). v ≡ t → SumsTo (value_in X (in_pm v c frame bit row column)) (working_in (record { channel = c; from = v; frame = frame; bit = bit }))) u q
+      (by-channel (λ (k f : ℕ). Comes (in_pm t k f bit row column)) bit row column p (λ d. p1-sums bit row column p d) (λ f d. pids-sums f bit row column p d) c frame e) q
   pm-located u c frame bit (not-located r) e = tt
 
   -- ---- PX
 
-  px-sums : (e : Extended) (from later frame bit pair row column : ℕ) → from + later ≡ t → locatedPX (stateAt mode 0 from) (channelNumber e) frame bit ≡ AtPX later pair row column
-      → SumsTo (bit_at (matrixOf mode X e) (cell_of (kindOfNumber mode (channelNumber e)) pair row column)) (worked (stateAt mode 0 from) (channelNumber e) (frame_of (G from) e) frame bit)
+  px-sums : (e : Extended) (from later frame bit pair row column : ℕ) → from + later ≡ t → located_px (state_at mode 0 from) (channel_number e) frame bit ≡ AtPX later pair row column
+      → SumsTo (bit_at (matrix_of mode X e) (cell_of (kind_of_number mode (channel_number e)) pair row column)) (worked (state_at mode 0 from) (channel_number e) (frame_of (G from) e) frame bit)
   unfolding worked filled
   px-sums e from later frame bit pair row column same f =
       let c = (worked-sheets mode (older-main mode o) a from (omega arith)).coded-bit e 0 frame bit later pair row column (omega arith) f (omega arith) in
-      let s = sums-to _ _ (stateAt mode 0 from) (channelNumber e) (frame_of (frame_at mode a from) e) frame bit c in
-      let cell = subst (λ (v : ℕ). SumsTo (bit_at (matrixOf mode (matricesAt mode a v) e) (cell_of (kind_of mode e) pair row column)) (worked (stateAt mode 0 from) (channelNumber e) (frame_of (frame_at mode a from) e) frame bit)) same s in
-      let named = subst (λ (k : Kind). SumsTo (bit_at (matrixOf mode X e) (cell_of k pair row column)) (worked (stateAt mode 0 from) (channelNumber e) (frame_of (frame_at mode a from) e) frame bit)) (number_is mode o e) cell in
-      subst (λ (l : List ℕ). SumsTo (bit_at (matrixOf mode X e) (cell_of (kindOfNumber mode (channelNumber e)) pair row column)) (workedOf (stateAt mode 0 from) (channelNumber e) l frame bit))
-      (ap (λ (x : Frames). meant mode (channelNumber e) (frame_of x e)) (agree from (omega arith)) ∙ meant-of e)
+      let s = sums-to _ _ (state_at mode 0 from) (channel_number e) (frame_of (frame_at mode a from) e) frame bit c in
+      let cell = subst (λ (v : ℕ). SumsTo (bit_at (matrix_of mode (matrices_at mode a v) e) (cell_of (kind_of mode e) pair row column)) (worked (state_at mode 0 from) (channel_number e) (frame_of (frame_at mode a from) e) frame bit)) same s in
+      let named = subst (λ (k : Kind). SumsTo (bit_at (matrix_of mode X e) (cell_of k pair row column)) (worked (state_at mode 0 from) (channel_number e) (frame_of (frame_at mode a from) e) frame bit)) (number_is mode o e) cell in
+      subst (λ (l : List ℕ). SumsTo (bit_at (matrix_of mode X e) (cell_of (kind_of_number mode (channel_number e)) pair row column)) (worked_of (state_at mode 0 from) (channel_number e) l frame bit))
+      (ap (λ (x : Frames). meant mode (channel_number e) (frame_of x e)) (agree from (omega arith)) ∙ meant-of e)
       named
     where
-      meant-of : (e : Extended) → meant mode (channelNumber e) (frame_of (filled mode (G from)) e) ≡ meant mode (channelNumber e) (frame_of (G from) e)
+      meant-of : (e : Extended) → meant mode (channel_number e) (frame_of (filled mode (G from)) e) ≡ meant mode (channel_number e) (frame_of (G from) e)
       meant-of P3 = meant-filled mode o P3 (G from).p3
       meant-of P4 = meant-filled mode o P4 (G from).p4
 
-  px-back : (e : Extended) (u pair row column k frame bit : ℕ) → u ≡ t → foundPX (stateAt mode 0 u) (channelNumber e) pair row column ≡ Coded k frame bit
-      → SumsTo (bit_at (matrixOf mode X e) (cell_of (kindOfNumber mode (channelNumber e)) pair row column)) (worked (stateAt mode 0 (u - k)) (channelNumber e) (frame_of (G (u - k)) e) frame bit)
+  px-back : (e : Extended) (u pair row column k frame bit : ℕ) → u ≡ t → found_px (state_at mode 0 u) (channel_number e) pair row column ≡ Coded k frame bit
+      → SumsTo (bit_at (matrix_of mode X e) (cell_of (kind_of_number mode (channel_number e)) pair row column)) (worked (state_at mode 0 (u - k)) (channel_number e) (frame_of (G (u - k)) e) frame bit)
   px-back e u pair row column k frame bit same f =
       let (l, g) = (both-ways-px mode (older-covered mode o) (older-main mode o) e).back 0 0 u pair row column k frame bit (omega arith) (omega arith) f in
       px-sums e (u - k) k frame bit pair row column (omega arith) g
 
-  in-px2 : (cell : ℕ) (w : Worked) → SumsTo (bit_at (matrixOf mode X P4) cell) w → SumsTo (bit_at X.px2 cell) w
+  in-px2 : (cell : ℕ) (w : Worked) → SumsTo (bit_at (matrix_of mode X P4) cell) w → SumsTo (bit_at X.px2 cell) w
   in-px2 cell w s = subst (λ (b : List ℕ). SumsTo (bit_at b cell) w) (px2-is mode o a t h) s
 
-  px1-found : (u pair row column : ℕ) (f : FoundPx) → foundPX (stateAt mode 0 u) 3 pair row column ≡ f → Comes (pxEntry mode 3 u pair row column f)
-  unfolding valueIn ofPM channelIn
+  px1-found : (u pair row column : ℕ) (f : FoundPx) → found_px (state_at mode 0 u) 3 pair row column ≡ f → Comes (px_entry mode 3 u pair row column f)
+  unfolding value_in of_pm channel_in
   px1-found u pair row column (Coded k frame bit) e = λ q. px-back P3 u pair row column k frame bit q e
   px1-found u pair row column found-fill e = tt
   px1-found u pair row column (px-refused r) e = tt
 
-  px2-found : (u pair row column : ℕ) (f : FoundPx) → foundPX (stateAt mode 0 u) 4 pair row column ≡ f → Comes (pxEntry mode 4 u pair row column f)
-  unfolding valueIn ofPM channelIn
+  px2-found : (u pair row column : ℕ) (f : FoundPx) → found_px (state_at mode 0 u) 4 pair row column ≡ f → Comes (px_entry mode 4 u pair row column f)
+  unfolding value_in of_pm channel_in
   px2-found u pair row column (Coded k frame bit) e = λ q.
-      in-px2 _ (worked (stateAt mode 0 (u - k)) 4 (G (u - k)).p4 frame bit) (px-back P4 u pair row column k frame bit q e)
+      in-px2 _ (worked (state_at mode 0 (u - k)) 4 (G (u - k)).p4 frame bit) (px-back P4 u pair row column k frame bit q e)
   px2-found u pair row column found-fill e = tt
   px2-found u pair row column (px-refused r) e = tt
 
-  px1-located : (u frame bit : ℕ) (l : LocatedPx) → locatedPX (stateAt mode 0 u) 3 frame bit ≡ l → Comes (pxPlaced mode 3 u frame bit l)
-  unfolding valueIn ofPM channelIn
+  px1-located : (u frame bit : ℕ) (l : LocatedPx) → located_px (state_at mode 0 u) 3 frame bit ≡ l → Comes (px_placed mode 3 u frame bit l)
+  unfolding value_in of_pm channel_in
   px1-located u frame bit (AtPX later pair row column) e = λ q. px-sums P3 u later frame bit pair row column q e
   px1-located u frame bit (not-located-px r) e = tt
 
-  px2-located : (u frame bit : ℕ) (l : LocatedPx) → locatedPX (stateAt mode 0 u) 4 frame bit ≡ l → Comes (pxPlaced mode 4 u frame bit l)
-  unfolding valueIn ofPM channelIn
+  px2-located : (u frame bit : ℕ) (l : LocatedPx) → located_px (state_at mode 0 u) 4 frame bit ≡ l → Comes (px_placed mode 4 u frame bit l)
+  unfolding value_in of_pm channel_in
   px2-located u frame bit (AtPX later pair row column) e = λ q.
-      in-px2 _ (worked (stateAt mode 0 u) 4 (G u).p4 frame bit) (px-sums P4 u later frame bit pair row column q e)
+      in-px2 _ (worked (state_at mode 0 u) 4 (G u).p4 frame bit) (px-sums P4 u later frame bit pair row column q e)
   px2-located u frame bit (not-located-px r) e = tt
 
   -- any other channel is refused
-  other-found : (c u pair row column : ℕ) → kindOfNumber mode c ≡ Unused → Comes (pxEntry mode c u pair row column (foundPX (stateAt mode 0 u) c pair row column))
-  unfolding foundPX
-  other-found c u pair row column e = rw e (go (valid (stateAt mode 0 u)))
+  other-found : (c u pair row column : ℕ) → kind_of_number mode c ≡ Unused → Comes (px_entry mode c u pair row column (found_px (state_at mode 0 u) c pair row column))
+  unfolding found_px
+  other-found c u pair row column e = rw e (go (valid (state_at mode 0 u)))
     where
-      go : (b : Bool) → Comes (pxEntry mode c u pair row column (cond b (px-refused (WrongLength 0)) (px-refused StateNotValid)))
+      go : (b : Bool) → Comes (px_entry mode c u pair row column (cond b (px-refused (WrongLength 0)) (px-refused StateNotValid)))
       go true = tt
       go false = tt
 
-  other-located : (c u frame bit : ℕ) → kindOfNumber mode c ≡ Unused → Comes (pxPlaced mode c u frame bit (locatedPX (stateAt mode 0 u) c frame bit))
-  unfolding locatedPX
-  other-located c u frame bit e = rw e (go (valid (stateAt mode 0 u)))
+  other-located : (c u frame bit : ℕ) → kind_of_number mode c ≡ Unused → Comes (px_placed mode c u frame bit (located_px (state_at mode 0 u) c frame bit))
+  unfolding located_px
+  other-located c u frame bit e = rw e (go (valid (state_at mode 0 u)))
     where
-      go : (b : Bool) → Comes (pxPlaced mode c u frame bit (cond b (not-located-px (WrongLength 0)) (not-located-px StateNotValid)))
+      go : (b : Bool) → Comes (px_placed mode c u frame bit (cond b (not-located-px (WrongLength 0)) (not-located-px StateNotValid)))
       go true = tt
       go false = tt
 
-  px-found : (u c pair row column : ℕ) → Comes (pxEntry mode c u pair row column (foundPX (stateAt mode 0 u) c pair row column))
+  px-found : (u c pair row column : ℕ) → Comes (px_entry mode c u pair row column (found_px (state_at mode 0 u) c pair row column))
   px-found u c pair row column =
-      by_number mode (λ (k : ℕ). Comes (pxEntry mode k u pair row column (foundPX (stateAt mode 0 u) k pair row column)))
-      (px1-found u pair row column (foundPX (stateAt mode 0 u) 3 pair row column) refl)
-      (px2-found u pair row column (foundPX (stateAt mode 0 u) 4 pair row column) refl)
+      by_number mode (λ (k : ℕ). Comes (px_entry mode k u pair row column (found_px (state_at mode 0 u) k pair row column)))
+      (px1-found u pair row column (found_px (state_at mode 0 u) 3 pair row column) refl)
+      (px2-found u pair row column (found_px (state_at mode 0 u) 4 pair row column) refl)
       (λ k e. other-found k u pair row column e) c
 
-  px-located : (u c frame bit : ℕ) → Comes (pxPlaced mode c u frame bit (locatedPX (stateAt mode 0 u) c frame bit))
+  px-located : (u c frame bit : ℕ) → Comes (px_placed mode c u frame bit (located_px (state_at mode 0 u) c frame bit))
   px-located u c frame bit =
-      by_number mode (λ (k : ℕ). Comes (pxPlaced mode k u frame bit (locatedPX (stateAt mode 0 u) k frame bit)))
-      (px1-located u frame bit (locatedPX (stateAt mode 0 u) 3 frame bit) refl)
-      (px2-located u frame bit (locatedPX (stateAt mode 0 u) 4 frame bit) refl)
+      by_number mode (λ (k : ℕ). Comes (px_placed mode k u frame bit (located_px (state_at mode 0 u) k frame bit)))
+      (px1-located u frame bit (located_px (state_at mode 0 u) 3 frame bit) refl)
+      (px2-located u frame bit (located_px (state_at mode 0 u) 4 frame bit) refl)
       (λ k e. other-located k u frame bit e) c
 
-  bit-comes : (c u frame bit : ℕ) → Comes (bitEntry mode c u frame bit)
-  unfolding bitEntry
+  bit-comes : (c u frame bit : ℕ) → Comes (bit_entry mode c u frame bit)
+  unfolding bit_entry
   bit-comes c u frame bit = go (ltb c 3)
     where
       go : (b : Bool)
-          → Comes (cond b (pmPlaced u c frame bit (located c frame bit)) (pxPlaced mode c u frame bit (locatedPX (stateAt mode 0 u) c frame bit)))
+          → Comes (cond b (pm_placed u c frame bit (located c frame bit)) (px_placed mode c u frame bit (located_px (state_at mode 0 u) c frame bit)))
       go true = pm-located u c frame bit (located c frame bit) refl
       go false = px-located u c frame bit
 
@@ -228,12 +228,12 @@ module _ (mode : ℕ) (o : older mode ≡ true) (a : SenderRun mode) (t : ℕ) (
   if-sent true e r = r
   if-sent false e r = tt
 
-  comes-older : (n : ℕ) (q : Question) → Comes (olderOf mode n q)
-  unfolding olderOf
-  comes-older n (Pm u row column) = if-sent (ltb u n) (pmEntry u row column (found row column)) (pm-found u row column (found row column) refl)
+  comes-older : (n : ℕ) (q : Question) → Comes (older_of mode n q)
+  unfolding older_of
+  comes-older n (Pm u row column) = if-sent (ltb u n) (pm_entry u row column (found row column)) (pm-found u row column (found row column) refl)
   comes-older n (Px u c pair row column) =
-      if-sent (ltb u n) (pxEntry mode c u pair row column (foundPX (stateAt mode 0 u) c pair row column)) (px-found u c pair row column)
-  comes-older n (Bit u c frame bit) = if-sent (ltb u n) (bitEntry mode c u frame bit) (bit-comes c u frame bit)
+      if-sent (ltb u n) (px_entry mode c u pair row column (found_px (state_at mode 0 u) c pair row column)) (px-found u c pair row column)
+  comes-older n (Bit u c frame bit) = if-sent (ltb u n) (bit_entry mode c u frame bit) (bit-comes c u frame bit)
   comes-older n Wrong = tt
 
   pub asked-comes : (n : ℕ) (q : Question) → Comes (entry_of mode n q)

@@ -7,11 +7,11 @@ use native.Mathlib.Nat.{div-add-mod', le-div_iff_mul-le, mod-eq_of_lt, mod-lt}
 use native.Mathlib.Omega.{arith}
 use lib.Dec.{ltb}
 use borrow.Author.Tests.{lt-ltb, le-ltb}
-use Rattle.interleaving.specs.PX.{codedBits, cells, step_of, place, later, unreached}
-use Rattle.interleaving.specs.FinderPX.{source, since, origin, earlier, codedBit}
+use Rattle.interleaving.specs.PX.{coded_bits, cells, step_of, place, later, unreached}
+use Rattle.interleaving.specs.FinderPX.{source, since, origin, earlier, coded_bit}
 use Rattle.interleaving.proofs.Mod.{mod-of, div-of, quotient-lt}
 use Rattle.interleaving.proofs.OncePX.{px-each-once}
-use Rattle.interleaving.proofs.Steps.{stepOf-lt, unreached-is}
+use Rattle.interleaving.proofs.Steps.{step_of-lt, unreached-is}
 
 -- the step s wrote the cell that bit c of an L1 frame of N bits reads, w steps before: o is the bit that it wrote, counted from the L1 frame two earlier
 module _ (N half c s w o : ℕ) where
@@ -84,8 +84,8 @@ late N (suc zero) c s o lh lc l e =
 late N (suc (suc half)) c s o lh lc l e = absurd (omega arith)
 
 -- the coded bit that the finder names stands in the cell c of the matrix so many L1 frames later; `later` counts from the matrix of its own L1 frame
-module _ (kind half c : ℕ) (hk : kind < 2) (lh : half < 2) (lc : c < codedBits kind) where
-  all : cells kind ≡ 2 * codedBits kind
+module _ (kind half c : ℕ) (hk : kind < 2) (lh : half < 2) (lc : c < coded_bits kind) where
+  all : cells kind ≡ 2 * coded_bits kind
   all = omega arith
 
   i : ℕ
@@ -93,25 +93,25 @@ module _ (kind half c : ℕ) (hk : kind < 2) (lh : half < 2) (lc : c < codedBits
 
   below : i < cells kind
   unfolding i
-  below = stepOf-lt kind half c lh lc
+  below = step_of-lt kind half c lh lc
 
-  found : Named (codedBits kind) half c (source kind i) (since kind i) (origin kind half c)
+  found : Named (coded_bits kind) half c (source kind i) (since kind i) (origin kind half c)
   unfolding since origin i
-  found = named-is (codedBits kind) half c _ _ lh lc (omega (arith, (px-each-once kind hk).back i below)) (ap (λ n. (i + n - source kind i) % n) all)
+  found = named-is (coded_bits kind) half c _ _ lh lc (omega (arith, (px-each-once kind hk).back i below)) (ap (λ n. (i + n - source kind i) % n) all)
 
-  pub bit-lt : codedBit kind half c < codedBits kind
+  pub bit-lt : coded_bit kind half c < coded_bits kind
   unfolding Named
   bit-lt = found.0
 
   pub earlier-le : earlier kind half c ≤ 2
   earlier-le = omega arith
 
-  pub stands-later : later kind ((half + earlier kind half c) % 2) (codedBit kind half c) ≡ earlier kind half c * codedBits kind + c
+  pub stands-later : later kind ((half + earlier kind half c) % 2) (coded_bit kind half c) ≡ earlier kind half c * coded_bits kind + c
   unfolding Named later since i
   stands-later =
       let (l, step, apart) = found in
-      ap (λ (s : ℕ). codedBit kind half c + (place kind s + cells kind - s) % cells kind) step
-      ∙ ap (λ (p : ℕ). codedBit kind half c + (p + cells kind - source kind i) % cells kind) ((px-each-once kind hk).back-there i below)
+      ap (λ (s : ℕ). coded_bit kind half c + (place kind s + cells kind - s) % cells kind) step
+      ∙ ap (λ (p : ℕ). coded_bit kind half c + (p + cells kind - source kind i) % cells kind) ((px-each-once kind hk).back-there i below)
       ∙ apart
 
   -- where its step comes before the one that writes the cell, and where not
@@ -123,7 +123,7 @@ module _ (kind half c : ℕ) (hk : kind < 2) (lh : half < 2) (lc : c < codedBits
       rw (mod-eq_of_lt r) (omega (arith, below))
 
   pub origin-behind : source kind (step_of kind half c) ≤ step_of kind half c
-      → origin kind half c ≡ 2 * codedBits kind + c - (step_of kind half c - source kind (step_of kind half c))
+      → origin kind half c ≡ 2 * coded_bits kind + c - (step_of kind half c - source kind (step_of kind half c))
   unfolding origin since i
   origin-behind h =
       rw (mod-of (cells kind) 1 (step_of kind half c - source kind (step_of kind half c)) (step_of kind half c + cells kind - source kind (step_of kind half c))
@@ -137,7 +137,7 @@ module _ (kind half c : ℕ) (hk : kind < 2) (lh : half < 2) (lc : c < codedBits
       go : Dec (step_of kind half c < source kind (step_of kind half c)) → ltb (step_of kind half c) (source kind (step_of kind half c)) ≡ ltb half (earlier kind half c)
       go (yes l) =
           lt-ltb _ _ l
-          ∙ sym (lt-ltb _ _ (early (codedBits kind) half c _ _ lh lc (omega (arith, (px-each-once kind hk).back (step_of kind half c) below)) l (origin-around l)))
+          ∙ sym (lt-ltb _ _ (early (coded_bits kind) half c _ _ lh lc (omega (arith, (px-each-once kind hk).back (step_of kind half c) below)) l (origin-around l)))
       go (no l) =
           let b : source kind (step_of kind half c) ≤ step_of kind half c = omega arith in
-          le-ltb _ _ b ∙ sym (le-ltb _ _ (late (codedBits kind) half c _ _ lh lc b (origin-behind b)))
+          le-ltb _ _ b ∙ sym (le-ltb _ _ (late (coded_bits kind) half c _ _ lh lc b (origin-behind b)))

@@ -9,23 +9,23 @@ use Rattle.bits.specs.Once.{EachOnce, Below}
 abbrev pub in_turn : ℕ → (ℕ → ℕ) → ℕ → ℕ
 in_turn N f i = i / N * N + f (i % N)
 
-module _ (N K : ℕ) (hN : 0 < N) (f g : ℕ → ℕ) (f_lt : (i : ℕ) → i < N → f i < N) (undo : (i : ℕ) → i < N → g (f i) ≡ i) where
+module _ (N K : ℕ) (h_n : 0 < N) (f g : ℕ → ℕ) (f_lt : (i : ℕ) → i < N → f i < N) (undo : (i : ℕ) → i < N → g (f i) ≡ i) where
   turn-lt : (i : ℕ) → i < K * N → in_turn N f i < K * N
-  turn-lt i h = digits_lt ((div-lt_iff_lt-mul hN).1 h) (f_lt (i % N) (mod-lt i hN))
+  turn-lt i h = digits_lt ((div-lt_iff_lt-mul h_n).1 h) (f_lt (i % N) (mod-lt i h_n))
 
   turn-back : (i : ℕ) → in_turn N g (in_turn N f i) ≡ i
   turn-back i =
-      let l : f (i % N) < N = f_lt (i % N) (mod-lt i hN) in
+      let l : f (i % N) < N = f_lt (i % N) (mod-lt i h_n) in
       ap₂ (λ (q r : ℕ). q * N + g r) (digits_div (i / N) l) (digits_mod (i / N) l)
-      ∙ ap (λ (r : ℕ). i / N * N + r) (undo (i % N) (mod-lt i hN))
+      ∙ ap (λ (r : ℕ). i / N * N + r) (undo (i % N) (mod-lt i h_n))
       ∙ div-add-mod' i N
 
-module _ (N K : ℕ) (hN : 0 < N) (place source : ℕ → ℕ) (o : EachOnce (Below N) N place source) where
+module _ (N K : ℕ) (h_n : 0 < N) (place source : ℕ → ℕ) (o : EachOnce (Below N) N place source) where
   pub in-turn : EachOnce (Below (K * N)) (K * N) (in_turn N place) (in_turn N source)
   in-turn =
       record {
-        there = turn-lt N K hN place source o.there o.there_back;
-        back = turn-lt N K hN source place o.back o.back-there;
-        there_back = λ i h. turn-back N K hN place source o.there o.there_back i;
-        back-there = λ c h. turn-back N K hN source place o.back o.back-there c;
+        there = turn-lt N K h_n place source o.there o.there_back;
+        back = turn-lt N K h_n source place o.back o.back-there;
+        there_back = λ i h. turn-back N K h_n place source o.there o.there_back i;
+        back-there = λ c h. turn-back N K h_n source place o.back o.back-there c;
       }

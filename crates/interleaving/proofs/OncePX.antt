@@ -8,13 +8,13 @@ use Rattle.interleaving.specs.PX.{partitions, runs, order, cells, place}
 use Rattle.interleaving.specs.FinderPX.{source}
 use Rattle.interleaving.proofs.BlockIV.{eleven}
 use Rattle.interleaving.proofs.OnceIV.{each-once-IV}
-use Rattle.interleaving.proofs.PXKinds.{kind-is, codedBytes-is}
+use Rattle.interleaving.proofs.PXKinds.{kind-is, coded_bytes-is}
 
 pub px-each-once : (kind : ℕ) → kind < 2 → EachOnce (Below (cells kind)) (cells kind) (place kind) (source kind)
 unfolding place source
 px-each-once kind h =
     let K = kind-is kind h in
-    let all : 32 * 32 * (partitions kind * 36) ≡ cells kind = omega (arith, codedBytes-is kind h) in
+    let all : 32 * 32 * (partitions kind * 36) ≡ cells kind = omega (arith, coded_bytes-is kind h) in
     rw all at
     (each-once-IV (partitions kind) 32 36 (runs kind) K.T 5027 48 (order kind) (order kind)
     K.J-pos (omega arith) (omega arith) K.M-pos K.turns (eleven 4 8 refl) K.perm)

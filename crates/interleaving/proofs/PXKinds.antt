@@ -5,7 +5,7 @@ use Prim.Native.Nat.{ℕ, zero, suc, ◌*◌, ◌≤◌, ◌<◌}
 use native.Mathlib.Omega.{arith}
 use lib.ListN.{get_or}
 use Rattle.bits.specs.Tests.{all}
-use Rattle.interleaving.specs.PX.{v2, v4, partitions, runs, order, codedBytes}
+use Rattle.interleaving.specs.PX.{v2, v4, partitions, runs, order, coded_bytes}
 use Rattle.interleaving.proofs.Permutation.{Permutes, permutes, undone}
 
 pub record Kind (J M : ℕ) (v : List ℕ) : Type 0 where
@@ -72,14 +72,14 @@ kind-is (suc zero) h =
 kind-is (suc (suc kind)) h = absurd (omega arith)
 
 -- the internal matrix takes the coded bits of two L1 frames
-pub codedBytes-is : (kind : ℕ) → kind < 2 → 16 * codedBytes kind ≡ 36864 * partitions kind
-unfolding partitions codedBytes
-codedBytes-is zero h = refl
-codedBytes-is (suc zero) h = refl
-codedBytes-is (suc (suc kind)) h = omega arith
+pub coded_bytes-is : (kind : ℕ) → kind < 2 → 16 * coded_bytes kind ≡ 36864 * partitions kind
+unfolding partitions coded_bytes
+coded_bytes-is zero h = refl
+coded_bytes-is (suc zero) h = refl
+coded_bytes-is (suc (suc kind)) h = omega arith
 
-pub codedBytes-le : (kind : ℕ) → kind < 2 → codedBytes kind ≤ 9216
-unfolding codedBytes
-codedBytes-le zero h = omega arith
-codedBytes-le (suc zero) h = omega arith
-codedBytes-le (suc (suc kind)) h = omega arith
+pub coded_bytes-le : (kind : ℕ) → kind < 2 → coded_bytes kind ≤ 9216
+unfolding coded_bytes
+coded_bytes-le zero h = omega arith
+coded_bytes-le (suc zero) h = omega arith
+coded_bytes-le (suc (suc kind)) h = omega arith

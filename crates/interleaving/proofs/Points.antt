@@ -2,17 +2,17 @@
 use mathlib.Core.Path.{◌≡◌, refl}
 use mathlib.Core.List.{List, map}
 use Prim.Native.Nat.{ℕ}
-use Rattle.interleaving.specs.Matrix.{cell, cell_of, matrixRow, matrixColumn}
+use Rattle.interleaving.specs.Matrix.{cell, cell_of, matrix_row, matrix_column}
 use Rattle.interleaving.specs.EquationsI as I
 use Rattle.interleaving.specs.EquationsII as II
 use Rattle.interleaving.specs.EquationsIV as IV
-use Rattle.interleaving.specs.PM.{v, p1Position, pidsPosition}
+use Rattle.interleaving.specs.PM.{v, p1_position, pids_position}
 use Rattle.interleaving.specs.PX.{partitions, runs, v2, v4, order, place}
-use Rattle.interleaving.specs.Points.{tablePoints}
+use Rattle.interleaving.specs.Points.{table_points}
 
 abbrev Cells : Type 0
 Cells = List (List ℕ)
 
-pub table-points : map (λ (p : Cells × Cells). p.0) tablePoints ≡ map (λ (p : Cells × Cells). p.1) tablePoints
-unfolding tablePoints p1Position pidsPosition v place partitions runs order v2 v4 cell cell_of matrixRow matrixColumn I.position I.partition I.partIndex I.block I.k_of I.row I.column II.position II.partition II.partIndex II.block II.k_of IV.place IV.partition IV.partIndex IV.counter IV.pt IV.block_at IV.row_at IV.columnAt
+pub table-points : map (λ (p : Cells × Cells). p.0) table_points ≡ map (λ (p : Cells × Cells). p.1) table_points
+unfolding table_points p1_position pids_position v place partitions runs order v2 v4 cell cell_of matrix_row matrix_column I.position I.partition I.part_index I.block I.k_of I.row I.column II.position II.partition II.part_index II.block II.k_of IV.place IV.partition IV.part_index IV.counter IV.pt IV.block_at IV.row_at IV.column_at
 table-points = refl

@@ -28,14 +28,14 @@ unfoldable pub order : ℕ → List ℕ
 order kind = cond (eqb kind 0) v2 v4
 
 -- the bytes and bits of an L1 frame's coded bits, eight frames of b, and the cells of the internal matrix, N, which takes those of two L1 frames
-unfoldable pub codedBytes : ℕ → ℕ
-codedBytes kind = get_or (4608 ∷ 9216 ∷ []) kind 0
+unfoldable pub coded_bytes : ℕ → ℕ
+coded_bytes kind = get_or (4608 ∷ 9216 ∷ []) kind 0
 
-abbrev pub codedBits : ℕ → ℕ
-codedBits kind = 8 * codedBytes kind
+abbrev pub coded_bits : ℕ → ℕ
+coded_bits kind = 8 * coded_bytes kind
 
 abbrev pub cells : ℕ → ℕ
-cells kind = 16 * codedBytes kind
+cells kind = 16 * coded_bytes kind
 
 -- the cell of the internal matrix that step i writes
 unfoldable pub place : ℕ → ℕ → ℕ
@@ -43,7 +43,7 @@ place kind i = IV.place (partitions kind) blocks columns (runs kind) (order kind
 
 -- house matter: the step of bit j of an L1 frame, the first (half 0) or the second (half 1) of the internal matrix
 abbrev pub step_of : (kind half j : ℕ) → ℕ
-step_of kind half j = half * codedBits kind + j
+step_of kind half j = half * coded_bits kind + j
 
 -- 10.2.2.2: the internal matrix after n steps of an L1 frame; and each step, once it has written, reads the cell of its own number
 unfoldable pub after : (kind half : ℕ) (coded memory : ℕ → ℕ) (n : ℕ) → ℕ → ℕ
@@ -61,8 +61,8 @@ unfoldable pub unreached : (kind i : ℕ) → Bool
 unreached kind i = eqb (written (place kind) (λ s. 1) (suc i) (λ s. 0) i) 0
 
 -- bit j of an L1 frame's matrix can show only the zero fill, and is 1; the lowest such bit, and their number where there is none
-unfoldable pub isFill : (kind half : ℕ) (px : ℕ → ℕ) (j : ℕ) → Bool
-isFill kind half px j = unreached kind (step_of kind half j) && eqb (px j) 1
+unfoldable pub is_fill : (kind half : ℕ) (px : ℕ → ℕ) (j : ℕ) → Bool
+is_fill kind half px j = unreached kind (step_of kind half j) && eqb (px j) 1
 
-unfoldable pub firstFill : (kind half : ℕ) (px : ℕ → ℕ) → ℕ
-firstFill kind half px = lowest (codedBits kind) (isFill kind half px)
+unfoldable pub first_fill : (kind half : ℕ) (px : ℕ → ℕ) → ℕ
+first_fill kind half px = lowest (coded_bits kind) (is_fill kind half px)

@@ -26,13 +26,13 @@ unfoldable pub order : ℕ → List ℕ
 order row = cond (eqb row 0) v4 v8
 
 -- N, the coded bits of a P1' frame and the cells of its matrix
-unfoldable pub frameBits : ℕ → ℕ
-frameBits row = get_or (9216 ∷ 18432 ∷ []) row 0
+unfoldable pub frame_bits : ℕ → ℕ
+frame_bits row = get_or (9216 ∷ 18432 ∷ []) row 0
 
 -- the cell of coded bit i of the eight frames of an L1 frame, the cells of their eight matrices counted on
 unfoldable pub place : (row i : ℕ) → ℕ
-place row i = i / frameBits row * frameBits row + I.place (partitions row) blocks columns (runs row) (order row) (i % frameBits row)
+place row i = i / frame_bits row * frame_bits row + I.place (partitions row) blocks columns (runs row) (order row) (i % frame_bits row)
 
 -- the eight matrices
 unfoldable pub matrix : (row : ℕ) (coded : ℕ → ℕ) → ℕ → ℕ
-matrix row coded = written (place row) coded (8 * frameBits row) (λ c. 0)
+matrix row coded = written (place row) coded (8 * frame_bits row) (λ c. 0)

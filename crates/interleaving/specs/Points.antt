@@ -2,24 +2,24 @@
 -- cell is met once does not tell the partition order, J or M: another order with its own inverse meets each cell once too.
 use Rattle.std.specs.Prelude.{List, [], ◌∷◌, map, ℕ, ◌/◌, ◌%◌}
 use Rattle.interleaving.specs.declared.Position.{Position}
-use Rattle.interleaving.specs.Matrix.{matrixRow, matrixColumn}
-use Rattle.interleaving.specs.PM.{p1Position, pidsPosition}
+use Rattle.interleaving.specs.Matrix.{matrix_row, matrix_column}
+use Rattle.interleaving.specs.PM.{p1_position, pids_position}
 use Rattle.interleaving.specs.PX.{place}
 
 -- row and column of PM at a position
-abbrev pub rowColumn : Position → List ℕ
-rowColumn at = matrixRow at ∷ matrixColumn 36 at ∷ []
+abbrev pub row_column : Position → List ℕ
+row_column at = matrix_row at ∷ matrix_column 36 at ∷ []
 
 -- where coded bits 0 to 19 stand, one in each partition in its turn
-abbrev firstTurn : (ℕ → Position) → List (List ℕ)
-firstTurn position =
-    map (λ i. rowColumn (position i)) (0 ∷ 1 ∷ 2 ∷ 3 ∷ 4 ∷ 5 ∷ 6 ∷ 7 ∷ 8 ∷ 9 ∷ 10 ∷ 11 ∷ 12 ∷ 13 ∷ 14 ∷ 15 ∷ 16 ∷ 17 ∷ 18 ∷ 19 ∷ [])
+abbrev first_turn : (ℕ → Position) → List (List ℕ)
+first_turn position =
+    map (λ i. row_column (position i)) (0 ∷ 1 ∷ 2 ∷ 3 ∷ 4 ∷ 5 ∷ 6 ∷ 7 ∷ 8 ∷ 9 ∷ 10 ∷ 11 ∷ 12 ∷ 13 ∷ 14 ∷ 15 ∷ 16 ∷ 17 ∷ 18 ∷ 19 ∷ [])
 
-unfoldable pub tablePoints : List (List (List ℕ) × List (List ℕ))
-tablePoints =
+unfoldable pub table_points : List (List (List ℕ) × List (List ℕ))
+table_points =
     -- Table 10-12, P1: partition p begins in block 7 p modulo 16, row 0, column 36 p
     (
-      firstTurn p1Position,
+      first_turn p1_position,
       (192 ∷ 360 ∷ []) ∷ (448 ∷ 72 ∷ []) ∷ (448 ∷ 648 ∷ []) ∷ (320 ∷ 216 ∷ []) ∷ (64 ∷ 504 ∷ [])
           ∷ (256 ∷ 288 ∷ []) ∷ (0 ∷ 576 ∷ []) ∷ (0 ∷ 0 ∷ []) ∷ (128 ∷ 432 ∷ []) ∷ (384 ∷ 144 ∷ [])
           ∷ (416 ∷ 396 ∷ []) ∷ (160 ∷ 108 ∷ []) ∷ (160 ∷ 684 ∷ []) ∷ (32 ∷ 252 ∷ []) ∷ (288 ∷ 540 ∷ [])
@@ -27,7 +27,7 @@ tablePoints =
     )
     -- Table 10-13, PIDS frame 0: block 0, row 18, column 36 p + 1
     ∷ (
-      firstTurn pidsPosition,
+      first_turn pids_position,
       (18 ∷ 361 ∷ []) ∷ (18 ∷ 73 ∷ []) ∷ (18 ∷ 649 ∷ []) ∷ (18 ∷ 217 ∷ []) ∷ (18 ∷ 505 ∷ [])
           ∷ (18 ∷ 289 ∷ []) ∷ (18 ∷ 577 ∷ []) ∷ (18 ∷ 1 ∷ []) ∷ (18 ∷ 433 ∷ []) ∷ (18 ∷ 145 ∷ [])
           ∷ (18 ∷ 397 ∷ []) ∷ (18 ∷ 109 ∷ []) ∷ (18 ∷ 685 ∷ []) ∷ (18 ∷ 253 ∷ []) ∷ (18 ∷ 541 ∷ [])

@@ -40,12 +40,12 @@ ks =
     []
 
 -- the k of a row and a column
-unfoldable pub kFor : ℕ → ℕ → ℕ
-kFor r c = get_or ks (36 * r + c) 0
+unfoldable pub k_for : ℕ → ℕ → ℕ
+k_for r c = get_or ks (36 * r + c) 0
 
 -- index and place belong together both ways, over the whole table
 pub record Together : Type 0 where
-  pub below : (r c : ℕ) → r < 32 → c < 36 → kFor r c < 1152
-  pub in_row : (r c : ℕ) → r < 32 → c < 36 → row (kFor r c) ≡ r
-  pub in-column : (r c : ℕ) → r < 32 → c < 36 → column 36 (kFor r c) ≡ c
-  pub back : (k : ℕ) → k < 1152 → kFor (row k) (column 36 k) ≡ k
+  pub below : (r c : ℕ) → r < 32 → c < 36 → k_for r c < 1152
+  pub in_row : (r c : ℕ) → r < 32 → c < 36 → row (k_for r c) ≡ r
+  pub in-column : (r c : ℕ) → r < 32 → c < 36 → column 36 (k_for r c) ≡ c
+  pub back : (k : ℕ) → k < 1152 → k_for (row k) (column 36 k) ≡ k

@@ -7,7 +7,7 @@ use lib.ListN.{length, take}
 use Rattle.io.specs.Counts.{IsPrefixLen}
 use Rattle.io.proofs.Counting.{prefix_len_of_le}
 use Rattle.runs.specs.declared.Answer.{Answer}
-use Rattle.runs.specs.Answers.{number_of, onSuccess, place_of}
+use Rattle.runs.specs.Answers.{number_of, on_success, place_of}
 use Rattle.runs.proofs.Answered.{not-success, success-is}
 use Rattle.text.specs.Letters.{ascii}
 use Rattle.text.specs.Put.{Put}
@@ -17,8 +17,8 @@ use Rattle.dumps.specs.declared.Verdict.{Verdict}
 use Rattle.dumps.specs.Next.{Next}
 use Rattle.judge_step.specs.Said.{line_of, said, said_of}
 
-on-success : {A : Type 0} (a : Answer) (done refused : A) → number_of a ≡ 0 → onSuccess a done refused ≡ done
-unfolding onSuccess
+on-success : {A : Type 0} (a : Answer) (done refused : A) → number_of a ≡ 0 → on_success a done refused ≡ done
+unfolding on_success
 on-success a done refused z = rw (success-is a z)
 
 pub accepted-put : {a b : List ℕ} {end : ℕ} (v : Verdict) → 251 ≤ length a → number_of v.answer ≡ 0 → Put a b 0 end 9 (ascii "accepted\n")

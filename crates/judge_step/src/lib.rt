@@ -2,7 +2,7 @@
 ghost use Rattle.std.specs.Prelude.{◌≡◌, ◌≤◌, length, take};
 ghost use Rattle.io.specs.Counts.{IsPrefixLen};
 ghost use Rattle.calls.specs.Called.{memory};
-ghost use Rattle.judge_step.specs.Said.{afterLast, judgeBytes, line_of, said};
+ghost use Rattle.judge_step.specs.Said.{after_last, judge_bytes, line_of, said};
 
 use dumps::Verdict;
 use runs::{Answer, State};
@@ -24,7 +24,7 @@ pub fn put_line(verdict: Verdict, out: &mut [u8]) -> usize
 
 // The verdict after the last of `count` L1 frames.
 fn after_last(more: bool, count: usize) -> Verdict
-    ensures { result ≡ afterLast more count }
+    ensures { result ≡ after_last more count }
 {
     if more {
         return dumps::judged_as(Answer::WrongEnd, count);
@@ -35,7 +35,7 @@ fn after_last(more: bool, count: usize) -> Verdict
 // Puts the line after the last of `count` L1 frames.
 pub fn put_last(more: bool, count: usize, out: &mut [u8]) -> usize
     requires { 251 ≤ length out.old }
-    ensures { IsPrefixLen result out.new × (take result out.new ≡ line_of (afterLast more count)) }
+    ensures { IsPrefixLen result out.new × (take result out.new ≡ line_of (after_last more count)) }
 {
     put_line(after_last(more, count), out)
 }
@@ -61,7 +61,7 @@ pub fn judge_bytes(
     requires { 251 ≤ length out.old }
     ensures { IsPrefixLen result.length out.new
         × (said result.state (memory memory3.new memory4.new delay.new) (take result.length out.new)
-        ≡ judgeBytes mode t state (memory memory3.old memory4.old delay.old) bytes.now) }
+        ≡ judge_bytes mode t state (memory memory3.old memory4.old delay.old) bytes.now) }
 {
     let judged = dumps::judge_frame(mode, t, state, bytes, memory3, memory4, delay);
     let next = judged.state;

@@ -3,16 +3,16 @@ ghost use Rattle.std.specs.Prelude.{◌≡◌, ◌+◌, ◌≤◌, ◌<◌, leng
 ghost use Rattle.bits.specs.Tests.{lowest};
 ghost use Rattle.runs.specs.declared.Extended.TheVariants.{P3, P4};
 ghost use Rattle.runs.specs.Answers.{number_of};
-ghost use Rattle.runs.specs.MainChannels.{mainOf, delayLen, p1Frames, p1Len, p2Len};
-ghost use Rattle.runs.specs.Chain.{Buffer, frameBad, framesOf, p1Of, p2Of, pidsOf};
+ghost use Rattle.runs.specs.MainChannels.{main_of, delay_len, p1_frames, p1_len, p2_len};
+ghost use Rattle.runs.specs.Chain.{Buffer, frame_bad, frames_of, p1_of, p2_of, pids_of};
 ghost use Rattle.runs.specs.Paths.{oldest};
-ghost use Rattle.runs.specs.Lengths.{kind_of, frameLen, matrixLen, px2Len, readerLen};
-ghost use Rattle.runs.specs.Judged.{countedFirst, mainBad};
+ghost use Rattle.runs.specs.Lengths.{kind_of, frame_len, matrix_len, px2_len, reader_len};
+ghost use Rattle.runs.specs.Judged.{counted_first, main_bad};
 ghost use Rattle.runs.specs.Reading.{push};
 ghost use Rattle.calls.specs.Called.{lent, matrices, memory, signal};
 ghost use Rattle.calls.specs.Fits.{Fits};
-ghost use Rattle.recover.specs.Rooms.{lateBad};
-ghost use Rattle.judging.specs.Stages.{Extends, Recovered, after, fillAnswer, fillCells, fillRow, fourth, framesAnswer, lower as «lower_of», pmAnswer, pxAnswer, signalAnswer};
+ghost use Rattle.recover.specs.Rooms.{late_bad};
+ghost use Rattle.judging.specs.Stages.{Extends, Recovered, after, fill_answer, fill_cells, fill_row, fourth, frames_answer, lower as «lower_of», pm_answer, px_answer, signal_answer};
 
 use causes::number;
 use modes::{kind_of, main_of, matrix_len};
@@ -34,8 +34,8 @@ fn lower(place: usize, late: usize) -> usize
 
 // The lowest P1 frame whose second path has come, and is no coded frame or disagrees; 8 where there is none.
 fn late_place(state: State, px2: &[u8], delay: &[u8]) -> usize
-    requires { (length px2.now ≡ px2Len state.mode) × (length delay.now ≡ delayLen (mainOf state.mode)) }
-    ensures { (s : Buffer) → result ≡ lowest 8 (lateBad (mainOf state.mode) state.age (drop (matrixLen (kind_of state.mode P4)) px2.now) (oldest (mainOf state.mode) delay.now s)) }
+    requires { (length px2.now ≡ px2_len state.mode) × (length delay.now ≡ delay_len (main_of state.mode)) }
+    ensures { (s : Buffer) → result ≡ lowest 8 (late_bad (main_of state.mode) state.age (drop (matrix_len (kind_of state.mode P4)) px2.now) (oldest (main_of state.mode) delay.now s)) }
 {
     let age = state.age;
     let main = main_of(state.mode);
@@ -52,9 +52,9 @@ fn main_place(
     scrambled: &mut [u8],
     p2: &mut [u8],
 ) -> usize
-    requires { (length pm.now ≡ 46080) × (length px2.now ≡ px2Len state.mode) × (length delay.now ≡ delayLen (mainOf state.mode)) × (length scrambled.old ≡ p1Len (mainOf state.mode)) × (length p2.old ≡ p2Len (mainOf state.mode)) }
-    ensures value { (m3 m4 px1 : Buffer) → result ≡ lowest (p1Frames (mainOf state.mode) + 1) (mainBad state (memory m3 m4 delay.now) (matrices pm.now px1 px2.now)) }
-    ensures scrambled_after { (scrambled.new ≡ p1Of (mainOf state.mode) pm.now) × (p2.new ≡ p2Of (mainOf state.mode) pm.now) }
+    requires { (length pm.now ≡ 46080) × (length px2.now ≡ px2_len state.mode) × (length delay.now ≡ delay_len (main_of state.mode)) × (length scrambled.old ≡ p1_len (main_of state.mode)) × (length p2.old ≡ p2_len (main_of state.mode)) }
+    ensures value { (m3 m4 px1 : Buffer) → result ≡ lowest (p1_frames (main_of state.mode) + 1) (main_bad state (memory m3 m4 delay.now) (matrices pm.now px1 px2.now)) }
+    ensures scrambled_after { (scrambled.new ≡ p1_of (main_of state.mode) pm.now) × (p2.new ≡ p2_of (main_of state.mode) pm.now) }
 {
     let place = recover::recover_main(main_of(state.mode), pm, scrambled, p2);
     lower(place, late_place(state, px2, delay))
@@ -70,9 +70,9 @@ fn judge_pm(
     p2: &mut [u8],
     pids: &mut [u8],
 ) -> Answer
-    requires { (length pm.now ≡ 46080) × (length px2.now ≡ px2Len state.mode) × (length delay.now ≡ delayLen (mainOf state.mode)) × (length scrambled.old ≡ p1Len (mainOf state.mode)) × (length p2.old ≡ p2Len (mainOf state.mode)) × (length pids.old ≡ 160) }
-    ensures value { (m3 m4 px1 : Buffer) → result ≡ pmAnswer state (memory m3 m4 delay.now) (matrices pm.now px1 px2.now) }
-    ensures scrambled_after { number_of result ≡ 0 → (scrambled.new ≡ p1Of (mainOf state.mode) pm.now) × (p2.new ≡ p2Of (mainOf state.mode) pm.now) × (pids.new ≡ pidsOf pm.now) }
+    requires { (length pm.now ≡ 46080) × (length px2.now ≡ px2_len state.mode) × (length delay.now ≡ delay_len (main_of state.mode)) × (length scrambled.old ≡ p1_len (main_of state.mode)) × (length p2.old ≡ p2_len (main_of state.mode)) × (length pids.old ≡ 160) }
+    ensures value { (m3 m4 px1 : Buffer) → result ≡ pm_answer state (memory m3 m4 delay.now) (matrices pm.now px1 px2.now) }
+    ensures scrambled_after { number_of result ≡ 0 → (scrambled.new ≡ p1_of (main_of state.mode) pm.now) × (p2.new ≡ p2_of (main_of state.mode) pm.now) × (pids.new ≡ pids_of pm.now) }
 {
     let place = main_place(state, pm, px2, delay, scrambled, p2);
     if place <= recover::p1_frames(main_of(state.mode)) {
@@ -87,7 +87,7 @@ fn judge_pm(
 
 // How many cells are counted before PX1's under 7: those of PM in MP5 and MP6.
 fn counted_first(main: Main) -> usize
-    ensures { (result ≡ countedFirst main) × (result ≤ 368640) }
+    ensures { (result ≡ counted_first main) × (result ≤ 368640) }
 {
     match main {
         Main::Plain => 0,
@@ -98,8 +98,8 @@ fn counted_first(main: Main) -> usize
 
 // The lowest cell of PX1, then of PX2, that is bad under 7; as many as there are where there is none.
 fn fill_cell(state: State, px1: &[u8], px2: &[u8]) -> usize
-    requires { (length px1.now ≡ matrixLen (kind_of state.mode P3)) × (length px2.now ≡ px2Len state.mode) }
-    ensures { (pm : Buffer) → result ≡ lowest (fillCells state) (fillRow state (matrices pm px1.now px2.now)) }
+    requires { (length px1.now ≡ matrix_len (kind_of state.mode P3)) × (length px2.now ≡ px2_len state.mode) }
+    ensures { (pm : Buffer) → result ≡ lowest (fill_cells state) (fill_row state (matrices pm px1.now px2.now)) }
 {
     let age = state.age;
     let kind3 = kind_of(state.mode, Extended::P3);
@@ -113,8 +113,8 @@ fn fill_cell(state: State, px1: &[u8], px2: &[u8]) -> usize
 
 // 7: the zero fill of PX1, then of PX2, or the delay's zeros there.
 fn judge_fill(state: State, px1: &[u8], px2: &[u8]) -> Answer
-    requires { (length px1.now ≡ matrixLen (kind_of state.mode P3)) × (length px2.now ≡ px2Len state.mode) }
-    ensures { (pm : Buffer) → result ≡ fillAnswer state (matrices pm px1.now px2.now) }
+    requires { (length px1.now ≡ matrix_len (kind_of state.mode P3)) × (length px2.now ≡ px2_len state.mode) }
+    ensures { (pm : Buffer) → result ≡ fill_answer state (matrices pm px1.now px2.now) }
 {
     let cell = fill_cell(state, px1, px2);
     let before = counted_first(main_of(state.mode));
@@ -126,8 +126,8 @@ fn judge_fill(state: State, px1: &[u8], px2: &[u8]) -> Answer
 
 // Recovers the eight P4 frames of the L1 frame two earlier, and answers the lowest whose coded bits are no coding, or 8.
 fn recover_p4(state: State, px2: &[u8], memory4: &[u8], p4: &mut [u8]) -> usize
-    requires { (state.half < 2) × (length px2.now ≡ px2Len state.mode) × (length memory4.now ≡ readerLen (kind_of state.mode P4)) × (length p4.old ≡ frameLen (kind_of state.mode P4)) }
-    ensures { (result ≡ lowest 8 (frameBad (kind_of state.mode P4) state.half (push memory4.now (fourth state px2.now)))) × (p4.new ≡ framesOf (kind_of state.mode P4) state.half (push memory4.now (fourth state px2.now))) }
+    requires { (state.half < 2) × (length px2.now ≡ px2_len state.mode) × (length memory4.now ≡ reader_len (kind_of state.mode P4)) × (length p4.old ≡ frame_len (kind_of state.mode P4)) }
+    ensures { (result ≡ lowest 8 (frame_bad (kind_of state.mode P4) state.half (push memory4.now (fourth state px2.now)))) × (p4.new ≡ frames_of (kind_of state.mode P4) state.half (push memory4.now (fourth state px2.now))) }
 {
     let half = state.half;
     let kind = kind_of(state.mode, Extended::P4);
@@ -146,7 +146,7 @@ fn judge_frames(
     p4: &mut [u8],
 ) -> Answer
     requires { Extends state px1.now px2.now memory3.now memory4.now p3.old p4.old }
-    ensures value { result ≡ framesAnswer state (after state memory3.now memory4.now px1.now px2.now) }
+    ensures value { result ≡ frames_answer state (after state memory3.now memory4.now px1.now px2.now) }
     ensures recovered { number_of result ≡ 0 → Recovered state (after state memory3.now memory4.now px1.now px2.now) p3.new p4.new }
 {
     let half = state.half;
@@ -172,7 +172,7 @@ fn judge_px(
     p4: &mut [u8],
 ) -> Answer
     requires { Extends state px1.now px2.now memory3.now memory4.now p3.old p4.old }
-    ensures value { (pm d : Buffer) → result ≡ pxAnswer state (memory memory3.now memory4.now d) (matrices pm px1.now px2.now) }
+    ensures value { (pm d : Buffer) → result ≡ px_answer state (memory memory3.now memory4.now d) (matrices pm px1.now px2.now) }
     ensures recovered { number_of result ≡ 0 → 2 ≤ state.age → Recovered state (after state memory3.now memory4.now px1.now px2.now) p3.new p4.new }
 {
     let answer = judge_fill(state, px1, px2);
@@ -202,9 +202,9 @@ pub fn judge_signal(
     p3: &mut [u8],
     p4: &mut [u8],
 ) -> Answer
-    requires { Fits readerLen state (memory memory3.now memory4.now delay.now) (lent 0 scrambled.old pids.old p2.old p3.old p4.old pm.now px1.now px2.now control.now) }
-    ensures value { result ≡ signalAnswer state (memory memory3.now memory4.now delay.now) (signal pm.now px1.now px2.now control.now) }
-    ensures scrambled_after { number_of result ≡ 0 → (scrambled.new ≡ p1Of (mainOf state.mode) pm.now) × (p2.new ≡ p2Of (mainOf state.mode) pm.now) × (pids.new ≡ pidsOf pm.now) }
+    requires { Fits reader_len state (memory memory3.now memory4.now delay.now) (lent 0 scrambled.old pids.old p2.old p3.old p4.old pm.now px1.now px2.now control.now) }
+    ensures value { result ≡ signal_answer state (memory memory3.now memory4.now delay.now) (signal pm.now px1.now px2.now control.now) }
+    ensures scrambled_after { number_of result ≡ 0 → (scrambled.new ≡ p1_of (main_of state.mode) pm.now) × (p2.new ≡ p2_of (main_of state.mode) pm.now) × (pids.new ≡ pids_of pm.now) }
     ensures recovered { number_of result ≡ 0 → 2 ≤ state.age → Recovered state (after state memory3.now memory4.now px1.now px2.now) p3.new p4.new }
 {
     let block = control::first_departing(state.mode, control);

@@ -9,17 +9,17 @@ use Rattle.messages.specs.Lines.{followed}
 abbrev pub early : List ℕ
 early = ascii " it ends early\n"
 
-abbrev pub tooHigh : List ℕ
-tooHigh = ascii " its reserved number is above 7\n"
+abbrev pub too_high : List ℕ
+too_high = ascii " its reserved number is above 7\n"
 
 -- which L1 frame of which run cannot be sent, and why
-unfoldable pub notTaken : (run frame : ℕ) (why : List ℕ) → List ℕ
-notTaken run frame why =
+unfoldable pub not_taken : (run frame : ℕ) (why : List ℕ) → List ℕ
+not_taken run frame why =
     ascii "refused: run " ++ (followed run (ascii " ") ++ (ascii "frame " ++ (followed frame (ascii ":") ++ why)))
 
 -- the first input begins the sum, and each later one is added to it
-unfoldable pub addedTo : (run : ℕ) (sum input : Buffer) → Buffer
-addedTo run sum input = cond (eqb run 0) input (sum_of (sum ∷ input ∷ []) (λ (b : Buffer). b))
+unfoldable pub added_to : (run : ℕ) (sum input : Buffer) → Buffer
+added_to run sum input = cond (eqb run 0) input (sum_of (sum ∷ input ∷ []) (λ (b : Buffer). b))
 
 -- after an input: whether it was taken, the sum, and the line that is said where it was not
 pub record Step : Type 0 where
@@ -32,13 +32,13 @@ abbrev pub step : Bool → Buffer → List ℕ → Step
 step good sum line = record { good = good; sum = sum; line = line }
 
 -- an input that has not the sum's length has ended early; its first byte is the reserved number
-unfoldable pub addInput : (run frame : ℕ) (sum input : Buffer) → Step
-addInput run frame sum input =
+unfoldable pub add_input : (run frame : ℕ) (sum input : Buffer) → Step
+add_input run frame sum input =
     cond (eqb (length input) (length sum))
-    (cond (ltb (get_or input 0 0) 8) (step true (addedTo run sum input) []) (step false sum (notTaken run frame tooHigh)))
-    (step false sum (notTaken run frame early))
+    (cond (ltb (get_or input 0 0) 8) (step true (added_to run sum input) []) (step false sum (not_taken run frame too_high)))
+    (step false sum (not_taken run frame early))
 
 -- the inputs of runs from `run` on, all of them taken, to a sum
 unfoldable pub summed : (run : ℕ) (sum : Buffer) (inputs : List Buffer) → Buffer
 summed run sum [] = sum
-summed run sum (input ∷ inputs) = summed (suc run) (addedTo run sum input) inputs
+summed run sum (input ∷ inputs) = summed (suc run) (added_to run sum input) inputs

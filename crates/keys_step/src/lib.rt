@@ -1,7 +1,7 @@
 // The program `keys`: an input of an L1 frame, added to those before it (document 02, S-14).
 ghost use Rattle.std.specs.Prelude.{◌≡◌, ◌≤◌, length, take};
 ghost use Rattle.io.specs.Counts.{IsPrefixLen};
-ghost use Rattle.keys_step.specs.Summed.{addInput, addedTo, notTaken, step};
+ghost use Rattle.keys_step.specs.Summed.{add_input, added_to, not_taken, step};
 
 // Whether an input was taken, and the length of the line that is said where it was not.
 #[derive(Drop)]
@@ -13,7 +13,7 @@ pub struct Added {
 // Puts which L1 frame of which run cannot be sent, and why.
 fn put_not_taken(out: &mut [u8], run: u64, frame: u64, why: &[u8]) -> usize
     requires { (93 ≤ length out.old) × (length why.now ≤ 32) }
-    ensures { IsPrefixLen result out.new × (take result out.new ≡ notTaken run frame why.now) }
+    ensures { IsPrefixLen result out.new × (take result out.new ≡ not_taken run frame why.now) }
 {
     let a = text::put(out, 0, b"refused: run ");
     let b = text::field(out, a, run, b' ');
@@ -25,7 +25,7 @@ fn put_not_taken(out: &mut [u8], run: u64, frame: u64, why: &[u8]) -> usize
 // Begins the sum, or adds to it.
 fn add_to(run: u64, input: &[u8], sum: &mut [u8])
     requires { length input.now ≡ length sum.old }
-    ensures { sum.new ≡ addedTo run sum.old input.now }
+    ensures { sum.new ≡ added_to run sum.old input.now }
 {
     if run == 0 {
         bits::copy(input, sum);
@@ -38,7 +38,7 @@ fn add_to(run: u64, input: &[u8], sum: &mut [u8])
 pub fn add_input(run: u64, frame: u64, input: &[u8], sum: &mut [u8], line: &mut [u8]) -> Added
     requires { 93 ≤ length line.old }
     ensures { IsPrefixLen result.length line.new
-        × (step result.good sum.new (take result.length line.new) ≡ addInput run frame sum.old input.now) }
+        × (step result.good sum.new (take result.length line.new) ≡ add_input run frame sum.old input.now) }
 {
     if input.len() != sum.len() {
         let length = put_not_taken(line, run, frame, b" it ends early\n");

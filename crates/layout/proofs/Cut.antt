@@ -9,12 +9,12 @@ use lib.Seq.{take_all}
 use Rattle.runs.specs.declared.Extended.TheVariants.{P3, P4}
 use Rattle.runs.specs.declared.Main.{Main}
 use Rattle.runs.specs.declared.Main.TheVariants.{Plain, Mp5, Mp6}
-use Rattle.runs.specs.MainChannels.{mainOf, p1Len, p2Len}
-use Rattle.runs.specs.Lengths.{kind_of, matrixLen, pidsLen, pmLen, px2Len, controlLen}
+use Rattle.runs.specs.MainChannels.{main_of, p1_len, p2_len}
+use Rattle.runs.specs.Lengths.{kind_of, matrix_len, pids_len, pm_len, px2_len, control_len}
 use Rattle.runs.proofs.Bounds.{frame-le, matrix-le, second-le}
 use Rattle.calls.specs.Called.{signal}
 use Rattle.modes.specs.Sizes.{wanted}
-use Rattle.layout.specs.Layout.{cut, signalIn}
+use Rattle.layout.specs.Layout.{cut, signal_in}
 
 -- a buffer of n bytes that should start at s starts at a and ends at b, where the input allows
 module _ (input : List ℕ) (s n a b : ℕ) (start : a ≡ min s (length input)) (end : b ≡ a + min n (length input - a)) where
@@ -65,25 +65,25 @@ module _ (mode m3 m4 : ℕ) (input want : List ℕ) (lengths : want ≡ wanted m
 
   pub signal-is : (a b c d : ℕ) → a ≡ 0 + min (get_or want 5 0) (length input - 0) → b ≡ a + min (get_or want 6 0) (length input - a)
       → c ≡ b + min (get_or want 7 0) (length input - b) → d ≡ c + min (get_or want 8 0) (length input - c)
-      → signal (take a input) (take (b - a) (drop a input)) (take (c - b) (drop b input)) (take (d - c) (drop c input)) ≡ signalIn mode input
-  unfolding signalIn
+      → signal (take a input) (take (b - a) (drop a input)) (take (c - b) (drop b input)) (take (d - c) (drop c input)) ≡ signal_in mode input
+  unfolding signal_in
   signal-is a b c d ea eb ec ed =
-      let n1 : ℕ = matrixLen (kind_of mode P3) in
-      let n2 : ℕ = px2Len mode in
-      let fa : a ≡ 0 + min pmLen (length input - 0) = ea ∙ ap (λ (k : ℕ). 0 + min k (length input - 0)) (is 5) in
+      let n1 : ℕ = matrix_len (kind_of mode P3) in
+      let n2 : ℕ = px2_len mode in
+      let fa : a ≡ 0 + min pm_len (length input - 0) = ea ∙ ap (λ (k : ℕ). 0 + min k (length input - 0)) (is 5) in
       let fb : b ≡ a + min n1 (length input - a) = eb ∙ ap (λ (k : ℕ). a + min k (length input - a)) (is 6) in
       let fc : c ≡ b + min n2 (length input - b) = ec ∙ ap (λ (k : ℕ). b + min k (length input - b)) (is 7) in
-      let fd : d ≡ c + min controlLen (length input - c) = ed ∙ ap (λ (k : ℕ). c + min k (length input - c)) (is 8) in
-      let sa = first-end input pmLen a fa in
-      let sb = next_start input pmLen n1 a b sa fb in
-      let sc = next_start input (pmLen + n1) n2 b c sb fc in
+      let fd : d ≡ c + min control_len (length input - c) = ed ∙ ap (λ (k : ℕ). c + min k (length input - c)) (is 8) in
+      let sa = first-end input pm_len a fa in
+      let sb = next_start input pm_len n1 a b sa fb in
+      let sc = next_start input (pm_len + n1) n2 b c sb fc in
       λ i.
-      signal (first-cut input pmLen a fa i) (cut-is input pmLen n1 a b sa fb i)
-      (cut-is input (pmLen + n1) n2 b c sb fc i) (cut-is input (pmLen + n1 + n2) controlLen c d sc fd i)
+      signal (first-cut input pm_len a fa i) (cut-is input pm_len n1 a b sa fb i)
+      (cut-is input (pm_len + n1) n2 b c sb fc i) (cut-is input (pm_len + n1 + n2) control_len c d sc fd i)
 
 -- ---- lengths that fit
 
-pub main-small : (k : Main) → p1Len k + p2Len k ≡ 18272
+pub main-small : (k : Main) → p1_len k + p2_len k ≡ 18272
 main-small Plain = refl
 main-small Mp5 = refl
 main-small Mp6 = refl
@@ -95,16 +95,16 @@ Small l =
     × (get_or l 5 0 ≤ 46080) × (get_or l 6 0 ≤ 9216) × (get_or l 7 0 ≤ 27648) × (get_or l 8 0 ≤ 4096)
 
 pub lengths-small : (mode m3 m4 : ℕ) (want : List ℕ) → want ≡ wanted mode m3 m4 → Small want
-unfolding pidsLen pmLen controlLen
+unfolding pids_len pm_len control_len
 lengths-small mode m3 m4 want e =
     subst Small (sym e) (
-      omega (arith, main-small (mainOf mode)),
+      omega (arith, main-small (main_of mode)),
       omega arith,
-      omega (arith, main-small (mainOf mode)),
+      omega (arith, main-small (main_of mode)),
       frame-le (kind_of mode P3),
       frame-le (kind_of mode P4),
       omega arith,
       matrix-le (kind_of mode P3),
-      omega (arith, matrix-le (kind_of mode P4), second-le (mainOf mode)),
+      omega (arith, matrix-le (kind_of mode P4), second-le (main_of mode)),
       omega arith,
     )

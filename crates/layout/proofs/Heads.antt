@@ -17,7 +17,7 @@ use Rattle.runs.specs.declared.Answer.TheVariants.{Success, ModeNotCovered, Wron
 use Rattle.runs.specs.Answers.{number_of, place_of}
 use Rattle.runs.specs.Causes.{judge, when}
 use Rattle.layout.specs.Layout.{header, mark, word}
-use Rattle.layout.specs.Heads.{headAnswer}
+use Rattle.layout.specs.Heads.{head_answer}
 
 -- what a header that is not refused says
 pub record Head (d : List ℕ) : Type 0 where
@@ -26,8 +26,8 @@ pub record Head (d : List ℕ) : Type 0 where
   pub version : word (get_or d 3 0) (get_or d 4 0) ≡ 1
   pub mode-covered : covered (get_or d 5 0) ≡ true
 
-pub head_of : (d : List ℕ) → number_of (headAnswer d) ≡ 0 → Head d
-unfolding headAnswer judge
+pub head_of : (d : List ℕ) → number_of (head_answer d) ≡ 0 → Head d
+unfolding head_answer judge
 head_of d =
     go (ltb (length d) 8) (same (take 3 d) mark) (eqb (word (get_or d 3 0) (get_or d 4 0)) 1) (covered (get_or d 5 0)) refl refl refl refl
   where
@@ -43,32 +43,32 @@ head_of d =
 -- ---- test by test
 
 module _ (d : List ℕ) where
-  pub too_short : length d < 8 → WrongMark ≡ headAnswer d
-  unfolding headAnswer judge
+  pub too_short : length d < 8 → WrongMark ≡ head_answer d
+  unfolding head_answer judge
   too_short h = rw (lt-ltb (length d) 8 h)
 
   module _ (long : 8 ≤ length d) where
-    pub not-marked : same (take 3 d) mark ≡ false → WrongMark ≡ headAnswer d
-    unfolding headAnswer judge
+    pub not-marked : same (take 3 d) mark ≡ false → WrongMark ≡ head_answer d
+    unfolding head_answer judge
     not-marked m = rw (le-ltb (length d) 8 long, m)
 
     module _ (m : same (take 3 d) mark ≡ true) where
-      pub other-version : word (get_or d 3 0) (get_or d 4 0) ≢ 1 → WrongVersion ≡ headAnswer d
-      unfolding headAnswer judge
+      pub other-version : word (get_or d 3 0) (get_or d 4 0) ≢ 1 → WrongVersion ≡ head_answer d
+      unfolding head_answer judge
       other-version v = rw (le-ltb (length d) 8 long, m, ne_eqb (word (get_or d 3 0) (get_or d 4 0)) 1 v)
 
       module _ (v : word (get_or d 3 0) (get_or d 4 0) ≡ 1) where
-        pub not_covered : covered (get_or d 5 0) ≡ false → ModeNotCovered ≡ headAnswer d
-        unfolding headAnswer judge
+        pub not_covered : covered (get_or d 5 0) ≡ false → ModeNotCovered ≡ head_answer d
+        unfolding head_answer judge
         not_covered c = rw (le-ltb (length d) 8 long, m, eq-eqb (word (get_or d 3 0) (get_or d 4 0)) 1 v, c)
 
-        pub head-good : covered (get_or d 5 0) ≡ true → Success ≡ headAnswer d
-        unfolding headAnswer judge
+        pub head-good : covered (get_or d 5 0) ≡ true → Success ≡ head_answer d
+        unfolding head_answer judge
         head-good c = rw (le-ltb (length d) 8 long, m, eq-eqb (word (get_or d 3 0) (get_or d 4 0)) 1 v, c)
 
 -- no place
-pub head-place : (d : List ℕ) → place_of (headAnswer d) ≡ 0
-unfolding headAnswer judge
+pub head-place : (d : List ℕ) → place_of (head_answer d) ≡ 0
+unfolding head_answer judge
 head-place d = go (ltb (length d) 8 || not (same (take 3 d) mark)) (eqb (word (get_or d 3 0) (get_or d 4 0)) 1) (covered (get_or d 5 0))
   where
     go : (m v c : Bool) → place_of (judge (when m WrongMark ∷ when (not v) WrongVersion ∷ when (not c) ModeNotCovered ∷ [])) ≡ 0

@@ -8,22 +8,22 @@ use lib.ListN.{length, take, drop, length-append, length-drop, take-append-drop}
 use lib.Seq.{drop-append-add, drop_at, drop-drop, length-take-le, take_all, take_at}
 use Rattle.runs.specs.declared.Extended.TheVariants.{P3}
 use Rattle.runs.specs.Causes.{wrong}
-use Rattle.runs.specs.Lengths.{kind_of, matrixLen, pmLen, px2Len, controlLen}
+use Rattle.runs.specs.Lengths.{kind_of, matrix_len, pm_len, px2_len, control_len}
 use Rattle.runs.specs.Lent.{Lent, Signal}
-use Rattle.runs.specs.Sending.{lentSizes}
+use Rattle.runs.specs.Sending.{lent_sizes}
 use Rattle.runs.proofs.Passing.{wrong-head}
 use Rattle.calls.specs.Called.{signal}
-use Rattle.layout.specs.Layout.{bytes_of, frameBytes, signalIn}
+use Rattle.layout.specs.Layout.{bytes_of, frame_bytes, signal_in}
 
 -- an L1 frame of the right lengths
 pub record Sized (mode : ℕ) (x : Signal) : Type 0 where
-  pub pm-right : length x.matrices.pm ≡ pmLen
-  pub px1-right : length x.matrices.px1 ≡ matrixLen (kind_of mode P3)
-  pub px2-right : length x.matrices.px2 ≡ px2Len mode
-  pub control-right : length x.control ≡ controlLen
+  pub pm-right : length x.matrices.pm ≡ pm_len
+  pub px1-right : length x.matrices.px1 ≡ matrix_len (kind_of mode P3)
+  pub px2-right : length x.matrices.px2 ≡ px2_len mode
+  pub control-right : length x.control ≡ control_len
 
-pub sized_of : (mode : ℕ) (l : Lent) → wrong 0 (lentSizes mode l) ≡ none → Sized mode l.signal
-unfolding lentSizes
+pub sized_of : (mode : ℕ) (l : Lent) → wrong 0 (lent_sizes mode l) ≡ none → Sized mode l.signal
+unfolding lent_sizes
 sized_of mode l e =
     let (e₀, r₁) = wrong-head _ _ _ _ e in
     let (e₁, r₂) = wrong-head _ _ _ _ r₁ in
@@ -71,8 +71,8 @@ module _ (a b c d : List ℕ) where
         ∙ ap (take nd) after-three ∙ take_all nd d (omega arith)
 
 -- the L1 frame back from its bytes
-pub signal-back : (mode : ℕ) (x : Signal) → Sized mode x → signalIn mode (bytes_of x) ≡ x
-unfolding signalIn bytes_of
+pub signal-back : (mode : ℕ) (x : Signal) → Sized mode x → signal_in mode (bytes_of x) ≡ x
+unfolding signal_in bytes_of
 signal-back mode x s =
     let a = x.matrices.pm in
     let b = x.matrices.px1 in
@@ -84,41 +84,41 @@ signal-back mode x s =
     let q4 = fourth-part a b c d _ _ _ _ s.pm-right s.px1-right s.px2-right s.control-right in
     λ i. signal (q1 i) (q2 i) (q3 i) (q4 i)
 
-pub bytes-length : (mode : ℕ) (x : Signal) → Sized mode x → length (bytes_of x) ≡ frameBytes mode
-unfolding frameBytes bytes_of
+pub bytes-length : (mode : ℕ) (x : Signal) → Sized mode x → length (bytes_of x) ≡ frame_bytes mode
+unfolding frame_bytes bytes_of
 bytes-length mode x s =
     omega (arith, row-length x.matrices.pm x.matrices.px1 x.matrices.px2 x.control, s.pm-right, s.px1-right, s.px2-right, s.control-right)
 
 -- the bytes back from the L1 frame
-module _ (mode : ℕ) (bytes : List ℕ) (e : length bytes ≡ frameBytes mode) where
+module _ (mode : ℕ) (bytes : List ℕ) (e : length bytes ≡ frame_bytes mode) where
   abbrev px1 : ℕ
-  px1 = matrixLen (kind_of mode P3)
+  px1 = matrix_len (kind_of mode P3)
 
   abbrev px2 : ℕ
-  px2 = px2Len mode
+  px2 = px2_len mode
 
-  pub sized-in : Sized mode (signalIn mode bytes)
-  unfolding signalIn frameBytes
+  pub sized-in : Sized mode (signal_in mode bytes)
+  unfolding signal_in frame_bytes
   sized-in =
       record {
-        pm-right = length-take-le pmLen bytes (omega arith);
-        px1-right = length-take-le px1 (drop pmLen bytes) (omega (arith, length-drop pmLen bytes));
-        px2-right = length-take-le px2 (drop (pmLen + px1) bytes) (omega (arith, length-drop (pmLen + px1) bytes));
-        control-right = length-take-le controlLen (drop (pmLen + px1 + px2) bytes) (omega (arith, length-drop (pmLen + px1 + px2) bytes));
+        pm-right = length-take-le pm_len bytes (omega arith);
+        px1-right = length-take-le px1 (drop pm_len bytes) (omega (arith, length-drop pm_len bytes));
+        px2-right = length-take-le px2 (drop (pm_len + px1) bytes) (omega (arith, length-drop (pm_len + px1) bytes));
+        control-right = length-take-le control_len (drop (pm_len + px1 + px2) bytes) (omega (arith, length-drop (pm_len + px1 + px2) bytes));
       }
 
   -- two parts that follow each other
   joined : (from n : ℕ) → take n (drop from bytes) ++ drop (from + n) bytes ≡ drop from bytes
   joined from n = ap (λ (l : List ℕ). take n (drop from bytes) ++ l) (sym (drop-drop n from bytes)) ∙ take-append-drop n (drop from bytes)
 
-  last-whole : take controlLen (drop (pmLen + px1 + px2) bytes) ≡ drop (pmLen + px1 + px2) bytes
-  unfolding frameBytes
-  last-whole = take_all controlLen (drop (pmLen + px1 + px2) bytes) (omega (arith, length-drop (pmLen + px1 + px2) bytes))
+  last-whole : take control_len (drop (pm_len + px1 + px2) bytes) ≡ drop (pm_len + px1 + px2) bytes
+  unfolding frame_bytes
+  last-whole = take_all control_len (drop (pm_len + px1 + px2) bytes) (omega (arith, length-drop (pm_len + px1 + px2) bytes))
 
-  pub bytes_back : bytes_of (signalIn mode bytes) ≡ bytes
-  unfolding signalIn bytes_of
+  pub bytes_back : bytes_of (signal_in mode bytes) ≡ bytes
+  unfolding signal_in bytes_of
   bytes_back =
-      ap (λ (l : List ℕ). take pmLen bytes ++ (take px1 (drop pmLen bytes) ++ (take px2 (drop (pmLen + px1) bytes) ++ l))) last-whole
-      ∙ ap (λ (l : List ℕ). take pmLen bytes ++ (take px1 (drop pmLen bytes) ++ l)) (joined (pmLen + px1) px2)
-      ∙ ap (λ (l : List ℕ). take pmLen bytes ++ l) (joined pmLen px1)
-      ∙ take-append-drop pmLen bytes
+      ap (λ (l : List ℕ). take pm_len bytes ++ (take px1 (drop pm_len bytes) ++ (take px2 (drop (pm_len + px1) bytes) ++ l))) last-whole
+      ∙ ap (λ (l : List ℕ). take pm_len bytes ++ (take px1 (drop pm_len bytes) ++ l)) (joined (pm_len + px1) px2)
+      ∙ ap (λ (l : List ℕ). take pm_len bytes ++ l) (joined pm_len px1)
+      ∙ take-append-drop pm_len bytes

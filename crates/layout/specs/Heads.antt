@@ -8,8 +8,8 @@ use Rattle.runs.specs.Causes.{judge, when}
 use Rattle.layout.specs.Layout.{mark, word}
 
 -- they are refused as 17, then 18, then 1
-unfoldable pub headAnswer : List ℕ → Answer
-headAnswer dump =
+unfoldable pub head_answer : List ℕ → Answer
+head_answer dump =
     judge
     (when (ltb (length dump) 8 || not (same (take 3 dump) mark)) WrongMark
     ∷ when (not (eqb (word (get_or dump 3 0) (get_or dump 4 0)) 1)) WrongVersion

@@ -1,7 +1,7 @@
 -- Document 02, S-13: the layout of a dump.
 use Rattle.std.specs.Prelude.{ℕ, ◌+◌, ◌*◌, ◌/◌, ◌%◌, List, [], ◌∷◌, ◌++◌, length, take, drop}
 use Rattle.runs.specs.declared.Extended.TheVariants.{P3}
-use Rattle.runs.specs.Lengths.{kind_of, matrixLen, pmLen, px2Len, controlLen}
+use Rattle.runs.specs.Lengths.{kind_of, matrix_len, pm_len, px2_len, control_len}
 use Rattle.runs.specs.Lent.{Signal}
 use Rattle.calls.specs.Called.{signal}
 
@@ -29,20 +29,20 @@ body [] = []
 body (x ∷ xs) = bytes_of x ++ body xs
 
 -- the dump of the L1 frames xs, which are at most 65,535
-unfoldable pub dumpOf : ℕ → List Signal → List ℕ
-dumpOf mode xs = header mode (length xs) ++ body xs
+unfoldable pub dump_of : ℕ → List Signal → List ℕ
+dump_of mode xs = header mode (length xs) ++ body xs
 
 -- ---- back: how many bytes an L1 frame has in this mode, and the L1 frame in them
 
-unfoldable pub frameBytes : ℕ → ℕ
-frameBytes mode = pmLen + matrixLen (kind_of mode P3) + px2Len mode + controlLen
+unfoldable pub frame_bytes : ℕ → ℕ
+frame_bytes mode = pm_len + matrix_len (kind_of mode P3) + px2_len mode + control_len
 
 -- the n bytes from byte `from` on; of what ends early, those that there are
 abbrev pub cut : (from n : ℕ) → List ℕ → List ℕ
 cut from n bytes = take n (drop from bytes)
 
-unfoldable pub signalIn : ℕ → List ℕ → Signal
-signalIn mode bytes =
-    let px1 = matrixLen (kind_of mode P3) in
-    let px2 = px2Len mode in
-    signal (cut 0 pmLen bytes) (cut pmLen px1 bytes) (cut (pmLen + px1) px2 bytes) (cut (pmLen + px1 + px2) controlLen bytes)
+unfoldable pub signal_in : ℕ → List ℕ → Signal
+signal_in mode bytes =
+    let px1 = matrix_len (kind_of mode P3) in
+    let px2 = px2_len mode in
+    signal (cut 0 pm_len bytes) (cut pm_len px1 bytes) (cut (pm_len + px1) px2 bytes) (cut (pm_len + px1 + px2) control_len bytes)

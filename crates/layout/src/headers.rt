@@ -1,7 +1,7 @@
 // Document 02, S-13: the first eight bytes of a dump.
 ghost use Rattle.std.specs.Prelude.{◌≡◌, ◌+◌, ◌<◌, length, get_or};
 ghost use Rattle.layout.specs.Layout.{header, word};
-ghost use Rattle.layout.specs.Heads.{headAnswer};
+ghost use Rattle.layout.specs.Heads.{head_answer};
 
 use runs::Answer;
 
@@ -26,7 +26,7 @@ pub fn word_at(dump: &[u8], at: usize) -> usize
 
 // What the first eight bytes are refused as, if they are.
 pub fn head_answer(dump: &[u8]) -> Answer
-    ensures { result ≡ headAnswer dump.now }
+    ensures { result ≡ head_answer dump.now }
 {
     if dump.len() < 8 {
         return Answer::WrongMark;

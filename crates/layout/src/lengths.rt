@@ -1,6 +1,6 @@
 // The bytes of an L1 frame: PM, PX1, PX2 and control end to end.
 ghost use Rattle.std.specs.Prelude.{◌≡◌, ◌+◌, ◌-◌, ◌≤◌, min};
-ghost use Rattle.layout.specs.Layout.{frameBytes};
+ghost use Rattle.layout.specs.Layout.{frame_bytes};
 
 use modes::reader_lengths;
 
@@ -17,7 +17,7 @@ pub fn end_of(from: usize, length: usize, n: usize) -> usize
 
 // The bytes of an L1 frame in this mode.
 pub fn frame_bytes(mode: u8) -> usize
-    ensures { result ≡ frameBytes mode }
+    ensures { result ≡ frame_bytes mode }
 {
     let want = reader_lengths(mode);
     want[5] + want[6] + want[7] + want[8]

@@ -9,7 +9,7 @@ use lib.Dec.{eqb}
 use lib.ListN.{length, take, get_or}
 use lib.Seq.{take_all, take-suc}
 use Rattle.text.specs.Lines.{lines, joined}
-use Rattle.linewise.specs.EachLine.{Printing, eachLine}
+use Rattle.linewise.specs.EachLine.{Printing, each_line}
 use Rattle.linewise.specs.Going.{contains, begun, Going}
 
 pub contains-snoc : (x : ℕ) (bytes : List ℕ) (b : ℕ) → contains x (bytes ++ (b ∷ [])) ≡ (contains x bytes || eqb b x)
@@ -45,14 +45,14 @@ alone (b ∷ bytes) h g = last b bytes g
 
 module _ {L : Type 0} (line_of : List ℕ → L) (printed : Printing) (output : List ℕ → List ℕ) where
   -- before the first byte, with the header printed
-  pub first-line : {text : List ℕ} {line : L} (header : List ℕ) → ((input : List ℕ) → output input ≡ header ++ eachLine printed 1 (lines input)) → text ≡ header
+  pub first-line : {text : List ℕ} {line : L} (header : List ℕ) → ((input : List ℕ) → output input ≡ header ++ each_line printed 1 (lines input)) → text ≡ header
       → line ≡ line_of [] → Going line_of printed output [] text line 1
   unfolding contains
   first-line {text} header is e none = record {
     begins = [];
     plain = refl;
     reads = none;
-    left = λ rest. is rest ∙ ap (λ (l : List ℕ). l ++ eachLine printed 1 (lines rest)) (sym e);
+    left = λ rest. is rest ∙ ap (λ (l : List ℕ). l ++ each_line printed 1 (lines rest)) (sym e);
   }
 
 module _ {L : Type 0} {line_of : List ℕ → L} {printed : Printing} {output : List ℕ → List ℕ} {seen text : List ℕ} {line : L} {number : ℕ}
@@ -66,37 +66,37 @@ module _ {L : Type 0} {line_of : List ℕ → L} {printed : Printing} {output : 
     reads = grown r.begins r.reads;
     left = λ rest.
         ap output (append_assoc seen (b ∷ []) rest) ∙ r.left (b ∷ rest)
-        ∙ ap (λ (l : List ℕ). text ++ eachLine printed number (lines l)) (sym (append_assoc r.begins (b ∷ []) rest));
+        ∙ ap (λ (l : List ℕ). text ++ each_line printed number (lines l)) (sym (append_assoc r.begins (b ∷ []) rest));
   }
 
   -- a newline, after which the line's meaning is printed
   pub ended-line : (b : ℕ) (next : L) (more : List ℕ) → b ≡ 10 → next ≡ line_of []
       → ((bytes : List ℕ) → line ≡ line_of bytes → more ≡ text ++ printed number bytes) → Going line_of printed output (seen ++ (b ∷ [])) more next (number + 1)
-  unfolding contains eachLine
+  unfolding contains each_line
   ended-line b next more e none told = record {
     begins = [];
     plain = refl;
     reads = none;
     left = λ rest.
         ap output (append_assoc seen (b ∷ []) rest) ∙ ap (λ (x : ℕ). output (seen ++ (x ∷ rest))) e ∙ r.left (10 ∷ rest)
-        ∙ ap (λ (l : List (List ℕ)). text ++ eachLine printed number l) (ended r.begins rest r.plain)
-        ∙ sym (append_assoc text (printed number r.begins) (eachLine printed (number + 1) (lines rest)))
-        ∙ ap (λ (l : List ℕ). l ++ eachLine printed (number + 1) (lines rest)) (sym (told r.begins r.reads));
+        ∙ ap (λ (l : List (List ℕ)). text ++ each_line printed number l) (ended r.begins rest r.plain)
+        ∙ sym (append_assoc text (printed number r.begins) (each_line printed (number + 1) (lines rest)))
+        ∙ ap (λ (l : List ℕ). l ++ each_line printed (number + 1) (lines rest)) (sym (told r.begins r.reads));
   }
 
   -- the end of the input: no open line, or one to print
-  whole : output seen ≡ text ++ eachLine printed number (lines r.begins)
+  whole : output seen ≡ text ++ each_line printed number (lines r.begins)
   whole = rw (append-nil, append-nil) at (r.left [])
 
   pub ended-input : ((bytes : List ℕ) → line ≡ line_of bytes → begun bytes ≡ false) → output seen ≡ text ++ []
-  unfolding eachLine
-  ended-input none = whole ∙ ap (λ (l : List (List ℕ)). text ++ eachLine printed number l) (quiet r.begins (none r.begins r.reads))
+  unfolding each_line
+  ended-input none = whole ∙ ap (λ (l : List (List ℕ)). text ++ each_line printed number l) (quiet r.begins (none r.begins r.reads))
 
   pub ended-open : (more : List ℕ) → ((bytes : List ℕ) → line ≡ line_of bytes → begun bytes ≡ true)
       → ((bytes : List ℕ) → line ≡ line_of bytes → more ≡ printed number bytes) → output seen ≡ text ++ more
-  unfolding eachLine
+  unfolding each_line
   ended-open more some told =
-      whole ∙ ap (λ (l : List (List ℕ)). text ++ eachLine printed number l) (alone r.begins (some r.begins r.reads) r.plain)
+      whole ∙ ap (λ (l : List (List ℕ)). text ++ each_line printed number l) (alone r.begins (some r.begins r.reads) r.plain)
       ∙ ap (λ (l : List ℕ). text ++ l) (append-nil (printed number r.begins) ∙ sym (told r.begins r.reads))
 
 -- through a block: at its start, a byte on, and at its end

@@ -5,6 +5,6 @@ abbrev pub Printing : Type 0
 Printing = (number : ℕ) (line : List ℕ) → List ℕ
 
 -- the first of these lines has this number
-unfoldable pub eachLine : Printing → (number : ℕ) → List (List ℕ) → List ℕ
-eachLine printed number [] = []
-eachLine printed number (line ∷ rest) = printed number line ++ eachLine printed (number + 1) rest
+unfoldable pub each_line : Printing → (number : ℕ) → List (List ℕ) → List ℕ
+each_line printed number [] = []
+each_line printed number (line ∷ rest) = printed number line ++ each_line printed (number + 1) rest

@@ -1,7 +1,7 @@
 -- What code that takes an input byte by byte knows on the way. Only the code's contracts need it.
 use Rattle.std.specs.Prelude.{ℕ, ◌≡◌, Bool, true, false, ◌||◌, List, [], ◌∷◌, ◌++◌, eqb}
 use Rattle.text.specs.Lines.{lines}
-use Rattle.linewise.specs.EachLine.{Printing, eachLine}
+use Rattle.linewise.specs.EachLine.{Printing, each_line}
 
 -- there are bytes
 unfoldable pub begun : List ℕ → Bool
@@ -19,4 +19,4 @@ pub record Going {L : Type 0} (line_of : List ℕ → L) (printed : Printing) (o
   pub begins : List ℕ
   pub plain : contains 10 begins ≡ false
   pub reads : line ≡ line_of begins
-  pub left : (rest : List ℕ) → output (seen ++ rest) ≡ text ++ eachLine printed number (lines (begins ++ rest))
+  pub left : (rest : List ℕ) → output (seen ++ rest) ≡ text ++ each_line printed number (lines (begins ++ rest))

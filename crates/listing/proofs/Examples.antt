@@ -1,7 +1,7 @@
 -- The definitions' worked examples: a number, the lines of an input, and refused lines. Assumes nothing.
 use mathlib.Core.Path.{◌≡◌, refl}
 use mathlib.Core.List.{[], ◌∷◌}
-use Rattle.text.specs.Numbers.{isDigit, digitsAlone, is_number, value, spelled, decimal}
+use Rattle.text.specs.Numbers.{is_digit, digits_alone, is_number, value, spelled, decimal}
 use Rattle.text.specs.Lines.{after, before, joined, lines}
 use Rattle.text.specs.Letters.{ascii}
 use Rattle.text.specs.Refused.{refused}
@@ -22,5 +22,5 @@ unfolding lines joined
 three-lines = refl
 
 two-spaces : printed 7 (ascii "1  2") ≡ refused 7
-unfolding printed before after is_number digitsAlone isDigit
+unfolding printed before after is_number digits_alone is_digit
 two-spaces = refl

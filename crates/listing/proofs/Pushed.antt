@@ -8,7 +8,7 @@ use mathlib.Core.List.{List, [], ◌∷◌, ◌++◌}
 use borrow.Author.Tests.{le-leb, lt-leb}
 use lib.Dec.{leb}
 use lib.ListN.{length}
-use Rattle.text.specs.Numbers.{isDigit, digitsAlone, value}
+use Rattle.text.specs.Numbers.{is_digit, digits_alone, value}
 use Rattle.linewise.specs.Going.{begun}
 use Rattle.listing.specs.Running.{part_of}
 use Rattle.listing.specs.declared.parsing.Part.{Part}
@@ -22,10 +22,10 @@ unfolding begun
 begun-snoc [] b = refl
 begun-snoc (c ∷ bytes) b = refl
 
-digits-snoc : (bytes : List ℕ) (b : ℕ) → digitsAlone (bytes ++ (b ∷ [])) ≡ (digitsAlone bytes && isDigit b)
-unfolding digitsAlone
-digits-snoc [] b = and-true (isDigit b)
-digits-snoc (c ∷ bytes) b = ap (λ (t : Bool). isDigit c && t) (digits-snoc bytes b) ∙ sym (and_assoc (isDigit c) (digitsAlone bytes) (isDigit b))
+digits-snoc : (bytes : List ℕ) (b : ℕ) → digits_alone (bytes ++ (b ∷ [])) ≡ (digits_alone bytes && is_digit b)
+unfolding digits_alone
+digits-snoc [] b = and-true (is_digit b)
+digits-snoc (c ∷ bytes) b = ap (λ (t : Bool). is_digit c && t) (digits-snoc bytes b) ∙ sym (and_assoc (is_digit c) (digits_alone bytes) (is_digit b))
 
 value-snoc : (bytes : List ℕ) (b : ℕ) → value (bytes ++ (b ∷ [])) ≡ value bytes * 10 + (b - 48)
 unfolding value
@@ -43,12 +43,12 @@ capped false true v d = omega arith
 capped false false v d = omega arith
 
 pushed : (part : Part) (bytes : List ℕ) (b : ℕ) → part ≡ part_of bytes
-    → part_of (bytes ++ (b ∷ [])) ≡ record { begun = true; number = min 1000 (part.number * 10 + cond (isDigit b) (b - 48) 1000) }
+    → part_of (bytes ++ (b ∷ [])) ≡ record { begun = true; number = min 1000 (part.number * 10 + cond (is_digit b) (b - 48) 1000) }
 unfolding part_of
-pushed part bytes b e = rw (e, begun-snoc, digits-snoc, value-snoc, capped (digitsAlone bytes) (isDigit b) (value bytes) (b - 48))
+pushed part bytes b e = rw (e, begun-snoc, digits-snoc, value-snoc, capped (digits_alone bytes) (is_digit b) (value bytes) (b - 48))
 
 -- the two answers, for the new byte's worth d
-module _ (part : Part) (b d : ℕ) (worth : d ≡ cond (isDigit b) (b - 48) 1000) where
+module _ (part : Part) (b d : ℕ) (worth : d ≡ cond (is_digit b) (b - 48) 1000) where
   pub pushed-full : 1000 ≤ part.number * 10 + d → (bytes : List ℕ) → part ≡ part_of bytes → record { begun = true; number = 1000 } ≡ part_of (bytes ++ (b ∷ []))
   pushed-full h bytes e = sym (pushed part bytes b e ∙ rw (← worth, min-eq_left h))
 
@@ -58,14 +58,14 @@ module _ (part : Part) (b d : ℕ) (worth : d ≡ cond (isDigit b) (b - 48) 1000
 
 -- a byte is below the digits, above them or one of them
 module _ (b : ℕ) where
-  pub under-digits : b < 48 → isDigit b ≡ false
-  unfolding isDigit
+  pub under-digits : b < 48 → is_digit b ≡ false
+  unfolding is_digit
   under-digits h = rw (lt-leb 48 b h)
 
-  pub over-digits : 57 < b → isDigit b ≡ false
-  unfolding isDigit
+  pub over-digits : 57 < b → is_digit b ≡ false
+  unfolding is_digit
   over-digits h = rw (lt-leb b 57 h) (and-false (leb 48 b))
 
-  pub a-digit : 48 ≤ b → b ≤ 57 → isDigit b ≡ true
-  unfolding isDigit
+  pub a-digit : 48 ≤ b → b ≤ 57 → is_digit b ≡ true
+  unfolding is_digit
   a-digit h l = rw (le-leb 48 b h, le-leb b 57 l)

@@ -7,13 +7,13 @@ use Rattle.text.specs.Letters.{ascii}
 use Rattle.text.specs.Lines.{after, before, lines, space}
 use Rattle.text.specs.Numbers.{decimal, is_number, value}
 use Rattle.text.specs.Refused.{refused}
-use Rattle.linewise.specs.EachLine.{eachLine}
+use Rattle.linewise.specs.EachLine.{each_line}
 
-abbrev pub namedP1 : List ℕ
-namedP1 = ascii "P1"
+abbrev pub named_p1 : List ℕ
+named_p1 = ascii "P1"
 
-abbrev pub namedPIDS : List ℕ
-namedPIDS = ascii "PIDS"
+abbrev pub named_pids : List ℕ
+named_pids = ascii "PIDS"
 
 -- row, column, channel, frame number and coded bit
 unfoldable pub cell : (row column : ℕ) (channel : List ℕ) (frame bit : ℕ) → List ℕ
@@ -22,8 +22,8 @@ cell row column channel frame bit =
 
 -- what is printed for each answer of the cell finder
 abbrev pub told : (number row column : ℕ) → Found → List ℕ
-told number row column (P1 bit) = cell row column namedP1 0 bit
-told number row column (Pids frame bit) = cell row column namedPIDS frame bit
+told number row column (P1 bit) = cell row column named_p1 0 bit
+told number row column (Pids frame bit) = cell row column named_pids frame bit
 told number row column (Refused answer) = refused number
 
 -- what is printed for a line: two numbers parted by the first space are a row and a column, any other line is refused
@@ -39,4 +39,4 @@ header = ascii "ROW COL CHANNEL FRAME BIT\n"
 
 -- all that is printed for an input: the header, and the lines numbered from 1
 unfoldable pub output : (input : List ℕ) → List ℕ
-output input = header ++ eachLine printed 1 (lines input)
+output input = header ++ each_line printed 1 (lines input)

@@ -1,7 +1,7 @@
 -- What the code knows of the bytes of a line so far. Only the code's contracts need it: what a line means is said in Numbers, Lines and Printed.
 use Rattle.std.specs.Prelude.{ℕ, min, cond, List}
 use Rattle.queries.specs.Finder.{found}
-use Rattle.text.specs.Numbers.{digitsAlone, value}
+use Rattle.text.specs.Numbers.{digits_alone, value}
 use Rattle.text.specs.Lines.{after, before, space}
 use Rattle.linewise.specs.Going.{Going, begun, contains}
 use Rattle.listing.specs.Printed.{told, output, printed}
@@ -11,7 +11,7 @@ use Rattle.listing.specs.declared.blocks.Progress.{Progress}
 
 -- Whether there are bytes, and their number. 1000 stands for any number from 1000 on, and for bytes that are not digits alone: no row and no column goes so far.
 unfoldable pub part_of : List ℕ → Part
-part_of bytes = record { begun = begun bytes; number = cond (digitsAlone bytes) (min 1000 (value bytes)) 1000 }
+part_of bytes = record { begun = begun bytes; number = cond (digits_alone bytes) (min 1000 (value bytes)) 1000 }
 
 -- whether there was a space, and the parts before and after it
 unfoldable pub line_of : List ℕ → Line

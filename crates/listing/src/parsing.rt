@@ -1,6 +1,6 @@
 // A line, read byte by byte: a few numbers tell all that its bytes mean, however many there are.
 ghost use Rattle.std.specs.Prelude.{◌≡◌, ℕ, ◌-◌, ◌≤◌, cond, List, [], ◌∷◌, ◌++◌};
-ghost use Rattle.text.specs.Numbers.{isDigit};
+ghost use Rattle.text.specs.Numbers.{is_digit};
 ghost use Rattle.linewise.specs.Going.{begun};
 ghost use Rattle.listing.specs.Running.{part_of, line_of};
 
@@ -47,7 +47,7 @@ pub fn is_begun(line: Line) -> bool
 
 // A digit's worth, or 1000 where b is no digit.
 fn digit(b: u8) -> usize
-    ensures { (result ≡ cond (isDigit b) (b - 48) 1000) × (result ≤ 1000) }
+    ensures { (result ≡ cond (is_digit b) (b - 48) 1000) × (result ≤ 1000) }
 {
     if b < 48 {
         return 1000;

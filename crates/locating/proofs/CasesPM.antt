@@ -5,43 +5,43 @@ use native.Mathlib.Decide.{dec_lt}
 use native.Mathlib.Omega.{arith}
 use borrow.Author.Tests.{eq-eqb, ne_eqb, lt-ltb, le-ltb}
 use Rattle.interleaving.specs.declared.Position.{Position}
-use Rattle.interleaving.specs.Matrix.{matrixRow, matrixColumn, cell_of}
-use Rattle.interleaving.specs.PM.{p1Position, pidsPosition, p1Place, pidsPlace}
+use Rattle.interleaving.specs.Matrix.{matrix_row, matrix_column, cell_of}
+use Rattle.interleaving.specs.PM.{p1_position, pids_position, p1_place, pids_place}
 use Rattle.runs.specs.declared.Answer.TheVariants.{WrongLength}
 use Rattle.locating.specs.declared.locator.Located.TheVariants.{At, Refused}
-use Rattle.locating.specs.Locator.{standing, inP1, inPids, located}
+use Rattle.locating.specs.Locator.{standing, in_p1, in_pids, located}
 
 module _ (frame bit : ℕ) where
-  pub p1-frame-out : 1 ≤ frame → Refused (WrongLength 1) ≡ inP1 frame bit
-  unfolding inP1
+  pub p1-frame-out : 1 ≤ frame → Refused (WrongLength 1) ≡ in_p1 frame bit
+  unfolding in_p1
   p1-frame-out h = rw (le-ltb frame 1 h)
 
-  pub p1-bit-out : frame < 1 → 365440 ≤ bit → Refused (WrongLength 2) ≡ inP1 frame bit
-  unfolding inP1
+  pub p1-bit-out : frame < 1 → 365440 ≤ bit → Refused (WrongLength 2) ≡ in_p1 frame bit
+  unfolding in_p1
   p1-bit-out l h = rw (lt-ltb frame 1 l, le-ltb bit 365440 h)
 
-  pub p1-in : frame < 1 → bit < 365440 → standing (p1Position bit) ≡ inP1 frame bit
-  unfolding inP1
+  pub p1-in : frame < 1 → bit < 365440 → standing (p1_position bit) ≡ in_p1 frame bit
+  unfolding in_p1
   p1-in l h = rw (lt-ltb frame 1 l, lt-ltb bit 365440 h)
 
-  pub pids-frame-out : 16 ≤ frame → Refused (WrongLength 1) ≡ inPids frame bit
-  unfolding inPids
+  pub pids-frame-out : 16 ≤ frame → Refused (WrongLength 1) ≡ in_pids frame bit
+  unfolding in_pids
   pids-frame-out h = rw (le-ltb frame 16 h)
 
-  pub pids-bit-out : frame < 16 → 200 ≤ bit → Refused (WrongLength 2) ≡ inPids frame bit
-  unfolding inPids
+  pub pids-bit-out : frame < 16 → 200 ≤ bit → Refused (WrongLength 2) ≡ in_pids frame bit
+  unfolding in_pids
   pids-bit-out l h = rw (lt-ltb frame 16 l, le-ltb bit 200 h)
 
-  pub pids-in : frame < 16 → bit < 200 → standing (pidsPosition (frame * 200 + bit)) ≡ inPids frame bit
-  unfolding inPids
+  pub pids-in : frame < 16 → bit < 200 → standing (pids_position (frame * 200 + bit)) ≡ in_pids frame bit
+  unfolding in_pids
   pids-in l h = rw (lt-ltb frame 16 l, lt-ltb bit 200 h)
 
   -- the channel
-  pub of-p1 : (channel : ℕ) → channel ≡ 1 → inP1 frame bit ≡ located channel frame bit
+  pub of-p1 : (channel : ℕ) → channel ≡ 1 → in_p1 frame bit ≡ located channel frame bit
   unfolding located
   of-p1 channel e = rw (eq-eqb channel 1 e)
 
-  pub of-pids : (channel : ℕ) → (channel ≡ 1 → ⊥) → channel ≡ 2 → inPids frame bit ≡ located channel frame bit
+  pub of-pids : (channel : ℕ) → (channel ≡ 1 → ⊥) → channel ≡ 2 → in_pids frame bit ≡ located channel frame bit
   unfolding located
   of-pids channel n e = rw (ne_eqb channel 1 n, eq-eqb channel 2 e)
 
@@ -80,14 +80,14 @@ pids-range frame bit row column p e = go (dec_lt frame 16) (dec_lt bit 200)
 at-cell : (q p : Position) (row column : ℕ) → standing q ≡ At p row column → cell_of 20 36 q ≡ row * 720 + column
 unfolding standing cell_of
 at-cell q p row column e =
-    let y : matrixRow q ≡ row = cc in
-    let x : matrixColumn 36 q ≡ column = cc in
+    let y : matrix_row q ≡ row = cc in
+    let x : matrix_column 36 q ≡ column = cc in
     ap₂ (λ (y x : ℕ). y * 720 + x) y x
 
-pub p1-cell : (bit row column : ℕ) (p : Position) → located 1 0 bit ≡ At p row column → p1Place bit ≡ row * 720 + column
+pub p1-cell : (bit row column : ℕ) (p : Position) → located 1 0 bit ≡ At p row column → p1_place bit ≡ row * 720 + column
 p1-cell bit row column p e = at-cell _ p row column (p1-in 0 bit (omega arith) (p1-range bit row column p e) ∙ of-p1 0 bit 1 refl ∙ e)
 
-pub pids-cell : (frame bit row column : ℕ) (p : Position) → located 2 frame bit ≡ At p row column → pidsPlace (frame * 200 + bit) ≡ row * 720 + column
+pub pids-cell : (frame bit row column : ℕ) (p : Position) → located 2 frame bit ≡ At p row column → pids_place (frame * 200 + bit) ≡ row * 720 + column
 pids-cell frame bit row column p e =
     let (lf, lb) = pids-range frame bit row column p e in
     at-cell _ p row column (pids-in frame bit lf lb ∙ of-pids frame bit 2 (λ q. omega arith) refl ∙ e)

@@ -5,13 +5,13 @@ use native.Mathlib.Decide.{dec_lt}
 use native.Mathlib.Nat.{div-add-mod', mod-lt}
 use native.Mathlib.Omega.{arith}
 use borrow.Author.Tests.{lt-ltb, le-ltb}
-use Rattle.interleaving.specs.PX.{codedBits, later}
-use Rattle.interleaving.specs.FinderPX.{earlier, codedBit}
+use Rattle.interleaving.specs.PX.{coded_bits, later}
+use Rattle.interleaving.specs.FinderPX.{earlier, coded_bit}
 use Rattle.interleaving.proofs.Mod.{div-of, mod-of, quotient-lt}
 use Rattle.runs.specs.declared.Kind.{Kind}
-use Rattle.runs.specs.Lengths.{tableRow}
+use Rattle.runs.specs.Lengths.{table_row}
 use Rattle.queries.specs.declared.finder_px.FoundPx.TheVariants.{Coded}
-use Rattle.queries.specs.FinderPX.{columnsOf, cell_of, frameCoded, told}
+use Rattle.queries.specs.FinderPX.{columns_of, cell_of, frame_coded, told}
 use Rattle.queries.proofs.Origins.{rows-hold, has-columns}
 use Rattle.locating.specs.declared.locator_px.LocatedPx.TheVariants.{At}
 use Rattle.locating.specs.LocatorPX.{standing}
@@ -43,33 +43,33 @@ undigits c pair row column lr lc =
 
 -- ---- what the locator says of a place in three matrices laid end to end
 
-module _ (k : Kind) (u : tableRow k < 2) where
+module _ (k : Kind) (u : table_row k < 2) where
   -- a place of which the locator says this
   pub record Stands (x later pair row column : ℕ) : Type 0 where
-    pub later-is : later ≡ x / codedBits (tableRow k)
-    pub cell-is : cell_of k pair row column ≡ x % codedBits (tableRow k)
+    pub later-is : later ≡ x / coded_bits (table_row k)
+    pub cell-is : cell_of k pair row column ≡ x % coded_bits (table_row k)
     pub pair_lt : pair < 8
     pub row_lt : row < 64
-    pub column-lt : column < columnsOf k
+    pub column-lt : column < columns_of k
 
-  cells_in : (x : ℕ) → x % codedBits (tableRow k) < 512 * columnsOf k
+  cells_in : (x : ℕ) → x % coded_bits (table_row k) < 512 * columns_of k
   cells_in x =
-      let p : 0 < codedBits (tableRow k) = omega (arith, rows-hold k, has-columns k u) in
+      let p : 0 < coded_bits (table_row k) = omega (arith, rows-hold k, has-columns k u) in
       omega (arith, mod-lt x p, rows-hold k)
 
-  pub standing-is : (x : ℕ) → let n = codedBits (tableRow k) in let c = columnsOf k in standing k x ≡ At (x / n) (x % n / c / 64) (x % n / c % 64) (x % n % c)
+  pub standing-is : (x : ℕ) → let n = coded_bits (table_row k) in let c = columns_of k in standing k x ≡ At (x / n) (x % n / c / 64) (x % n / c % 64) (x % n % c)
   unfolding standing
   standing-is x = refl
 
   pub standing-says : (x n pair row column : ℕ) → standing k x ≡ At n pair row column → Stands x n pair row column
   unfolding standing
   standing-says x n pair row column e =
-      let m : ℕ = x % codedBits (tableRow k) in
-      let d = digits (columnsOf k) (x % codedBits (tableRow k)) (has-columns k u) (cells_in x) in
-      let en : n ≡ x / codedBits (tableRow k) = cc in
-      let ep : pair ≡ x % codedBits (tableRow k) / columnsOf k / 64 = cc in
-      let er : row ≡ x % codedBits (tableRow k) / columnsOf k % 64 = cc in
-      let ec : column ≡ x % codedBits (tableRow k) % columnsOf k = cc in
+      let m : ℕ = x % coded_bits (table_row k) in
+      let d = digits (columns_of k) (x % coded_bits (table_row k)) (has-columns k u) (cells_in x) in
+      let en : n ≡ x / coded_bits (table_row k) = cc in
+      let ep : pair ≡ x % coded_bits (table_row k) / columns_of k / 64 = cc in
+      let er : row ≡ x % coded_bits (table_row k) / columns_of k % 64 = cc in
+      let ec : column ≡ x % coded_bits (table_row k) % columns_of k = cc in
       record {
         later-is = en;
         cell-is = rw (ep, er, ec) d.cell;
@@ -78,32 +78,32 @@ module _ (k : Kind) (u : tableRow k < 2) where
         column-lt = rw ec d.column-lt;
       }
 
-  pub says-standing : (n pair row column : ℕ) → pair < 8 → row < 64 → column < columnsOf k
-      → (x : ℕ) → x ≡ n * codedBits (tableRow k) + cell_of k pair row column → cell_of k pair row column < codedBits (tableRow k)
+  pub says-standing : (n pair row column : ℕ) → pair < 8 → row < 64 → column < columns_of k
+      → (x : ℕ) → x ≡ n * coded_bits (table_row k) + cell_of k pair row column → cell_of k pair row column < coded_bits (table_row k)
       → standing k x ≡ At n pair row column
   unfolding standing
   says-standing n pair row column lp lr lc x e l =
-      let (p, r, c) = undigits (columnsOf k) pair row column lr lc in
-      rw (div-of (codedBits (tableRow k)) n (cell_of k pair row column) x e l, mod-of (codedBits (tableRow k)) n (cell_of k pair row column) x e l, p, r, c)
+      let (p, r, c) = undigits (columns_of k) pair row column lr lc in
+      rw (div-of (coded_bits (table_row k)) n (cell_of k pair row column) x e l, mod-of (coded_bits (table_row k)) n (cell_of k pair row column) x e l, p, r, c)
 
 -- ---- what the finder says of a cell whose bit is known, and the bit of which it says this
 
-pub told-coded : (k : Kind) (half age cell n j : ℕ) → earlier (tableRow k) half cell ≡ n → codedBit (tableRow k) half cell ≡ j → n ≤ age
-    → told k half age cell ≡ Coded n (j / frameCoded k) (j % frameCoded k)
+pub told-coded : (k : Kind) (half age cell n j : ℕ) → earlier (table_row k) half cell ≡ n → coded_bit (table_row k) half cell ≡ j → n ≤ age
+    → told k half age cell ≡ Coded n (j / frame_coded k) (j % frame_coded k)
 unfolding told
 told-coded k half age cell n j e b l = rw (e, b, le-ltb age n l)
 
 pub coded-parts : (k : Kind) (half age cell n frame bit : ℕ) → told k half age cell ≡ Coded n frame bit
-    → (frame ≡ codedBit (tableRow k) half cell / frameCoded k) × (bit ≡ codedBit (tableRow k) half cell % frameCoded k)
+    → (frame ≡ coded_bit (table_row k) half cell / frame_coded k) × (bit ≡ coded_bit (table_row k) half cell % frame_coded k)
 unfolding told
-coded-parts k half age cell n frame bit e = go (dec_lt age (earlier (tableRow k) half cell))
+coded-parts k half age cell n frame bit e = go (dec_lt age (earlier (table_row k) half cell))
   where
-    go : Dec (age < earlier (tableRow k) half cell)
-        → (frame ≡ codedBit (tableRow k) half cell / frameCoded k) × (bit ≡ codedBit (tableRow k) half cell % frameCoded k)
+    go : Dec (age < earlier (table_row k) half cell)
+        → (frame ≡ coded_bit (table_row k) half cell / frame_coded k) × (bit ≡ coded_bit (table_row k) half cell % frame_coded k)
     go (yes l) =
-        let x = rw (lt-ltb age (earlier (tableRow k) half cell) l) at e in
+        let x = rw (lt-ltb age (earlier (table_row k) half cell) l) at e in
         let z : ◌≡◌ {A = ℕ} 0 1 = cc in
         absurd (omega arith)
     go (no l) =
-        let x = rw (le-ltb age (earlier (tableRow k) half cell) (omega arith)) at e in
+        let x = rw (le-ltb age (earlier (table_row k) half cell) (omega arith)) at e in
         (cc, cc)

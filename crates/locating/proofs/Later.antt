@@ -6,14 +6,14 @@ use Prim.Native.Nat.{ℕ, zero, suc, ◌+◌, ◌-◌, ◌*◌, ◌/◌, ◌%◌
 use native.Mathlib.Decide.{dec_lt}
 use native.Mathlib.Nat.{div-add-mod', mod-lt}
 use native.Mathlib.Omega.{arith}
-use Rattle.interleaving.specs.PX.{codedBits, cells, step_of, place, later}
-use Rattle.interleaving.specs.FinderPX.{source, since, origin, earlier, codedBit}
+use Rattle.interleaving.specs.PX.{coded_bits, cells, step_of, place, later}
+use Rattle.interleaving.specs.FinderPX.{source, since, origin, earlier, coded_bit}
 use Rattle.interleaving.proofs.Mod.{mod-of, div-of, quotient-lt}
 use Rattle.interleaving.proofs.OncePX.{px-each-once, place-lt}
-use Rattle.interleaving.proofs.Steps.{stepOf-lt, later-lt}
+use Rattle.interleaving.proofs.Steps.{step_of-lt, later-lt}
 
 -- bit j of an L1 frame of N bits is written to cell P, whose step is d later: n L1 frames on it is bit c, and its step, counted in that half, is P
-module _ (N j c P d : ℕ) (lj : j < N) (lc : c < N) (lP : P < 2 * N) where
+module _ (N j c P d : ℕ) (lj : j < N) (lc : c < N) (l_p : P < 2 * N) where
   -- the distance, counted around the matrix
   distance : (s : ℕ) → s < 2 * N → d ≡ (P + 2 * N - s) % (2 * N) → (s + d ≡ P) ⊎ (s + d ≡ P + 2 * N)
   distance s ls e =
@@ -50,9 +50,9 @@ counted N j c d (suc zero) ln x = omega arith
 counted N j c d (suc (suc zero)) ln x = omega arith
 counted N j c d (suc (suc (suc n))) ln x = absurd (omega arith)
 
-module _ (kind half j : ℕ) (hk : kind < 2) (lh : half < 2) (lj : j < codedBits kind) where
+module _ (kind half j : ℕ) (hk : kind < 2) (lh : half < 2) (lj : j < coded_bits kind) where
   abbrev N : ℕ
-  N = codedBits kind
+  N = coded_bits kind
 
   -- its step, the cell that it writes, and how many steps later that is read
   abbrev s : ℕ
@@ -69,7 +69,7 @@ module _ (kind half j : ℕ) (hk : kind < 2) (lh : half < 2) (lj : j < codedBits
   c = later kind half j % N
 
   s-lt : s < cells kind
-  s-lt = stepOf-lt kind half j lh lj
+  s-lt = step_of-lt kind half j lh lj
 
   pub few : n < 3
   few = quotient-lt (later kind half j) N 3 (later-lt kind half j lj)
@@ -104,5 +104,5 @@ module _ (kind half j : ℕ) (hk : kind < 2) (lh : half < 2) (lj : j < codedBits
   pub earlier-again : earlier kind ((half + n) % 2) c ≡ n
   earlier-again = omega (arith, few, div-of N (2 - n) j (origin kind ((half + n) % 2) c) from lj)
 
-  pub bit-again : codedBit kind ((half + n) % 2) c ≡ j
+  pub bit-again : coded_bit kind ((half + n) % 2) c ≡ j
   bit-again = mod-of N (2 - n) j (origin kind ((half + n) % 2) c) from lj

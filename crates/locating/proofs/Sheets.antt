@@ -7,23 +7,23 @@ use Rattle.bits.specs.Bits.{bit_at}
 use Rattle.interleaving.specs.declared.Position.{Position}
 use Rattle.runs.specs.declared.Extended.{Extended}
 use Rattle.runs.specs.declared.Main.TheVariants.{Plain}
-use Rattle.runs.specs.MainChannels.{mainOf}
+use Rattle.runs.specs.MainChannels.{main_of}
 use Rattle.runs.specs.Lengths.{kind_of}
-use Rattle.runs.specs.Chain.{codedOf}
-use Rattle.runs.specs.Lent.{frame_of, matrixOf}
-use Rattle.runs.specs.Starting.{stateAt}
-use Rattle.runs.specs.Runs.{SenderRun, count, frame_at, matricesAt}
+use Rattle.runs.specs.Chain.{coded_of}
+use Rattle.runs.specs.Lent.{frame_of, matrix_of}
+use Rattle.runs.specs.Starting.{state_at}
+use Rattle.runs.specs.Runs.{SenderRun, count, frame_at, matrices_at}
 use Rattle.runs.proofs.Sender.{covered_of}
 use Rattle.queries.specs.declared.finder.Found.TheVariants.{P1, Pids}
 use Rattle.queries.specs.Finder.{found}
-use Rattle.queries.specs.FinderPX.{cell_of, frameCoded}
-use Rattle.queries.specs.Sheets.{channelNumber}
+use Rattle.queries.specs.FinderPX.{cell_of, frame_coded}
+use Rattle.queries.specs.Sheets.{channel_number}
 use Rattle.queries.proofs.Sheets.{sheets}
 use Rattle.locating.specs.declared.locator.Located.TheVariants.{At}
 use Rattle.locating.specs.declared.locator_px.LocatedPx.TheVariants.{At as AtPX}
 use Rattle.locating.specs.Locator.{located}
-use Rattle.locating.specs.LocatorPX.{locatedPX}
-use Rattle.locating.specs.BothWays.{foundAgain}
+use Rattle.locating.specs.LocatorPX.{located_px}
+use Rattle.locating.specs.BothWays.{found_again}
 use Rattle.locating.specs.Sheets.{LocatedSheet}
 use Rattle.locating.proofs.AgainPM.{both_ways}
 use Rattle.locating.proofs.AgainPX.{both-ways-px}
@@ -31,26 +31,26 @@ use Rattle.locating.proofs.CasesPM.{p1-range, pids-range}
 
 -- the finder names the bit that is located in a cell of PM
 p1-found : (bit row column : ℕ) (p : Position) → located 1 0 bit ≡ At p row column → found row column ≡ P1 bit
-p1-found bit row column p e = sym (ap foundAgain e) ∙ both_ways.p1-there bit (p1-range bit row column p e)
+p1-found bit row column p e = sym (ap found_again e) ∙ both_ways.p1-there bit (p1-range bit row column p e)
 
 pids-found : (frame bit row column : ℕ) (p : Position) → located 2 frame bit ≡ At p row column → found row column ≡ Pids frame bit
 pids-found frame bit row column p e =
     let (lf, lb) = pids-range frame bit row column p e in
-    sym (ap foundAgain e) ∙ both_ways.pids-there frame bit lf lb
+    sym (ap found_again e) ∙ both_ways.pids-there frame bit lf lb
 
-module _ (mode : ℕ) (is : mainOf mode ≡ Plain) (a : SenderRun mode) (t : ℕ) where
+module _ (mode : ℕ) (is : main_of mode ≡ Plain) (a : SenderRun mode) (t : ℕ) where
   coded_in : (e : Extended) (z frame bit n pair row column : ℕ) → z < 8
-      → locatedPX (stateAt mode z t) (channelNumber e) frame bit ≡ AtPX n pair row column
+      → located_px (state_at mode z t) (channel_number e) frame bit ≡ AtPX n pair row column
       → t + n < count mode a
-      → bit_at (matrixOf mode (matricesAt mode a (t + n)) e) (cell_of (kind_of mode e) pair row column)
-      ≡ codedOf (kind_of mode e) (frame_of (frame_at mode a t) e) (frame * frameCoded (kind_of mode e) + bit)
+      → bit_at (matrix_of mode (matrices_at mode a (t + n)) e) (cell_of (kind_of mode e) pair row column)
+      ≡ coded_of (kind_of mode e) (frame_of (frame_at mode a t) e) (frame * frame_coded (kind_of mode e) + bit)
   coded_in e z frame bit n pair row column lz f h =
       let there = (both-ways-px mode (covered_of mode a) is e).there z z t frame bit n pair row column lz lz f in
       let same : t + n - n ≡ t = omega arith in
       ((sheets mode is a (t + n) h).coded-cell e z pair row column n frame bit lz there).1
-      ∙ ap (λ (u : ℕ). codedOf (kind_of mode e) (frame_of (frame_at mode a u) e) (frame * frameCoded (kind_of mode e) + bit)) same
+      ∙ ap (λ (u : ℕ). coded_of (kind_of mode e) (frame_of (frame_at mode a u) e) (frame * frame_coded (kind_of mode e) + bit)) same
 
-pub located-sheets : (mode : ℕ) → mainOf mode ≡ Plain → (a : SenderRun mode) (t : ℕ) → t < count mode a → LocatedSheet mode a t
+pub located-sheets : (mode : ℕ) → main_of mode ≡ Plain → (a : SenderRun mode) (t : ℕ) → t < count mode a → LocatedSheet mode a t
 located-sheets mode is a t h =
     record {
       p1-bit = λ bit row column p e. (sheets mode is a t h).p1-cell row column bit (p1-found bit row column p e);

@@ -1,32 +1,32 @@
 -- House matter: into which cell of PX1 or PX2 a coded bit of P3 or P4 goes, and how many L1 frames later than its own it is sent, in MP2, MP3 and MP11.
 use Rattle.std.specs.Prelude.{ℕ, ◌+◌, ◌*◌, ◌/◌, ◌%◌, cond, eqb, ltb}
-use Rattle.interleaving.specs.PX.{codedBits, later}
+use Rattle.interleaving.specs.PX.{coded_bits, later}
 use Rattle.runs.specs.declared.Answer.TheVariants.{StateNotValid, WrongLength}
 use Rattle.runs.specs.declared.State.{State}
 use Rattle.runs.specs.declared.Kind.{Kind}
 use Rattle.runs.specs.Answers.{number_of, place_of}
-use Rattle.runs.specs.Lengths.{tableRow}
+use Rattle.runs.specs.Lengths.{table_row}
 use Rattle.runs.specs.Starting.{valid}
-use Rattle.queries.specs.FinderPX.{kindOfNumber, columnsOf, frameCoded}
+use Rattle.queries.specs.FinderPX.{kind_of_number, columns_of, frame_coded}
 use Rattle.locating.specs.declared.locator_px.LocatedPx.{LocatedPx}
 use Rattle.locating.specs.declared.locator_px.LocatedPx.TheVariants.{At, Refused}
 
 -- cell x of an L1 frame's matrices and of those that follow, laid end to end: how many L1 frames later, the block pair, the row of its matrix and the column
 unfoldable pub standing : (k : Kind) (x : ℕ) → LocatedPx
 standing k x =
-    let n = codedBits (tableRow k) in
-    let c = columnsOf k in
+    let n = coded_bits (table_row k) in
+    let c = columns_of k in
     At (x / n) (x % n / c / 64) (x % n / c % 64) (x % n % c)
 
 -- of the L1 frame that the state comes before, the coded bit of the transfer frame. Refused: a state that is not valid; a channel that the mode does not
 -- send at place 0, a transfer frame above 7 at 1, a bit past its end at 2
-unfoldable pub locatedPX : State → (channel frame bit : ℕ) → LocatedPx
-locatedPX s channel frame bit =
-    let k = kindOfNumber s.mode channel in
+unfoldable pub located_px : State → (channel frame bit : ℕ) → LocatedPx
+located_px s channel frame bit =
+    let k = kind_of_number s.mode channel in
     cond (valid s)
-    (cond (eqb (columnsOf k) 0) (Refused (WrongLength 0))
+    (cond (eqb (columns_of k) 0) (Refused (WrongLength 0))
     (cond (ltb frame 8)
-    (cond (ltb bit (frameCoded k)) (standing k (later (tableRow k) s.half (frame * frameCoded k + bit))) (Refused (WrongLength 2)))
+    (cond (ltb bit (frame_coded k)) (standing k (later (table_row k) s.half (frame * frame_coded k + bit))) (Refused (WrongLength 2)))
     (Refused (WrongLength 1))))
     (Refused StateNotValid)
 

@@ -6,20 +6,20 @@ use Rattle.locating.specs.Locator as PM
 use Rattle.locating.specs.LocatorPX as PX
 
 -- row and column of PM; how many L1 frames later, block pair, row and column
-abbrev inPM : PM.Values → List ℕ
-inPM v = v.row ∷ v.column ∷ []
+abbrev in_pm : PM.Values → List ℕ
+in_pm v = v.row ∷ v.column ∷ []
 
-abbrev inPX : PX.Values → List ℕ
-inPX v = v.after ∷ v.pair ∷ v.row ∷ v.column ∷ []
+abbrev in_px : PX.Values → List ℕ
+in_px v = v.after ∷ v.pair ∷ v.row ∷ v.column ∷ []
 
 abbrev pm : (channel frame bit : ℕ) → List ℕ
-pm channel frame bit = inPM (PM.values (PM.located channel frame bit))
+pm channel frame bit = in_pm (PM.values (PM.located channel frame bit))
 
 abbrev px : (bit : ℕ) → List ℕ
-px bit = inPX (PX.values (PX.locatedPX (fresh 3) 3 0 bit))
+px bit = in_px (PX.values (PX.located_px (fresh 3) 3 0 bit))
 
-unfoldable pub locatedPoints : List (List ℕ × List ℕ)
-locatedPoints =
+unfoldable pub located_points : List (List ℕ × List ℕ)
+located_points =
     (pm 1 0 0, 192 ∷ 360 ∷ [])
     ∷ (pm 1 0 1, 448 ∷ 72 ∷ [])
     ∷ (pm 1 0 20, 224 ∷ 360 ∷ [])

@@ -1,7 +1,7 @@
 // Into which cell of PM a coded bit goes.
 ghost use Rattle.std.specs.Prelude.{◌≡◌};
 ghost use Rattle.interleaving.specs.Matrix.{Inside};
-ghost use Rattle.locating.specs.Locator.{standing as «standing-of», inP1, inPids, located, values};
+ghost use Rattle.locating.specs.Locator.{standing as «standing-of», in_p1, in_pids, located, values};
 
 use pm::Position;
 use runs::Answer;
@@ -35,7 +35,7 @@ fn standing(position: Position) -> Located
 
 // A coded bit of P1, whose one transfer frame is frame 0.
 fn locate_p1(frame: usize, bit: usize) -> Located
-    ensures { result ≡ inP1 frame bit }
+    ensures { result ≡ in_p1 frame bit }
 {
     if frame >= 1 {
         return Located::Refused {
@@ -52,7 +52,7 @@ fn locate_p1(frame: usize, bit: usize) -> Located
 
 // A coded bit of one of the sixteen PIDS frames.
 fn locate_pids(frame: usize, bit: usize) -> Located
-    ensures { result ≡ inPids frame bit }
+    ensures { result ≡ in_pids frame bit }
 {
     if frame >= 16 {
         return Located::Refused {

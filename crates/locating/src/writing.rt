@@ -1,7 +1,7 @@
 // How the interleaver of its channel writes a coded bit (sections 10.2.3, 10.2.4 and 10.2.6).
 ghost use Rattle.std.specs.Prelude.{◌≡◌, ◌*◌, ◌≤◌, ◌<◌};
 ghost use Rattle.interleaving.specs.PX.{partitions, cells};
-ghost use Rattle.locating.specs.Writing.{partitionOf, counterOf, p1Writing, pidsWriting, pxWriting};
+ghost use Rattle.locating.specs.Writing.{partition_of, counter_of, p1_writing, pids_writing, px_writing};
 
 use pm::Position;
 
@@ -17,7 +17,7 @@ pub struct Writing {
 // 10.2.3: of P1 bit i.
 pub fn write_p1(i: usize) -> Writing
     requires { i < 365440 }
-    ensures { result ≡ p1Writing i }
+    ensures { result ≡ p1_writing i }
 {
     let position = pm::p1_position(i);
     let cell = pm::cell_of(position);
@@ -32,7 +32,7 @@ pub fn write_p1(i: usize) -> Writing
 // 10.2.4: of PIDS bit i of the sixteen frames.
 pub fn write_pids(i: usize) -> Writing
     requires { i < 3200 }
-    ensures { result ≡ pidsWriting i }
+    ensures { result ≡ pids_writing i }
 {
     let position = pm::pids_position(i);
     let cell = pm::cell_of(position);
@@ -54,7 +54,7 @@ struct Entry {
 // 10.2.6.1: the partition that step i goes to, and the counter that it fetches. In MP2 (kind 0) M is 4, and with the offset of 2 partition 0 begins within a run; else M is 2.
 fn entry_of(kind: usize, i: usize) -> Entry
     requires { (kind < 2) × (i < cells kind) }
-    ensures { (result.partition ≡ partitionOf kind i) × (result.count ≡ counterOf kind i) × (result.partition < 4) × (result.count < 36864) }
+    ensures { (result.partition ≡ partition_of kind i) × (result.count ≡ counter_of kind i) × (result.partition < 4) × (result.count < 36864) }
 {
     if kind == 0 {
         let x = i + 2;
@@ -81,7 +81,7 @@ fn width(kind: usize) -> usize
 // 10.2.6: of step i, by its partition and counter.
 pub fn write_px(kind: usize, i: usize) -> Writing
     requires { (kind < 2) × (i < cells kind) }
-    ensures { (result ≡ pxWriting kind i) × (result.cell < cells kind) }
+    ensures { (result ≡ px_writing kind i) × (result.cell < cells kind) }
 {
     let e = entry_of(kind, i);
     let partition = e.partition;

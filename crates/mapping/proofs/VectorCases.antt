@@ -15,10 +15,10 @@ use Rattle.runs.specs.declared.Kind.{Kind}
 use Rattle.runs.specs.declared.Kind.TheVariants.{Unused, Narrow, Wide}
 use Rattle.runs.specs.declared.Answer.{Answer}
 use Rattle.runs.specs.declared.Answer.TheVariants.{Success, ModeNotCovered, WrongLength, SymbolTooHigh, ScaleNotUsable}
-use Rattle.runs.specs.Answers.{number_of, onSuccess}
+use Rattle.runs.specs.Answers.{number_of, on_success}
 use Rattle.runs.specs.Causes.{at, judge, when, wrong}
 use Rattle.runs.proofs.Answered.{not-success, success-is}
-use Rattle.runs.specs.Lengths.{kind_of, matrixLen, pmLen, controlLen}
+use Rattle.runs.specs.Lengths.{kind_of, matrix_len, pm_len, control_len}
 use Rattle.runs.specs.Lent.{Signal}
 use Rattle.runs.proofs.Passing.{wrong-head}
 use Rattle.modes.specs.Sizes.{placed, sizes}
@@ -27,27 +27,27 @@ use Rattle.subcarriers.specs.declared.Source.{Source}
 use Rattle.points.specs.declared.Point.{Point}
 use Rattle.points.specs.Points.{usable}
 use Rattle.mapping.specs.Readable.{Fillable, Readable, wanted, within}
-use Rattle.subcarriers.specs.Slots.{modeAt}
-use Rattle.subcarriers.specs.Tables.{mapped, sourceOf}
-use Rattle.mapping.specs.Vector.{Vector, admitted, answer_of, filled, imaginaryParts, pointAt, pointFor, realParts, scale_at, vector, vectorSizes, width}
+use Rattle.subcarriers.specs.Slots.{mode_at}
+use Rattle.subcarriers.specs.Tables.{mapped, source_of}
+use Rattle.mapping.specs.Vector.{Vector, admitted, answer_of, filled, imaginary_parts, point_at, point_for, real_parts, scale_at, vector, vector_sizes, width}
 use Rattle.mapping.proofs.Rows.{carries-in-rows}
 
-module _ (n k w1 w2 : ℕ) (source : Source) (s : source ≡ sourceOf (modeAt n) k) (e1 : w1 ≡ width (kind_of (modeAt n) P3)) (e2 : w2 ≡ width (kind_of (modeAt n) P4)) where
+module _ (n k w1 w2 : ℕ) (source : Source) (s : source ≡ source_of (mode_at n) k) (e1 : w1 ≡ width (kind_of (mode_at n) P3)) (e2 : w2 ≡ width (kind_of (mode_at n) P4)) where
   pub inside_is : n < 4 → k < 1093 → within w1 w2 source ≡ true
   inside_is h l = (λ i. within (e1 i) (e2 i) (s i)) ∙ carries-in-rows n k h l
 
   pub pieced : (symbol : ℕ) (lower upper : Float) (g : Signal) (scale : Float) → scale ≡ scale_at lower upper k
-      → pointFor symbol w1 w2 g source scale ≡ pointAt (modeAt n) symbol lower upper g k
-  unfolding pointAt
-  pieced symbol lower upper g scale f = λ i. pointFor symbol (e1 i) (e2 i) g (s i) (f i)
+      → point_for symbol w1 w2 g source scale ≡ point_at (mode_at n) symbol lower upper g k
+  unfolding point_at
+  pieced symbol lower upper g scale f = λ i. point_for symbol (e1 i) (e2 i) g (s i) (f i)
 
 -- ---- the mode's number and the widths, as the code has them
 
-module _ (mode n : ℕ) {w1 w2 : ℕ} {k3 k4 : Kind} (m : modeAt n ≡ mode) (a3 : k3 ≡ kind_of mode P3) (b3 : w1 ≡ width k3) (a4 : k4 ≡ kind_of mode P4) (b4 : w2 ≡ width k4) where
-  pub width1-is : w1 ≡ width (kind_of (modeAt n) P3)
+module _ (mode n : ℕ) {w1 w2 : ℕ} {k3 k4 : Kind} (m : mode_at n ≡ mode) (a3 : k3 ≡ kind_of mode P3) (b3 : w1 ≡ width k3) (a4 : k4 ≡ kind_of mode P4) (b4 : w2 ≡ width k4) where
+  pub width1-is : w1 ≡ width (kind_of (mode_at n) P3)
   width1-is = b3 ∙ ap width a3 ∙ ap (λ (x : ℕ). width (kind_of x P3)) (sym m)
 
-  pub width2-is : w2 ≡ width (kind_of (modeAt n) P4)
+  pub width2-is : w2 ≡ width (kind_of (mode_at n) P4)
   width2-is = b4 ∙ ap width a4 ∙ ap (λ (x : ℕ). width (kind_of x P4)) (sym m)
 
   pub readable-is : (symbol : ℕ) (g : Signal) → Readable symbol (width (kind_of mode P3)) (width (kind_of mode P4)) g → Readable symbol w1 w2 g
@@ -55,10 +55,10 @@ module _ (mode n : ℕ) {w1 w2 : ℕ} {k3 k4 : Kind} (m : modeAt n ≡ mode) (a3
       subst (λ (x : ℕ). Readable symbol x w2 g) (sym (b3 ∙ ap width a3)) (subst (λ (x : ℕ). Readable symbol (width (kind_of mode P3)) x g) (sym (b4 ∙ ap width a4)) r)
 
 -- a point of the mode of number n is one of the mode
-pub of-mode : (mode n symbol : ℕ) (lower upper : Float) (g : Signal) (k : ℕ) (p : Point) → modeAt n ≡ mode → p ≡ pointAt (modeAt n) symbol lower upper g k
-    → (p.re ≡ (pointAt mode symbol lower upper g k).re) × (p.im ≡ (pointAt mode symbol lower upper g k).im)
+pub of-mode : (mode n symbol : ℕ) (lower upper : Float) (g : Signal) (k : ℕ) (p : Point) → mode_at n ≡ mode → p ≡ point_at (mode_at n) symbol lower upper g k
+    → (p.re ≡ (point_at mode symbol lower upper g k).re) × (p.im ≡ (point_at mode symbol lower upper g k).im)
 of-mode mode n symbol lower upper g k p m e =
-    let z = e ∙ ap (λ (x : ℕ). pointAt x symbol lower upper g k) m in
+    let z = e ∙ ap (λ (x : ℕ). point_at x symbol lower upper g k) m in
     (ap (λ (q : Point). q.re) z, ap (λ (q : Point). q.im) z)
 
 -- ---- answers
@@ -111,7 +111,7 @@ clear mode symbol lower upper o e =
 
 -- ---- the call
 
-long : (k : Kind) (n : ℕ) → n ≡ matrixLen k → 8 * n ≡ 512 * width k
+long : (k : Kind) (n : ℕ) → n ≡ matrix_len k → 8 * n ≡ 512 * width k
 long Unused n e = omega arith
 long Narrow n e = omega arith
 long Wide n e = omega arith
@@ -121,7 +121,7 @@ narrow Unused = omega arith
 narrow Narrow = omega arith
 narrow Wide = omega arith
 
-refused : {A : Type 0} (answer : Answer) (x y : A) → (number_of answer ≡ 0 → ⊥) → onSuccess answer x y ≡ y
+refused : {A : Type 0} (answer : Answer) (x y : A) → (number_of answer ≡ 0 → ⊥) → on_success answer x y ≡ y
 refused answer x y h = not-success answer x y (λ z. h (ap number_of z))
 
 -- a call whose answer has the number 0 leaves the vector of the symbol
@@ -135,18 +135,18 @@ module _ (mode symbol : ℕ) (lower upper : Float) (g : Signal) (re im : List Fl
 
   pub on-success : number_of (filled mode symbol lower upper g re im).answer ≡ 0
       → (mapped mode ≡ true) × (usable lower ≡ true) × (usable upper ≡ true)
-      × (filled mode symbol lower upper g re im ≡ vector Success (realParts mode symbol lower upper g) (imaginaryParts mode symbol lower upper g))
-  unfolding filled answer_of onSuccess
+      × (filled mode symbol lower upper g re im ≡ vector Success (real_parts mode symbol lower upper g) (imaginary_parts mode symbol lower upper g))
+  unfolding filled answer_of on_success
   on-success n =
       let z = clear-answer n in
-      let (cov, right, low, l, u) = clear mode symbol lower upper (wrong 0 (vectorSizes mode g re im)) z in
-      (cov, l, u, ap (λ (x : Answer). onSuccess x (vector Success (realParts mode symbol lower upper g) (imaginaryParts mode symbol lower upper g)) (vector x re im)) (success-is (answer_of mode symbol lower upper g re im) z))
+      let (cov, right, low, l, u) = clear mode symbol lower upper (wrong 0 (vector_sizes mode g re im)) z in
+      (cov, l, u, ap (λ (x : Answer). on_success x (vector Success (real_parts mode symbol lower upper g) (imaginary_parts mode symbol lower upper g)) (vector x re im)) (success-is (answer_of mode symbol lower upper g re im) z))
 
 module _ (mode symbol : ℕ) (lower upper : Float) (g : Signal) (re im : List Float) (have want : List ℕ) (answer : Answer)
     (h : have ≡ length g.matrices.pm ∷ length g.matrices.px1 ∷ length g.matrices.px2 ∷ length g.control ∷ length re ∷ length im ∷ [])
     (w : want ≡ wanted mode) (a : answer ≡ admitted mode symbol lower upper (wrong 0 (sizes have want))) where
-  compared : sizes have want ≡ vectorSizes mode g re im
-  unfolding sizes vectorSizes
+  compared : sizes have want ≡ vector_sizes mode g re im
+  unfolding sizes vector_sizes
   compared = rw (h, w)
 
   answer-is : answer ≡ answer_of mode symbol lower upper g re im
@@ -159,13 +159,13 @@ module _ (mode symbol : ℕ) (lower upper : Float) (g : Signal) (re im : List Fl
       ap (λ (x : Answer). vector x re im) answer-is
       ∙ sym (refused (answer_of mode symbol lower upper g re im) _ _ (λ z. n (ap number_of answer-is ∙ z)))
 
-  pub done : number_of answer ≡ 0 → (re' im' : List Float) → re' ≡ realParts mode symbol lower upper g → im' ≡ imaginaryParts mode symbol lower upper g
+  pub done : number_of answer ≡ 0 → (re' im' : List Float) → re' ≡ real_parts mode symbol lower upper g → im' ≡ imaginary_parts mode symbol lower upper g
       → vector answer re' im' ≡ filled mode symbol lower upper g re im
-  unfolding filled onSuccess
+  unfolding filled on_success
   done n re' im' e f = let s = success-is answer n in rw (sym answer-is ∙ s, s, e, f)
 
   pub fillable : number_of answer ≡ 0 → Fillable mode symbol g re im
-  unfolding vectorSizes pmLen controlLen
+  unfolding vector_sizes pm_len control_len
   fillable n =
       let (cov, right, sym-lt, l, u) = clear mode symbol lower upper (wrong 0 (sizes have want)) (ap number_of (sym a) ∙ n) in
       let right' = rw compared at right in

@@ -1,7 +1,7 @@
 -- For the code alone: what reading a row of each matrix and of the control needs, and the lengths as a list.
 use Rattle.std.specs.Prelude.{◌≡◌, Bool, true, List, [], ◌∷◌, ℕ, ◌+◌, ◌*◌, ◌<◌, ◌≤◌, ltb, length, Float}
 use Rattle.runs.specs.declared.Extended.TheVariants.{P3, P4}
-use Rattle.runs.specs.Lengths.{controlLen, kind_of, matrixLen, pmLen}
+use Rattle.runs.specs.Lengths.{control_len, kind_of, matrix_len, pm_len}
 use Rattle.runs.specs.Lent.{Signal}
 use Rattle.subcarriers.specs.declared.Source.{Source}
 use Rattle.subcarriers.specs.declared.Source.TheVariants.{Unused, Pm, Px1, Px2, Control}
@@ -33,4 +33,4 @@ pub record Fillable (mode symbol : ℕ) (g : Signal) (re im : List Float) : Type
   pub im-long : length im ≡ 1093
 
 abbrev pub wanted : ℕ → List ℕ
-wanted mode = pmLen ∷ matrixLen (kind_of mode P3) ∷ matrixLen (kind_of mode P4) ∷ controlLen ∷ 1093 ∷ 1093 ∷ []
+wanted mode = pm_len ∷ matrix_len (kind_of mode P3) ∷ matrix_len (kind_of mode P4) ∷ control_len ∷ 1093 ∷ 1093 ∷ []

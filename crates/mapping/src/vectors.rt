@@ -8,8 +8,8 @@ ghost use Rattle.runs.specs.Lengths.{kind_of};
 ghost use Rattle.runs.specs.declared.Extended.TheVariants.{P3, P4};
 ghost use Rattle.points.specs.Points.{point_of};
 ghost use Rattle.mapping.specs.Readable.{Fillable, Readable, wanted, within};
-ghost use Rattle.subcarriers.specs.Slots.{modeAt};
-ghost use Rattle.mapping.specs.Vector.{admitted, filled, imaginaryParts, pointAt, pointFor, realParts, scale_at, vector, width};
+ghost use Rattle.subcarriers.specs.Slots.{mode_at};
+ghost use Rattle.mapping.specs.Vector.{admitted, filled, imaginary_parts, point_at, point_for, real_parts, scale_at, vector, width};
 
 use causes::number;
 use modes::{first_wrong, kind_of, matrix_len};
@@ -47,7 +47,7 @@ fn carried(
     control: &[u8],
 ) -> Point
     requires { Readable symbol width1 width2 (signal pm.now px1.now px2.now control.now) × (within width1 width2 source ≡ true) }
-    ensures { result ≡ pointFor symbol width1 width2 (signal pm.now px1.now px2.now control.now) source scale }
+    ensures { result ≡ point_for symbol width1 width2 (signal pm.now px1.now px2.now control.now) source scale }
 {
     match source {
         Source::Unused => Point { re: 0.0, im: 0.0 },
@@ -82,9 +82,9 @@ fn element(
     px2: &[u8],
     control: &[u8],
 ) -> Point
-    requires { (n < 4) × (k < 1093) × (width1 ≡ width (kind_of (modeAt n) P3)) × (width2 ≡ width (kind_of (modeAt n) P4))
+    requires { (n < 4) × (k < 1093) × (width1 ≡ width (kind_of (mode_at n) P3)) × (width2 ≡ width (kind_of (mode_at n) P4))
         × Readable symbol width1 width2 (signal pm.now px1.now px2.now control.now) }
-    ensures { result ≡ pointAt (modeAt n) symbol lower upper (signal pm.now px1.now px2.now control.now) k }
+    ensures { result ≡ point_at (mode_at n) symbol lower upper (signal pm.now px1.now px2.now control.now) k }
 {
     let s = source_of(n, k);
     let scale = scale_at(lower, upper, k);
@@ -125,8 +125,8 @@ fn fill_points(
     im: &mut [f32],
 )
     requires { Fillable mode symbol (signal pm.now px1.now px2.now control.now) re.old im.old }
-    ensures { (re.new ≡ realParts mode symbol lower upper (signal pm.now px1.now px2.now control.now))
-        × (im.new ≡ imaginaryParts mode symbol lower upper (signal pm.now px1.now px2.now control.now)) }
+    ensures { (re.new ≡ real_parts mode symbol lower upper (signal pm.now px1.now px2.now control.now))
+        × (im.new ≡ imaginary_parts mode symbol lower upper (signal pm.now px1.now px2.now control.now)) }
 {
     let n = mode_number(mode);
     let width1 = width_of(kind_of(mode, Extended::P3));

@@ -14,7 +14,7 @@ use Rattle.text.specs.Put.{Put}
 use Rattle.text.proofs.Stored.{put-most, put-text, put_then}
 use Rattle.cause_words.specs.Words.{words}
 use Rattle.cause_words.specs.NoSheet.{begins, why}
-use Rattle.messages.specs.Lines.{followed, goesOn, in_words, noSheet, refusal}
+use Rattle.messages.specs.Lines.{followed, goes_on, in_words, no_sheet, refusal}
 
 -- a text at the start
 pub at-start : {a b t : List ℕ} {end most : ℕ} → most ≤ length a → Put a b 0 end most t → IsPrefixLen end b × (take end b ≡ t)
@@ -35,8 +35,8 @@ put-in-words number place frame room h i = at-start room (put_then h i)
 
 pub put-goes-on : {a b c : List ℕ} {m end : ℕ} (frame : ℕ) → 53 ≤ length a → Put a b 0 m 32 (ascii "refused: input goes on at frame ")
     → Put b c m end 21 (followed frame (ascii "\n"))
-    → IsPrefixLen end c × (take end c ≡ goesOn frame)
-unfolding goesOn
+    → IsPrefixLen end c × (take end c ≡ goes_on frame)
+unfolding goes_on
 put-goes-on frame room h i = at-start room (put_then h i)
 
 -- ---- why there is no sheet
@@ -48,18 +48,18 @@ first-bytes text most n e = elim (dec_lt most (length text)) [
 ]
 
 module _ (text : List ℕ) where
-  pub of-a-sheet : (a : List ℕ) → begins (ascii "NO SHEET ") text ≡ false → IsPrefixLen 0 a × (take 0 a ≡ noSheet text)
-  unfolding noSheet
+  pub of-a-sheet : (a : List ℕ) → begins (ascii "NO SHEET ") text ≡ false → IsPrefixLen 0 a × (take 0 a ≡ no_sheet text)
+  unfolding no_sheet
   of-a-sheet a e = (prefix_len_of_le 0 a (omega arith), rw e)
 
   pub of_none : {a b c : List ℕ} {m n end : ℕ} → begins (ascii "NO SHEET ") text ≡ true → n ≡ min 91 (length text) → 251 ≤ length a
-      → Put a b 0 m (length (take n text)) (take n text) → Put b c m end 160 (why text) → IsPrefixLen end c × (take end c ≡ noSheet text)
-  unfolding noSheet
+      → Put a b 0 m (length (take n text)) (take n text) → Put b c m end 160 (why text) → IsPrefixLen end c × (take end c ≡ no_sheet text)
+  unfolding no_sheet
   of_none {n = n} e h room p q =
       let line = put-most {n = 91} (omega (arith, length-take n text)) (put-text (first-bytes text 91 n h) p) in
       rw e (at-start room (put_then line q))
 
   -- a line that has no more than 91 bytes is said whole
-  pub said-whole : begins (ascii "NO SHEET ") text ≡ true → length text ≤ 91 → noSheet text ≡ text ++ why text
-  unfolding noSheet
+  pub said-whole : begins (ascii "NO SHEET ") text ≡ true → length text ≤ 91 → no_sheet text ≡ text ++ why text
+  unfolding no_sheet
   said-whole e h = rw e (ap (λ (l : List ℕ). l ++ why text) (take_all 91 text h))

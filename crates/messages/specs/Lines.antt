@@ -20,9 +20,9 @@ unfoldable pub in_words : (number place frame : ℕ) → List ℕ
 in_words number place frame = refusal number place frame ++ words number
 
 -- an input that goes on where L1 frame `frame` would stand, behind the last
-unfoldable pub goesOn : (frame : ℕ) → List ℕ
-goesOn frame = ascii "refused: input goes on at frame " ++ followed frame (ascii "\n")
+unfoldable pub goes_on : (frame : ℕ) → List ℕ
+goes_on frame = ascii "refused: input goes on at frame " ++ followed frame (ascii "\n")
 
 -- of the text that `sheet` prints: nothing of a sheet; of the line that says why there is none that line, which has at most 91 bytes, and the cause in words
-unfoldable pub noSheet : (text : List ℕ) → List ℕ
-noSheet text = cond (begins (ascii "NO SHEET ") text) (take 91 text ++ why text) []
+unfoldable pub no_sheet : (text : List ℕ) → List ℕ
+no_sheet text = cond (begins (ascii "NO SHEET ") text) (take 91 text ++ why text) []

@@ -2,7 +2,7 @@
 ghost use Rattle.std.specs.Prelude.{◌≡◌, ◌≤◌, length, take};
 ghost use Rattle.io.specs.Counts.{IsPrefixLen};
 ghost use Rattle.text.specs.Put.{Put};
-ghost use Rattle.messages.specs.Lines.{goesOn, in_words, noSheet, refusal};
+ghost use Rattle.messages.specs.Lines.{goes_on, in_words, no_sheet, refusal};
 
 use libc::STDERR_FILENO;
 use programs::write_out;
@@ -42,7 +42,7 @@ pub fn tell(lines: &[u8]) {
 // Puts what is said of the text of a sheet: where there is none, its line, and the cause in words.
 pub fn put_no_sheet(sheet: &[u8], out: &mut [u8]) -> usize
     requires { 251 ≤ length out.old }
-    ensures { IsPrefixLen result out.new × (take result out.new ≡ noSheet sheet.now) }
+    ensures { IsPrefixLen result out.new × (take result out.new ≡ no_sheet sheet.now) }
 {
     if !cause_words::begins(b"NO SHEET ", sheet) {
         return 0;
@@ -71,7 +71,7 @@ pub fn refuse(number: u8, place: usize, frame: u64) {
 // Puts the line for an input that goes on behind its last L1 frame, where L1 frame `frame` would stand.
 pub fn put_goes_on(out: &mut [u8], frame: u64) -> usize
     requires { 53 ≤ length out.old }
-    ensures { IsPrefixLen result out.new × (take result out.new ≡ goesOn frame) }
+    ensures { IsPrefixLen result out.new × (take result out.new ≡ goes_on frame) }
 {
     let a = put(out, 0, b"refused: input goes on at frame ");
     field(out, a, frame, b'\n')

@@ -1,9 +1,9 @@
 // Documents 01 and 02: what a mode has, channels, lent lengths and the last age, and which lent length is wrong.
 ghost use Rattle.std.specs.Prelude.{◌≡◌, List, ℕ, ◌≤◌, length};
 ghost use Rattle.runs.specs.Causes.{wrong};
-ghost use Rattle.runs.specs.MainChannels.{delayLen, lastAge, mainOf, p1Len, p2Len, p1'Len};
-ghost use Rattle.runs.specs.Lengths.{frameLen, kind_of, matrixLen, readerLen, senderLen, tableRow};
-ghost use Rattle.runs.specs.Lent.{orZeros};
+ghost use Rattle.runs.specs.MainChannels.{delay_len, last_age, main_of, p1_len, p2_len, p1'_len};
+ghost use Rattle.runs.specs.Lengths.{frame_len, kind_of, matrix_len, reader_len, sender_len, table_row};
+ghost use Rattle.runs.specs.Lent.{or_zeros};
 ghost use Rattle.runs.specs.declared.Extended.TheVariants.{P3, P4};
 ghost use Rattle.modes.specs.Sizes.{placed, sizes, wanted};
 
@@ -11,7 +11,7 @@ use runs::{Extended, Kind, Main};
 
 // How a mode fills PM.
 pub fn main_of(mode: u8) -> Main
-    ensures { result ≡ mainOf mode }
+    ensures { result ≡ main_of mode }
 {
     if mode == 5 {
         return Main::Mp5;
@@ -24,7 +24,7 @@ pub fn main_of(mode: u8) -> Main
 
 // The last age: there it stands still.
 pub fn last_age(main: Main) -> u8
-    ensures { result ≡ lastAge main }
+    ensures { result ≡ last_age main }
 {
     match main {
         Main::Plain => 2,
@@ -35,7 +35,7 @@ pub fn last_age(main: Main) -> u8
 
 // The bytes of P1, of P2, of P1' in PX2, and of a delay memory.
 pub fn p1_len(main: Main) -> usize
-    ensures { result ≡ p1Len main }
+    ensures { result ≡ p1_len main }
 {
     match main {
         Main::Plain => 18272,
@@ -45,7 +45,7 @@ pub fn p1_len(main: Main) -> usize
 }
 
 fn p2_len(main: Main) -> usize
-    ensures { result ≡ p2Len main }
+    ensures { result ≡ p2_len main }
 {
     match main {
         Main::Plain => 0,
@@ -55,7 +55,7 @@ fn p2_len(main: Main) -> usize
 }
 
 fn second_len(main: Main) -> usize
-    ensures { (result ≡ p1'Len main) × (result ≤ 18432) }
+    ensures { (result ≡ p1'_len main) × (result ≤ 18432) }
 {
     match main {
         Main::Plain => 0,
@@ -65,7 +65,7 @@ fn second_len(main: Main) -> usize
 }
 
 pub fn delay_len(main: Main) -> usize
-    ensures { result ≡ delayLen main }
+    ensures { result ≡ delay_len main }
 {
     match main {
         Main::Plain => 0,
@@ -102,7 +102,7 @@ pub fn kind_of(mode: u8, channel: Extended) -> Kind
 
 // Its row in Tables 10-15, 10-16 and 10-18.
 pub fn table_row(kind: Kind) -> usize
-    ensures { result ≡ tableRow kind }
+    ensures { result ≡ table_row kind }
 {
     match kind {
         Kind::Narrow => 0,
@@ -113,7 +113,7 @@ pub fn table_row(kind: Kind) -> usize
 
 // The bytes of its eight transfer frames.
 pub fn frame_len(kind: Kind) -> usize
-    ensures { result ≡ frameLen kind }
+    ensures { result ≡ frame_len kind }
 {
     match kind {
         Kind::Unused => 0,
@@ -124,7 +124,7 @@ pub fn frame_len(kind: Kind) -> usize
 
 // The bytes of its eight matrices.
 pub fn matrix_len(kind: Kind) -> usize
-    ensures { (result ≡ matrixLen kind) × (result ≤ 9216) }
+    ensures { (result ≡ matrix_len kind) × (result ≤ 9216) }
 {
     match kind {
         Kind::Unused => 0,
@@ -135,7 +135,7 @@ pub fn matrix_len(kind: Kind) -> usize
 
 // The bytes of a sender's memory for it.
 pub fn sender_len(kind: Kind) -> usize
-    ensures { result ≡ senderLen kind }
+    ensures { result ≡ sender_len kind }
 {
     match kind {
         Kind::Unused => 0,
@@ -146,7 +146,7 @@ pub fn sender_len(kind: Kind) -> usize
 
 // The bytes of a reader's memory for it.
 pub fn reader_len(kind: Kind) -> usize
-    ensures { result ≡ readerLen kind }
+    ensures { result ≡ reader_len kind }
 {
     3 * matrix_len(kind)
 }
@@ -176,7 +176,7 @@ fn lengths(mode: u8, memory3: usize, memory4: usize) -> [usize; 12]
 
 // Every length of a sending in this mode, in the order P1, PIDS, P2, P3, P4, PM, PX1, PX2, control, memory for P3, memory for P4, delay memory.
 pub fn sender_lengths(mode: u8) -> [usize; 12]
-    ensures { result ≡ wanted mode (senderLen (kind_of mode P3)) (senderLen (kind_of mode P4)) }
+    ensures { result ≡ wanted mode (sender_len (kind_of mode P3)) (sender_len (kind_of mode P4)) }
 {
     let memory3 = sender_len(kind_of(mode, Extended::P3));
     let memory4 = sender_len(kind_of(mode, Extended::P4));
@@ -185,7 +185,7 @@ pub fn sender_lengths(mode: u8) -> [usize; 12]
 
 // Every length of a reading in this mode, in the same order.
 pub fn reader_lengths(mode: u8) -> [usize; 12]
-    ensures { result ≡ wanted mode (readerLen (kind_of mode P3)) (readerLen (kind_of mode P4)) }
+    ensures { result ≡ wanted mode (reader_len (kind_of mode P3)) (reader_len (kind_of mode P4)) }
 {
     let memory3 = reader_len(kind_of(mode, Extended::P3));
     let memory4 = reader_len(kind_of(mode, Extended::P4));
@@ -194,7 +194,7 @@ pub fn reader_lengths(mode: u8) -> [usize; 12]
 
 // The length of what an input for P3 or P4 means, where this length is wanted (document 02, S-5): nothing means zeros in full.
 pub fn meant_len(have: usize, want: usize) -> usize
-    ensures { (b : List ℕ) → length b ≡ have → result ≡ length (orZeros want b) }
+    ensures { (b : List ℕ) → length b ≡ have → result ≡ length (or_zeros want b) }
 {
     if have == 0 {
         return want;

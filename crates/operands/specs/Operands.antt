@@ -7,14 +7,14 @@ abbrev pub limit : ℕ
 limit = 4294967296
 
 -- the bytes 0 to 9 of ASCII
-unfoldable pub isDigit : ℕ → Bool
-isDigit byte = not (ltb byte 48) && ltb byte 58
+unfoldable pub is_digit : ℕ → Bool
+is_digit byte = not (ltb byte 48) && ltb byte 58
 
 -- the digits that follow a number
 unfoldable pub after : ℕ → List ℕ → Operand
 after n [] = Number n
-after n (byte ∷ text) = cond (isDigit byte) (after (min limit (10 * n + (byte - 48))) text) NotDecimal
+after n (byte ∷ text) = cond (is_digit byte) (after (min limit (10 * n + (byte - 48))) text) NotDecimal
 
-unfoldable pub operandOf : List ℕ → Operand
-operandOf [] = NotDecimal
-operandOf (byte ∷ text) = after 0 (byte ∷ text)
+unfoldable pub operand_of : List ℕ → Operand
+operand_of [] = NotDecimal
+operand_of (byte ∷ text) = after 0 (byte ∷ text)

@@ -1,6 +1,6 @@
 // The arguments of the programs.
 ghost use Rattle.std.specs.Prelude.{◌≡◌, ◌+◌, ◌-◌, ◌*◌, ◌≤◌, min};
-ghost use Rattle.operands.specs.Operands.{isDigit, limit, operandOf};
+ghost use Rattle.operands.specs.Operands.{is_digit, limit, operand_of};
 
 #[derive(Drop)]
 pub enum Operand {
@@ -9,7 +9,7 @@ pub enum Operand {
 }
 
 fn is_digit(byte: u8) -> bool
-    ensures { result ≡ isDigit byte }
+    ensures { result ≡ is_digit byte }
 {
     if byte < 48 {
         return false;
@@ -31,7 +31,7 @@ fn push(n: u64, byte: u8) -> u64
 
 // An argument as a number.
 pub fn decimal(text: &[u8]) -> Operand
-    ensures { result ≡ operandOf text.now }
+    ensures { result ≡ operand_of text.now }
 {
     if text.len() == 0 {
         return Operand::NotDecimal;

@@ -11,9 +11,9 @@ use lib.ListN.{length, length-append, length-take, set, take}
 use lib.Seq.{length-take-le, take_all, take-append-le, take-suc-set}
 use Rattle.text.specs.Lines.{lines}
 use Rattle.text.specs.Refused.{refused}
-use Rattle.linewise.specs.EachLine.{eachLine}
+use Rattle.linewise.specs.EachLine.{each_line}
 use Rattle.linewise.specs.Going.{begun}
-use Rattle.sheettext.specs.Owners.{ownerLine}
+use Rattle.sheettext.specs.Owners.{owner_line}
 use Rattle.ownerlines.specs.Printed.{output, printed}
 use Rattle.ownerlines.specs.Running.{held_of}
 
@@ -88,7 +88,7 @@ printed-held mode number bytes = go (ltb (length bytes) 4096) refl
         too_long mode number (take 4096 bytes) (omega (arith, length-take 4096 bytes)) ∙ sym (too_long mode number bytes h)
 
 module _ (mode number : ℕ) (line : List ℕ) (n : ℕ) (size : length line ≡ 4096) where
-  pub printed-short : n < 4096 → ownerLine mode number (take n line) ≡ printed mode number (take n line)
+  pub printed-short : n < 4096 → owner_line mode number (take n line) ≡ printed mode number (take n line)
   unfolding printed
   printed-short h = sym (rw (lt-ltb (length (take n line)) 4096 (omega (arith, length-take-le n line (omega arith)))))
 
@@ -97,6 +97,6 @@ module _ (mode number : ℕ) (line : List ℕ) (n : ℕ) (size : length line ≡
   printed-long l h = sym (rw (le-ltb (length (take n line)) 4096 (omega (arith, length-take-le n line (omega arith)))))
 
 -- an input has no head
-pub all_lines : (mode : ℕ) (input : List ℕ) → output mode input ≡ [] ++ eachLine (printed mode) 1 (lines input)
+pub all_lines : (mode : ℕ) (input : List ℕ) → output mode input ≡ [] ++ each_line (printed mode) 1 (lines input)
 unfolding output
 all_lines mode input = refl

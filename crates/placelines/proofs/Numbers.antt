@@ -14,8 +14,8 @@ use Rattle.text.specs.Lines.{after, before, space}
 use Rattle.text.proofs.Ends.{after-dropped}
 use Rattle.operands.specs.declared.Operand.{Operand}
 use Rattle.operands.specs.declared.Operand.TheVariants.{Number, NotDecimal}
-use Rattle.operands.specs.Operands.{operandOf}
-use Rattle.placelines.specs.Read.{afterSpaces, isRead, numberAt, value_of, word_at}
+use Rattle.operands.specs.Operands.{operand_of}
+use Rattle.placelines.specs.Read.{after_spaces, is_read, number_at, value_of, word_at}
 
 -- ---- past a space
 
@@ -33,13 +33,13 @@ module _ (line : List ℕ) (at end : ℕ) (e : end ≡ at + length (before space
 
 -- ---- past k spaces
 
-pub spaces-none : (line : List ℕ) → drop 0 line ≡ afterSpaces 0 line
-unfolding afterSpaces
+pub spaces-none : (line : List ℕ) → drop 0 line ≡ after_spaces 0 line
+unfolding after_spaces
 spaces-none line = refl
 
-pub spaces-more : (line : List ℕ) (at next k : ℕ) → drop next line ≡ after space (drop at line) → drop at line ≡ afterSpaces k line
-    → drop next line ≡ afterSpaces (k + 1) line
-unfolding afterSpaces
+pub spaces-more : (line : List ℕ) (at next k : ℕ) → drop next line ≡ after space (drop at line) → drop at line ≡ after_spaces k line
+    → drop next line ≡ after_spaces (k + 1) line
+unfolding after_spaces
 spaces-more line at next k e h = e ∙ ap (after space) h ∙ rw (add-one k)
 
 -- ---- a line that is read
@@ -48,17 +48,17 @@ and_both : (a b : Bool) → (a && b) ≡ true → (a ≡ true) × (b ≡ true)
 and_both true b h = (refl, h)
 and_both false b h = absurd (true≢false (sym h))
 
-pub read_none : (line : List ℕ) → isRead 0 line ≡ true
-unfolding isRead
+pub read_none : (line : List ℕ) → is_read 0 line ≡ true
+unfolding is_read
 read_none line = refl
 
-pub read_more : (line : List ℕ) (k : ℕ) → isRead k line ≡ true → numberAt k line < 256 → isRead (k + 1) line ≡ true
-unfolding isRead
-read_more line k h l = rw (add-one k, h, lt-ltb (numberAt k line) 256 l)
+pub read_more : (line : List ℕ) (k : ℕ) → is_read k line ≡ true → number_at k line < 256 → is_read (k + 1) line ≡ true
+unfolding is_read
+read_more line k h l = rw (add-one k, h, lt-ltb (number_at k line) 256 l)
 
 -- one word that is no number refuses the line
-pub not-read : (line : List ℕ) (k n : ℕ) → k < n → 256 ≤ numberAt k line → isRead n line ≡ false
-unfolding isRead
+pub not-read : (line : List ℕ) (k n : ℕ) → k < n → 256 ≤ number_at k line → is_read n line ≡ false
+unfolding is_read
 not-read line k zero l h = absurd (omega arith)
 not-read line k (suc n) l h = go (ℕ_discrete k n) (λ m. not-read line k n m h)
   where
@@ -66,45 +66,45 @@ not-read line k (suc n) l h = go (ℕ_discrete k n) (λ m. not-read line k n m h
     and-false true = refl
     and-false false = refl
 
-    go : Dec (k ≡ n) → (k < n → isRead n line ≡ false) → (isRead n line && ltb (numberAt n line) 256) ≡ false
-    go (yes e) before = ap (λ (t : Bool). isRead n line && t) (le-ltb (numberAt n line) 256 (rw (sym e) h)) ∙ and-false (isRead n line)
-    go (no m) before = ap (λ (t : Bool). t && ltb (numberAt n line) 256) (before (omega arith))
+    go : Dec (k ≡ n) → (k < n → is_read n line ≡ false) → (is_read n line && ltb (number_at n line) 256) ≡ false
+    go (yes e) before = ap (λ (t : Bool). is_read n line && t) (le-ltb (number_at n line) 256 (rw (sym e) h)) ∙ and-false (is_read n line)
+    go (no m) before = ap (λ (t : Bool). t && ltb (number_at n line) 256) (before (omega arith))
 
-pub read_at : (line : List ℕ) (n : ℕ) → isRead n line ≡ true → (k : ℕ) → k < n → numberAt k line < 256
-unfolding isRead
+pub read_at : (line : List ℕ) (n : ℕ) → is_read n line ≡ true → (k : ℕ) → k < n → number_at k line < 256
+unfolding is_read
 read_at line zero h k l = absurd (omega arith)
-read_at line (suc n) h k l = go (ℕ_discrete k n) (λ m. read_at line n (and_both (isRead n line) _ h).0 k m)
+read_at line (suc n) h k l = go (ℕ_discrete k n) (λ m. read_at line n (and_both (is_read n line) _ h).0 k m)
   where
-    go : Dec (k ≡ n) → (k < n → numberAt k line < 256) → numberAt k line < 256
-    go (yes e) before = rw e (ltb-true (numberAt n line) 256 (and_both (isRead n line) _ h).1)
+    go : Dec (k ≡ n) → (k < n → number_at k line < 256) → number_at k line < 256
+    go (yes e) before = rw e (ltb-true (number_at n line) 256 (and_both (is_read n line) _ h).1)
     go (no m) before = before (omega arith)
 
 -- ---- the number of a word
 
-module _ (word : List ℕ) (read : Operand) (e : read ≡ operandOf word) where
-  pub value-small : (n : ℕ) → read ≡ Number n → n < 256 → n ≡ value_of (operandOf word)
+module _ (word : List ℕ) (read : Operand) (e : read ≡ operand_of word) where
+  pub value-small : (n : ℕ) → read ≡ Number n → n < 256 → n ≡ value_of (operand_of word)
   value-small n k h = let m : n ≡ min n 256 = omega arith in m ∙ sym (ap value_of (sym e ∙ k))
 
-  pub value-great : (n : ℕ) → read ≡ Number n → 256 ≤ n → 256 ≡ value_of (operandOf word)
+  pub value-great : (n : ℕ) → read ≡ Number n → 256 ≤ n → 256 ≡ value_of (operand_of word)
   value-great n k h = let m : 256 ≡ min n 256 = omega arith in m ∙ sym (ap value_of (sym e ∙ k))
 
-  pub value_none : read ≡ NotDecimal → 256 ≡ value_of (operandOf word)
+  pub value_none : read ≡ NotDecimal → 256 ≡ value_of (operand_of word)
   value_none k = sym (ap value_of (sym e ∙ k))
 
 -- ---- number k of a line, by the text after k spaces
 
-module _ (line : List ℕ) (k at : ℕ) (e : drop at line ≡ afterSpaces k line) where
-  whole : take (length line - at) (drop at line) ≡ afterSpaces k line
+module _ (line : List ℕ) (k at : ℕ) (e : drop at line ≡ after_spaces k line) where
+  whole : take (length line - at) (drop at line) ≡ after_spaces k line
   whole = take_all (length line - at) (drop at line) (omega (arith, length-drop at line)) ∙ e
 
-  pub number_word : k < 15 → (word : List ℕ) → word ≡ before space (take (length line - at) (drop at line)) → value_of (operandOf word) ≡ numberAt k line
-  unfolding numberAt word_at
+  pub number_word : k < 15 → (word : List ℕ) → word ≡ before space (take (length line - at) (drop at line)) → value_of (operand_of word) ≡ number_at k line
+  unfolding number_at word_at
   number_word h word w =
-      ap (λ (l : List ℕ). value_of (operandOf l)) (w ∙ ap (before space) whole)
-      ∙ sym (ap (λ (t : Bool). value_of (operandOf (cond t (before space (afterSpaces k line)) (afterSpaces k line)))) (lt-ltb k 15 h))
+      ap (λ (l : List ℕ). value_of (operand_of l)) (w ∙ ap (before space) whole)
+      ∙ sym (ap (λ (t : Bool). value_of (operand_of (cond t (before space (after_spaces k line)) (after_spaces k line)))) (lt-ltb k 15 h))
 
-  pub number-last : 15 ≤ k → value_of (operandOf (take (length line - at) (drop at line))) ≡ numberAt k line
-  unfolding numberAt word_at
+  pub number-last : 15 ≤ k → value_of (operand_of (take (length line - at) (drop at line))) ≡ number_at k line
+  unfolding number_at word_at
   number-last h =
-      ap (λ (l : List ℕ). value_of (operandOf l)) whole
-      ∙ sym (ap (λ (t : Bool). value_of (operandOf (cond t (before space (afterSpaces k line)) (afterSpaces k line)))) (le-ltb k 15 h))
+      ap (λ (l : List ℕ). value_of (operand_of l)) whole
+      ∙ sym (ap (λ (t : Bool). value_of (operand_of (cond t (before space (after_spaces k line)) (after_spaces k line)))) (le-ltb k 15 h))

@@ -1,8 +1,8 @@
 // The numbers of a line.
 ghost use Rattle.std.specs.Prelude.{◌≡◌, ◌+◌, ◌≤◌, ◌<◌, true, length, drop};
-ghost use Rattle.operands.specs.Operands.{operandOf};
+ghost use Rattle.operands.specs.Operands.{operand_of};
 ghost use Rattle.text.specs.Lines.{after, space};
-ghost use Rattle.placelines.specs.Read.{afterSpaces, eightAt, isRead, numberAt, value_of};
+ghost use Rattle.placelines.specs.Read.{after_spaces, eight_at, is_read, number_at, value_of};
 
 use operands::Operand;
 
@@ -20,7 +20,7 @@ fn past_space(line: &[u8], at: usize) -> usize
 
 // Where the text after the first k spaces begins.
 fn past_spaces(line: &[u8], k: usize) -> usize
-    ensures { (result ≤ length line.now) × (drop result line.now ≡ afterSpaces k line.now) }
+    ensures { (result ≤ length line.now) × (drop result line.now ≡ after_spaces k line.now) }
 {
     let mut at: usize = 0;
     let mut i: usize = 0;
@@ -33,7 +33,7 @@ fn past_spaces(line: &[u8], k: usize) -> usize
 
 // The number of a word, 256 where it is greater or no number.
 fn value(word: &[u8]) -> usize
-    ensures { result ≡ value_of (operandOf word.now) }
+    ensures { result ≡ value_of (operand_of word.now) }
 {
     match operands::decimal(word) {
         Operand::Number(n) => {
@@ -48,7 +48,7 @@ fn value(word: &[u8]) -> usize
 
 // Number k of a line.
 fn number_at(line: &[u8], k: usize) -> usize
-    ensures { result ≡ numberAt k line.now }
+    ensures { result ≡ number_at k line.now }
 {
     let at = past_spaces(line, k);
     if k < 15 {
@@ -59,7 +59,7 @@ fn number_at(line: &[u8], k: usize) -> usize
 
 // Whether a line is sixteen numbers.
 pub fn is_read(line: &[u8]) -> bool
-    ensures { result ≡ isRead 16 line.now }
+    ensures { result ≡ is_read 16 line.now }
 {
     let mut k: usize = 0;
     while k < 16 {
@@ -73,8 +73,8 @@ pub fn is_read(line: &[u8]) -> bool
 
 // Eight numbers of a line, from number k on.
 pub fn eight_at(line: &[u8], k: usize) -> [u8; 8]
-    requires { (isRead 16 line.now ≡ true) × (k ≤ 8) }
-    ensures { result ≡ eightAt k line.now }
+    requires { (is_read 16 line.now ≡ true) × (k ≤ 8) }
+    ensures { result ≡ eight_at k line.now }
 {
     let mut numbers = [0u8; 8];
     let mut d: usize = 0;

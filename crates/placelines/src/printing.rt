@@ -5,8 +5,8 @@ ghost use Rattle.runs.specs.Answers.{number_of, place_of};
 ghost use Rattle.allocation.specs.Allocation.{shared};
 ghost use Rattle.text.specs.Numbers.{decimal};
 ghost use Rattle.text.specs.Put.{Put};
-ghost use Rattle.placelines.specs.Read.{eightAt, isRead};
-ghost use Rattle.placelines.specs.Printed.{badLine, behind, output, printed, refused, spelledPlaces, told};
+ghost use Rattle.placelines.specs.Read.{eight_at, is_read};
+ghost use Rattle.placelines.specs.Printed.{bad_line, behind, output, printed, refused, spelled_places, told};
 
 use crate::fields::{eight_at, is_read};
 use runs::Answer;
@@ -29,7 +29,7 @@ fn put_byte(out: &mut [u8], at: usize, n: u8, end: u8) -> usize
 // Puts the sixteen places.
 fn put_places(out: &mut [u8], at: usize, places: &[u8]) -> usize
     requires { (at + 81 ≤ length out.old) × (length places.now ≡ 16) }
-    ensures { Put out.old out.new at result 64 (spelledPlaces 16 places.now) }
+    ensures { Put out.old out.new at result 64 (spelled_places 16 places.now) }
 {
     let mut end = at;
     let mut k: usize = 0;
@@ -53,7 +53,7 @@ fn put_refused(out: &mut [u8], at: usize, answer: Answer) -> usize
 // Puts that a line is no line of sixteen numbers.
 fn put_bad(out: &mut [u8], at: usize, number: u64) -> usize
     requires { at + 81 ≤ length out.old }
-    ensures { Put out.old out.new at result 64 (badLine number) }
+    ensures { Put out.old out.new at result 64 (bad_line number) }
 {
     let m = text::put(out, at, b"BAD LINE ");
     text::field(out, m, number, 10)
@@ -61,8 +61,8 @@ fn put_bad(out: &mut [u8], at: usize, number: u64) -> usize
 
 // Shares the places by the numbers of a line, and puts them.
 fn put_shared(out: &mut [u8], at: usize, line: &[u8]) -> usize
-    requires { (at + 81 ≤ length out.old) × (isRead 16 line.now ≡ true) }
-    ensures { Put out.old out.new at result 64 (told (shared (eightAt 0 line.now) (eightAt 8 line.now) (replicate 16 0))) }
+    requires { (at + 81 ≤ length out.old) × (is_read 16 line.now ≡ true) }
+    ensures { Put out.old out.new at result 64 (told (shared (eight_at 0 line.now) (eight_at 8 line.now) (replicate 16 0))) }
 {
     let shares = eight_at(line, 0);
     let waiting = eight_at(line, 8);

@@ -11,16 +11,16 @@ use Rattle.bits.specs.Bits.{bit_at, number, byte_of, packed}
 use Rattle.bits.specs.Tests.{all}
 use Rattle.bits.proofs.Tests.{all-at}
 use Rattle.bits.proofs.Numbers.{digit, number-cong, number_lt, number-digit}
-use Rattle.bits.proofs.Packed.{length-packed, getD-packed, bitAt-digit}
-use Rattle.interleaving.specs.Matrix.{Inside, matrixRow, matrixColumn, cell_of}
+use Rattle.bits.proofs.Packed.{length-packed, get_or-packed, bit_at-digit}
+use Rattle.interleaving.specs.Matrix.{Inside, matrix_row, matrix_column, cell_of}
 use Rattle.interleaving.specs.EquationsI as I
-use Rattle.interleaving.specs.TableI.{kFor}
-use Rattle.interleaving.specs.PM.{v, p1Position, p1Place}
+use Rattle.interleaving.specs.TableI.{k_for}
+use Rattle.interleaving.specs.PM.{v, p1_position, p1_place}
 use Rattle.interleaving.proofs.Block.{row_lt, column-lt}
 use Rattle.interleaving.proofs.TableI.{together}
 use Rattle.interleaving.proofs.OncePM.{p1-inside}
 use Rattle.transposing.specs.Words.{Begins, quad, eight, spread_of}
-use Rattle.pm.specs.Rows.{Changed, placed, nibbleIn, word_in, ColumnsDone}
+use Rattle.pm.specs.Rows.{Changed, placed, nibble_in, word_in, ColumnsDone}
 use Rattle.transposing.proofs.Words.{quad-cong, quad-bits, sum-quad}
 use Rattle.pm.proofs.RowLaws.{number-split}
 use Rattle.pm.proofs.Cells.{same-partition, same_block}
@@ -40,7 +40,7 @@ module _ (l : List ℕ) (n z : ℕ) (h : get_or l (n + z / 2) 0 < 256) where
       (halves _ h).0
       ∙ number-cong 4 _ _ (λ i m.
       let at : 8 * n + 4 * z + i ≡ 8 * (n + z / 2) + i = omega arith in
-      sym (ap (bit_at l) at ∙ bitAt-digit l (n + z / 2) i (omega arith)))
+      sym (ap (bit_at l) at ∙ bit_at-digit l (n + z / 2) i (omega arith)))
 
   pub nibble-odd : (z % 2 ≡ 0 → ⊥) → get_or l (n + z / 2) 0 % 16 ≡ number 4 (λ i. bit_at l (8 * n + 4 * z + i))
   nibble-odd e =
@@ -48,7 +48,7 @@ module _ (l : List ℕ) (n z : ℕ) (h : get_or l (n + z / 2) 0 < 256) where
       ∙ number-cong 4 _ _ (λ i m.
       let at : 8 * n + 4 * z + i ≡ 8 * (n + z / 2) + (4 + i) = omega arith in
       let d : 7 - (4 + i) ≡ 3 - i = omega arith in
-      sym (ap (bit_at l) at ∙ bitAt-digit l (n + z / 2) (4 + i) (omega arith) ∙ ap (digit (get_or l (n + z / 2) 0)) d))
+      sym (ap (bit_at l) at ∙ bit_at-digit l (n + z / 2) (4 + i) (omega arith) ∙ ap (digit (get_or l (n + z / 2) 0)) d))
 
 -- nibbles that begin at the cell c, as those of a byte and its half
 pub from_cell : (f : ℕ → ℕ) (c odd x : ℕ) → c ≡ 8 * (c / 8) + 4 * odd → number 4 (λ i. f (c + 4 * x + i)) ≡ number 4 (λ i. f (8 * (c / 8) + 4 * (odd + x) + i))
@@ -57,25 +57,25 @@ from_cell f c odd x e = number-cong 4 _ _ (λ i m. ap f (omega arith))
 -- ---- positions
 
 -- the first 320 bits stand in row 0 and column 0
-first_cell : (t : ℕ) → t < 320 → p1Place t ≡ 23040 * (p1Position t).block + 36 * (p1Position t).partition
-unfolding p1Position I.position I.k_of I.row I.column cell_of matrixRow matrixColumn
+first_cell : (t : ℕ) → t < 320 → p1_place t ≡ 23040 * (p1_position t).block + 36 * (p1_position t).partition
+unfolding p1_position I.position I.k_of I.row I.column cell_of matrix_row matrix_column
 first_cell t h = omega arith
 
-pub placed-cell : (t r c : ℕ) → t < 320 → cell_of 20 36 (placed t r c) ≡ p1Place t + 720 * r + c
-unfolding placed cell_of matrixRow matrixColumn
+pub placed-cell : (t r c : ℕ) → t < 320 → cell_of 20 36 (placed t r c) ≡ p1_place t + 720 * r + c
+unfolding placed cell_of matrix_row matrix_column
 placed-cell t r c h = omega (arith, first_cell t h)
 
 -- where the 36 columns of a row begin
-pub row-cell : (t r : ℕ) → t < 320 → r < 32 → (p1Place t + 720 * r + 36 ≤ 368640) × ((p1Place t + 720 * r) % 4 ≡ 0)
+pub row-cell : (t r : ℕ) → t < 320 → r < 32 → (p1_place t + 720 * r + 36 ≤ 368640) × ((p1_place t + 720 * r) % 4 ≡ 0)
 row-cell t r h hr =
-    let inside : Inside 20 16 36 (p1Position t) = p1-inside t (omega arith) in
-    let b : (p1Position t).block < 16 = inside.block-lt in
-    let p : (p1Position t).partition < 20 = inside.partition-lt in
+    let inside : Inside 20 16 36 (p1_position t) = p1-inside t (omega arith) in
+    let b : (p1_position t).block < 16 = inside.block-lt in
+    let p : (p1_position t).partition < 20 = inside.partition-lt in
     (omega (arith, first_cell t h), omega (arith, first_cell t h))
 
 -- the position of the bit t of a k: block and partition are those of t, row and column those of k
-pub position_in : (k t : ℕ) → t < 320 → p1Position (320 * k + t) ≡ placed t (I.row k) (I.column 36 k)
-unfolding p1Position placed I.position
+pub position_in : (k t : ℕ) → t < 320 → p1_position (320 * k + t) ≡ placed t (I.row k) (I.column 36 k)
+unfolding p1_position placed I.position
 position_in k t h =
     let p = same-partition k t h in
     let b = same_block k t h in
@@ -84,21 +84,21 @@ position_in k t h =
 
 -- ---- nibbles and words
 
-nibble-in : (f : ℕ → ℕ) (r t x : ℕ) → x < 9 → nibbleIn f r (9 * t + x) ≡ number 4 (λ i. f (cell_of 20 36 (placed t r (4 * x + i))))
-unfolding nibbleIn
+nibble-in : (f : ℕ → ℕ) (r t x : ℕ) → x < 9 → nibble_in f r (9 * t + x) ≡ number 4 (λ i. f (cell_of 20 36 (placed t r (4 * x + i))))
+unfolding nibble_in
 nibble-in f r t x h =
     let q : (9 * t + x) / 9 ≡ t = omega arith in
     let m : (9 * t + x) % 9 ≡ x = omega arith in
     ap₂ (λ (a b : ℕ). number 4 (λ i. f (cell_of 20 36 (placed a r (4 * b + i))))) q m
 
-pub nibble-at : (f : ℕ → ℕ) (r t x : ℕ) → t < 320 → x < 9 → nibbleIn f r (9 * t + x) ≡ number 4 (λ i. f (p1Place t + 720 * r + 4 * x + i))
+pub nibble-at : (f : ℕ → ℕ) (r t x : ℕ) → t < 320 → x < 9 → nibble_in f r (9 * t + x) ≡ number 4 (λ i. f (p1_place t + 720 * r + 4 * x + i))
 nibble-at f r t x ht hx = nibble-in f r t x hx ∙ number-cong 4 _ _ (λ i l. ap f (placed-cell t r (4 * x + i) ht ∙ omega arith))
 
-pub nibble-in-lt : (f : ℕ → ℕ) → ((c : ℕ) → f c < 2) → (r m : ℕ) → nibbleIn f r m < 16
-unfolding nibbleIn
+pub nibble-in-lt : (f : ℕ → ℕ) → ((c : ℕ) → f c < 2) → (r m : ℕ) → nibble_in f r m < 16
+unfolding nibble_in
 nibble-in-lt f b r m = number_lt 4 _ (λ i h. b _)
 
-pub nibbles-in-lt : (f : ℕ → ℕ) → ((c : ℕ) → f c < 2) → (r : ℕ) (l : List ℕ) → length l ≡ 2880 → Begins (nibbleIn f r) 2880 l → (q : ℕ) → get_or l q 0 < 16
+pub nibbles-in-lt : (f : ℕ → ℕ) → ((c : ℕ) → f c < 2) → (r : ℕ) (l : List ℕ) → length l ≡ 2880 → Begins (nibble_in f r) 2880 l → (q : ℕ) → get_or l q 0 < 16
 nibbles-in-lt f b r l long d q = elim (dec_lt q 2880) [
   | yes h ↦ rw (d.is q h) (nibble-in-lt f b r q)
   | no h ↦ let e : length l ≤ q = omega arith in rw (get_or-eq_default l 0 e) (omega arith)
@@ -157,11 +157,11 @@ eight-turned f {s} {t} es et =
     sum ∙ two-quads _ _ ∙ quad-cong _ (λ i. number 8 (λ j. f j i)) (λ i l. sym (number-split (λ j. f j i)))
 
 -- the nibbles of the word j of the four columns from 4 x on
-pub word-nibble : (f : ℕ → ℕ) (r x j : ℕ) (l : List ℕ) → x < 9 → j < 40 → Begins (nibbleIn f r) 2880 l → (u : ℕ) → u < 8
+pub word-nibble : (f : ℕ → ℕ) (r x j : ℕ) (l : List ℕ) → x < 9 → j < 40 → Begins (nibble_in f r) 2880 l → (u : ℕ) → u < 8
     → get_or l (72 * j + x + 9 * u) 0 ≡ number 4 (λ i. f (cell_of 20 36 (placed (8 * j + u) r (4 * x + i))))
 word-nibble f r x j l hx hj b u hu =
     let at : 72 * j + x + 9 * u ≡ 9 * (8 * j + u) + x = omega arith in
-    b.is (72 * j + x + 9 * u) (omega arith) ∙ ap (nibbleIn f r) at ∙ nibble-in f r (8 * j + u) x hx
+    b.is (72 * j + x + 9 * u) (omega arith) ∙ ap (nibble_in f r) at ∙ nibble-in f r (8 * j + u) x hx
 
 pub word_of : (f : ℕ → ℕ) (r x j : ℕ) → word_in f r x j ≡ quad (λ i. number 8 (λ u. f (cell_of 20 36 (placed (8 * j + u) r (4 * x + i)))))
 unfolding word_in
@@ -169,14 +169,14 @@ word_of f r x j = refl
 
 -- the byte j of the k of a row and a column
 pub column-byte : (f : ℕ → ℕ) (r c j : ℕ) → r < 32 → c < 36 → j < 40
-    → byte_of (λ i. f (p1Place i)) (40 * kFor r c + j) ≡ number 8 (λ u. f (cell_of 20 36 (placed (8 * j + u) r c)))
+    → byte_of (λ i. f (p1_place i)) (40 * k_for r c + j) ≡ number 8 (λ u. f (cell_of 20 36 (placed (8 * j + u) r c)))
 column-byte f r c j hr hc hj =
     number-cong 8 _ _ (λ u l.
-    let k : ℕ = kFor r c in
+    let k : ℕ = k_for r c in
     let at : 8 * (40 * k + j) + u ≡ 320 * k + (8 * j + u) = omega arith in
-    let place : p1Place (320 * k + (8 * j + u)) ≡ cell_of 20 36 (placed (8 * j + u) (I.row k) (I.column 36 k)) =
+    let place : p1_place (320 * k + (8 * j + u)) ≡ cell_of 20 36 (placed (8 * j + u) (I.row k) (I.column 36 k)) =
     ap (cell_of 20 36) (position_in k (8 * j + u) (omega arith)) in
-    ap f (ap p1Place at ∙ place ∙ ap₂ (λ (a b : ℕ). cell_of 20 36 (placed (8 * j + u) a b)) (together.in_row r c hr hc) (together.in-column r c hr hc)))
+    ap f (ap p1_place at ∙ place ∙ ap₂ (λ (a b : ℕ). cell_of 20 36 (placed (8 * j + u) a b)) (together.in_row r c hr hc) (together.in-column r c hr hc)))
 
 -- ---- the columns that are read
 
@@ -187,15 +187,15 @@ pub columns-at : {f : ℕ → ℕ} {m : ℕ} {coded : List ℕ} (n : ℕ) → Co
 columns-at n d e = record { is = λ q h l. d.is q h (omega arith) }
 
 -- the bytes that stand at the place of a row and a column are those of its k
-rank-k : (r c n : ℕ) → r < 32 → c < 36 → n < 45680 → 36 * I.row (n / 40) + I.column 36 (n / 40) ≡ 36 * r + c → n / 40 ≡ kFor r c
+rank-k : (r c n : ℕ) → r < 32 → c < 36 → n < 45680 → 36 * I.row (n / 40) + I.column 36 (n / 40) ≡ 36 * r + c → n / 40 ≡ k_for r c
 rank-k r c n hr hc hn e =
     let col : I.column 36 (n / 40) < 36 = column-lt 4 8 refl (n / 40) in
     let er : I.row (n / 40) ≡ r = omega arith in
     let ec : I.column 36 (n / 40) ≡ c = omega arith in
-    sym (together.back (n / 40) (omega arith)) ∙ ap₂ kFor er ec
+    sym (together.back (n / 40) (omega arith)) ∙ ap₂ k_for er ec
 
 -- a column of PIDS
-pub columns-pids : {f : ℕ → ℕ} {r c : ℕ} {coded : List ℕ} → r < 32 → c < 36 → 1142 ≤ kFor r c → ColumnsDone f (36 * r + c) coded → ColumnsDone f (36 * r + c + 1) coded
+pub columns-pids : {f : ℕ → ℕ} {r c : ℕ} {coded : List ℕ} → r < 32 → c < 36 → 1142 ≤ k_for r c → ColumnsDone f (36 * r + c) coded → ColumnsDone f (36 * r + c + 1) coded
 columns-pids {f} {r} {c} hr hc hk d = record {
   is = λ n h l. elim (ℕ_discrete (36 * I.row (n / 40) + I.column 36 (n / 40)) (36 * r + c)) [
     | yes e ↦ let k = rank-k r c n hr hc h e in absurd (omega arith)
@@ -205,25 +205,25 @@ columns-pids {f} {r} {c} hr hc hk d = record {
 
 -- a column of P1
 pub columns-p1 : {f : ℕ → ℕ} {r c : ℕ} {coded now : List ℕ} → r < 32 → c < 36 → ColumnsDone f (36 * r + c) coded
-    → Changed (40 * kFor r c) (40 * kFor r c + 40) (byte_of (λ i. f (p1Place i))) coded now → ColumnsDone f (36 * r + c + 1) now
+    → Changed (40 * k_for r c) (40 * k_for r c + 40) (byte_of (λ i. f (p1_place i))) coded now → ColumnsDone f (36 * r + c + 1) now
 columns-p1 {f} {r} {c} {coded} {now} hr hc d ch = record {
-  is = λ n h l. elim (dec_lt n (40 * kFor r c)) [
+  is = λ n h l. elim (dec_lt n (40 * k_for r c)) [
     | yes m ↦ ch.below n m ∙ d.is n h (before n h l (λ e. omega arith))
-    | no m ↦ elim (dec_lt n (40 * kFor r c + 40)) [
+    | no m ↦ elim (dec_lt n (40 * k_for r c + 40)) [
       | yes k ↦ ch.inside n (omega arith) k
       | no k ↦ ch.above n (omega arith) ∙ d.is n h (before n h l (λ e. omega arith))
     ]
   ];
 }
   where
-    before : (n : ℕ) → n < 45680 → 36 * I.row (n / 40) + I.column 36 (n / 40) < 36 * r + c + 1 → (n / 40 ≡ kFor r c → ⊥)
+    before : (n : ℕ) → n < 45680 → 36 * I.row (n / 40) + I.column 36 (n / 40) < 36 * r + c + 1 → (n / 40 ≡ k_for r c → ⊥)
         → 36 * I.row (n / 40) + I.column 36 (n / 40) < 36 * r + c
     before n h l out = elim (ℕ_discrete (36 * I.row (n / 40) + I.column 36 (n / 40)) (36 * r + c)) [
       | yes e ↦ absurd (out (rank-k r c n hr hc h e))
       | no e ↦ omega arith
     ]
 
-pub columns-all : (f : ℕ → ℕ) (coded : List ℕ) → length coded ≡ 45680 → ColumnsDone f 1152 coded → coded ≡ packed 45680 (λ i. f (p1Place i))
+pub columns-all : (f : ℕ → ℕ) (coded : List ℕ) → length coded ≡ 45680 → ColumnsDone f 1152 coded → coded ≡ packed 45680 (λ i. f (p1_place i))
 columns-all f coded long d =
     ext_get_or 0 coded (packed 45680 _) (long ∙ sym (length-packed 45680 _))
-    (λ n l. d.is n (omega arith) (omega (arith, row_lt (n / 40), column-lt 4 8 refl (n / 40))) ∙ sym (getD-packed 45680 _ n (omega arith)))
+    (λ n l. d.is n (omega arith) (omega (arith, row_lt (n / 40), column-lt 4 8 refl (n / 40))) ∙ sym (get_or-packed 45680 _ n (omega arith)))

@@ -6,8 +6,8 @@ use Rattle.transposing.specs.Words.{quad}
 use Rattle.interleaving.specs.declared.Position.{Position}
 use Rattle.interleaving.specs.Matrix.{cell_of, position_of}
 use Rattle.interleaving.specs.EquationsI.{row, column}
-use Rattle.interleaving.specs.TableI.{kFor}
-use Rattle.interleaving.specs.PM.{p1Position, p1Place}
+use Rattle.interleaving.specs.TableI.{k_for}
+use Rattle.interleaving.specs.PM.{p1_position, p1_place}
 use Rattle.interleaving.specs.FinderPM.{w}
 
 -- ---- lists
@@ -21,41 +21,41 @@ pub record Changed (a e : ℕ) (g : ℕ → ℕ) (l now : List ℕ) : Type 0 whe
 -- ---- there
 
 -- which of the 320 bits of a k stands in the block b of the partition p
-unfoldable pub shownOf : (b p : ℕ) → ℕ
-shownOf b p = 20 * ((b + (16 - p * 7 % 16)) % 16) + get_or w p 0
+unfoldable pub shown_of : (b p : ℕ) → ℕ
+shown_of b p = 20 * ((b + (16 - p * 7 % 16)) % 16) + get_or w p 0
 
 pub record Shown (l : List ℕ) : Type 0 where
-  pub is : (i : ℕ) → i < 320 → get_or l i 0 ≡ shownOf (i / 20) (i % 20)
+  pub is : (i : ℕ) → i < 320 → get_or l i 0 ≡ shown_of (i / 20) (i % 20)
 
 -- the k of a row and a column, and 0 where that is one of PIDS
 unfoldable pub group_of : (r c : ℕ) → ℕ
-group_of r c = cond (ltb (kFor r c) 1142) (kFor r c) 0
+group_of r c = cond (ltb (k_for r c) 1142) (k_for r c) 0
 
 -- the bit of P1 that is written at a position; where PIDS has it, any
-unfoldable pub bitFor : (ℕ → ℕ) → Position → ℕ
-bitFor f at = f (320 * group_of at.row at.column + shownOf at.block at.partition)
+unfoldable pub bit_for : (ℕ → ℕ) → Position → ℕ
+bit_for f at = f (320 * group_of at.row at.column + shown_of at.block at.partition)
 
 -- four columns of the row r, of the bit m % 320 of their k
-unfoldable pub nibbleFor : (ℕ → ℕ) → (r m : ℕ) → ℕ
-nibbleFor f r m = number 4 (λ i. f (320 * group_of r (4 * (m / 320) + i) + m % 320))
+unfoldable pub nibble_for : (ℕ → ℕ) → (r m : ℕ) → ℕ
+nibble_for f r m = number 4 (λ i. f (320 * group_of r (4 * (m / 320) + i) + m % 320))
 
 -- the place among these of the nibble z of 18, nine of the bit t and nine of the bit u
-unfoldable pub seatOf : (t u z : ℕ) → ℕ
-seatOf t u z = cond (ltb z 9) (320 * z + t) (320 * (z - 9) + u)
+unfoldable pub seat_of : (t u z : ℕ) → ℕ
+seat_of t u z = cond (ltb z 9) (320 * z + t) (320 * (z - 9) + u)
 
 -- the rows before row r of every block are written
 pub record RowsDone (f : ℕ → ℕ) (r : ℕ) (pm : List ℕ) : Type 0 where
-  pub is : (n : ℕ) → n < 46080 → n / 90 % 32 < r → get_or pm n 0 ≡ byte_of (λ c. bitFor f (position_of 20 36 c)) n
+  pub is : (n : ℕ) → n < 46080 → n / 90 % 32 < r → get_or pm n 0 ≡ byte_of (λ c. bit_for f (position_of 20 36 c)) n
 
 -- ---- and back
 
 -- the position of a bit whose number is t modulo 320, and whose k has the row r and the column c
 unfoldable pub placed : (t r c : ℕ) → Position
-placed t r c = record { block = (p1Position t).block; row = r; partition = (p1Position t).partition; column = c }
+placed t r c = record { block = (p1_position t).block; row = r; partition = (p1_position t).partition; column = c }
 
 -- the bits of f, a stream of cells, at four columns of the row r, nine such for each number modulo 320
-unfoldable pub nibbleIn : (ℕ → ℕ) → (r m : ℕ) → ℕ
-nibbleIn f r m = number 4 (λ i. f (cell_of 20 36 (placed (m / 9) r (4 * (m % 9) + i))))
+unfoldable pub nibble_in : (ℕ → ℕ) → (r m : ℕ) → ℕ
+nibble_in f r m = number 4 (λ i. f (cell_of 20 36 (placed (m / 9) r (4 * (m % 9) + i))))
 
 -- the byte j of each of the four columns from 4 x on
 unfoldable pub word_in : (ℕ → ℕ) → (r x j : ℕ) → ℕ
@@ -63,4 +63,4 @@ word_in f r x j = quad (λ i. number 8 (λ u. f (cell_of 20 36 (placed (8 * j + 
 
 -- the bytes of each k before the place m, counted across the rows of a block, are read
 pub record ColumnsDone (f : ℕ → ℕ) (m : ℕ) (coded : List ℕ) : Type 0 where
-  pub is : (n : ℕ) → n < 45680 → 36 * row (n / 40) + column 36 (n / 40) < m → get_or coded n 0 ≡ byte_of (λ i. f (p1Place i)) n
+  pub is : (n : ℕ) → n < 45680 → 36 * row (n / 40) + column 36 (n / 40) < m → get_or coded n 0 ≡ byte_of (λ i. f (p1_place i)) n

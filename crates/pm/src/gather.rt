@@ -2,10 +2,10 @@
 ghost use Rattle.std.specs.Prelude.{◌≡◌, ℕ, ◌+◌, ◌*◌, ◌/◌, ◌%◌, ◌<◌, ◌≤◌, length, get_or};
 ghost use Rattle.bits.specs.Bits.{bit_at, number, packed};
 ghost use Rattle.interleaving.specs.TableI.{ks};
-ghost use Rattle.interleaving.specs.PM.{p1Place};
+ghost use Rattle.interleaving.specs.PM.{p1_place};
 ghost use Rattle.pm.specs.FirstCells.{FirstCells};
 ghost use Rattle.transposing.specs.Words.{Begins, quad, NibbleSpreads};
-ghost use Rattle.pm.specs.Rows.{Changed, nibbleIn, word_in, ColumnsDone};
+ghost use Rattle.pm.specs.Rows.{Changed, nibble_in, word_in, ColumnsDone};
 
 use crate::first_cells;
 use crate::table::{index_table, k_at};
@@ -55,7 +55,7 @@ fn wide_cell(x: u32) -> usize
 // Reads the row r of every block and partition, in the order of the numbers modulo 320 that these have.
 fn read_row(pm: &[u8], cells: &[u32; 320], r: usize, out: &mut [u8; 2880])
     requires { (length pm.now ≡ 46080) × FirstCells cells.now × (r < 32) × (length out.old ≡ 2880) }
-    ensures { (length out.new ≡ 2880) × Begins (nibbleIn (bit_at pm.now) r) 2880 out.new }
+    ensures { (length out.new ≡ 2880) × Begins (nibble_in (bit_at pm.now) r) 2880 out.new }
 {
     let mut t: usize = 0;
     while t < 320 {
@@ -103,7 +103,7 @@ fn turned(spreads: &[u64; 16], nibbles: &[u8; 2880], n: usize) -> u64
 // A byte of each of the four columns from 4 x on of the row, forty times: the four to a word.
 fn column_words(spreads: &[u64; 16], nibbles: &[u8; 2880], x: usize, words: &mut [u32; 40])
     requires { NibbleSpreads spreads.now × ((q : ℕ) → get_or nibbles.now q 0 < 16) × (x < 9) × (length words.old ≡ 40) }
-    ensures { (length words.new ≡ 40) × ((f : ℕ → ℕ) (r : ℕ) → ((c : ℕ) → f c < 2) → Begins (nibbleIn f r) 2880 nibbles.now → Begins (word_in f r x) 40 words.new) }
+    ensures { (length words.new ≡ 40) × ((f : ℕ → ℕ) (r : ℕ) → ((c : ℕ) → f c < 2) → Begins (nibble_in f r) 2880 nibbles.now → Begins (word_in f r x) 40 words.new) }
 {
     let mut j: usize = 0;
     while j < 40 {
@@ -173,7 +173,7 @@ fn put_columns(
     coded: &mut [u8],
 )
     requires { NibbleSpreads spreads.now × (table.now ≡ ks) × ((q : ℕ) → get_or nibbles.now q 0 < 16) × (length coded.old ≡ 45680) × (r < 32) }
-    ensures { (f : ℕ → ℕ) → ((q : ℕ) → f q < 2) → Begins (nibbleIn f r) 2880 nibbles.now → ColumnsDone f (36 * r) coded.old → ColumnsDone f (36 * (r + 1)) coded.new }
+    ensures { (f : ℕ → ℕ) → ((q : ℕ) → f q < 2) → Begins (nibble_in f r) 2880 nibbles.now → ColumnsDone f (36 * r) coded.old → ColumnsDone f (36 * (r + 1)) coded.new }
 {
     let mut words = [0u32; 40];
     let mut x: usize = 0;
@@ -187,7 +187,7 @@ fn put_columns(
 // Reads the coded P1 bits out of the matrix.
 pub fn gather_p1(pm: &[u8], coded: &mut [u8])
     requires { (length pm.now ≡ 46080) × (length coded.old ≡ 45680) }
-    ensures { coded.new ≡ packed 45680 (λ i. bit_at pm.now (p1Place i)) }
+    ensures { coded.new ≡ packed 45680 (λ i. bit_at pm.now (p1_place i)) }
 {
     let spreads = transposing::nibble_spreads();
     let table = index_table();

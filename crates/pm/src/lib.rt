@@ -5,14 +5,14 @@ mod table;
 
 ghost use Rattle.std.specs.Prelude.{◌≡◌, ℕ, ◌+◌, ◌*◌, ◌/◌, ◌<◌, length, get_or};
 ghost use Rattle.bits.specs.Bits.{bit_at, packed, written};
-ghost use Rattle.interleaving.specs.Matrix.{Inside, cell_of, positionAt};
+ghost use Rattle.interleaving.specs.Matrix.{Inside, cell_of, position_at};
 ghost use Rattle.interleaving.specs.InverseI.{spot as «spot_of_lem»};
 ghost use Rattle.interleaving.specs.Source.{at};
 ghost use Rattle.interleaving.specs.TableI.{ks};
-ghost use Rattle.interleaving.specs.PM.{v, p1Position, pidsPosition, p1Place, pidsPlace, matrix};
+ghost use Rattle.interleaving.specs.PM.{v, p1_position, pids_position, p1_place, pids_place, matrix};
 ghost use Rattle.interleaving.specs.FinderPM.{w, source};
-ghost use Rattle.pm.specs.FirstCells.{FirstCells, pidsStart};
-ghost use Rattle.pm.specs.Rows.{shownOf};
+ghost use Rattle.pm.specs.FirstCells.{FirstCells, pids_start};
+ghost use Rattle.pm.specs.Rows.{shown_of};
 
 pub use crate::gather::gather_p1;
 use crate::scatter::scatter_p1;
@@ -76,7 +76,7 @@ fn spot(p: usize, b: usize, k: usize) -> Position
 // 10.2.3: the position of the P1 bit i.
 pub fn p1_position(i: usize) -> Position
     requires { i < 365440 }
-    ensures { result ≡ p1Position i }
+    ensures { result ≡ p1_position i }
 {
     let p = partition(i % 20);
     spot(p, (i / 20 + p * 7) % 16, i / 320)
@@ -85,7 +85,7 @@ pub fn p1_position(i: usize) -> Position
 // 10.2.4: the position of the PIDS bit i.
 pub fn pids_position(i: usize) -> Position
     requires { i < 3200 }
-    ensures { result ≡ pidsPosition i }
+    ensures { result ≡ pids_position i }
 {
     let p = partition(i % 20);
     spot(p, i / 200, i / 20 % 10 + 1142)
@@ -93,7 +93,7 @@ pub fn pids_position(i: usize) -> Position
 
 // The position of a row and a column of the matrix.
 pub fn position_of(row: usize, column: usize) -> Position
-    ensures { result ≡ positionAt 36 row column }
+    ensures { result ≡ position_at 36 row column }
 {
     Position {
         block: row / 32,
@@ -114,7 +114,7 @@ pub fn cell_of(p: Position) -> usize
 // The cell of the P1 bit i.
 fn p1_cell(i: usize) -> usize
     requires { i < 365440 }
-    ensures { result ≡ p1Place i }
+    ensures { result ≡ p1_place i }
 {
     cell_of(p1_position(i))
 }
@@ -122,7 +122,7 @@ fn p1_cell(i: usize) -> usize
 // Which of the 320 bits of a k stands in the block b of the partition p.
 fn shown(b: usize, p: usize) -> usize
     requires { (b < 16) × (p < 20) }
-    ensures { (result ≡ shownOf b p) × (result < 320) }
+    ensures { (result ≡ shown_of b p) × (result < 320) }
 {
     20 * ((b + (16 - p * 7 % 16)) % 16) + turn(p)
 }
@@ -165,15 +165,15 @@ fn first_cells() -> [u32; 320]
 // The cell of the first partition in the block and of the k that the PIDS bits from 20 m on have.
 fn pids_start(m: usize) -> usize
     requires { m < 160 }
-    ensures { (result ≡ pidsStart m) × (result < 367956) }
+    ensures { (result ≡ pids_start m) × (result < 367956) }
 {
     cell_of(spot(0, m / 10, m % 10 + 1142))
 }
 
 // Writes the 20 bits from 20 m on of the coded PIDS bits, those of one block and one k; start is the cell of the first partition.
 fn scatter_pids_k(coded: &[u8], order: &[usize; 20], m: usize, start: usize, pm: &mut [u8])
-    requires { (length coded.now ≡ 400) × (length pm.old ≡ 46080) × (m < 160) × (start ≡ pidsStart m) × (order.now ≡ v) }
-    ensures { (f : ℕ → ℕ) → bit_at pm.old ≡ written pidsPlace (bit_at coded.now) (20 * m) f → bit_at pm.new ≡ written pidsPlace (bit_at coded.now) (20 * m + 20) f }
+    requires { (length coded.now ≡ 400) × (length pm.old ≡ 46080) × (m < 160) × (start ≡ pids_start m) × (order.now ≡ v) }
+    ensures { (f : ℕ → ℕ) → bit_at pm.old ≡ written pids_place (bit_at coded.now) (20 * m) f → bit_at pm.new ≡ written pids_place (bit_at coded.now) (20 * m + 20) f }
 {
     let mut s = 0;
     while s < 20 {
@@ -187,7 +187,7 @@ fn scatter_pids_k(coded: &[u8], order: &[usize; 20], m: usize, start: usize, pm:
 // Writes the coded PIDS bits into the matrix, by Interleaver II: ten k in each block.
 fn scatter_pids(coded: &[u8], pm: &mut [u8])
     requires { (length coded.now ≡ 400) × (length pm.old ≡ 46080) }
-    ensures { pm.new ≡ packed 46080 (written pidsPlace (bit_at coded.now) 3200 (bit_at pm.old)) }
+    ensures { pm.new ≡ packed 46080 (written pids_place (bit_at coded.now) 3200 (bit_at pm.old)) }
 {
     let order = order();
     let mut m = 0;
@@ -209,8 +209,8 @@ pub fn interleave(p1: &[u8], pids: &[u8], pm: &mut [u8])
 
 // Reads the 20 bits from 20 m on of the coded PIDS bits, those of one block and one k; start is the cell of the first partition.
 fn gather_pids_k(pm: &[u8], order: &[usize; 20], m: usize, start: usize, coded: &mut [u8])
-    requires { (length pm.now ≡ 46080) × (length coded.old ≡ 400) × (m < 160) × (start ≡ pidsStart m) × (order.now ≡ v) }
-    ensures { (f : ℕ → ℕ) → bit_at coded.old ≡ written (λ i. i) (λ i. bit_at pm.now (pidsPlace i)) (20 * m) f → bit_at coded.new ≡ written (λ i. i) (λ i. bit_at pm.now (pidsPlace i)) (20 * m + 20) f }
+    requires { (length pm.now ≡ 46080) × (length coded.old ≡ 400) × (m < 160) × (start ≡ pids_start m) × (order.now ≡ v) }
+    ensures { (f : ℕ → ℕ) → bit_at coded.old ≡ written (λ i. i) (λ i. bit_at pm.now (pids_place i)) (20 * m) f → bit_at coded.new ≡ written (λ i. i) (λ i. bit_at pm.now (pids_place i)) (20 * m + 20) f }
 {
     let mut s = 0;
     while s < 20 {
@@ -224,7 +224,7 @@ fn gather_pids_k(pm: &[u8], order: &[usize; 20], m: usize, start: usize, coded: 
 // Reads the coded PIDS bits out of the matrix.
 pub fn gather_pids(pm: &[u8], coded: &mut [u8])
     requires { (length pm.now ≡ 46080) × (length coded.old ≡ 400) }
-    ensures { coded.new ≡ packed 400 (λ i. bit_at pm.now (pidsPlace i)) }
+    ensures { coded.new ≡ packed 400 (λ i. bit_at pm.now (pids_place i)) }
 {
     let order = order();
     let mut m = 0;

@@ -2,9 +2,9 @@
 ghost use Rattle.std.specs.Prelude.{◌≡◌, ℕ, ◌+◌, ◌-◌, ◌*◌, ◌/◌, ◌%◌, ◌<◌, ◌≤◌, length, get_or};
 ghost use Rattle.bits.specs.Bits.{bit_at};
 ghost use Rattle.interleaving.specs.TableI.{ks};
-ghost use Rattle.interleaving.specs.PM.{p1Place};
+ghost use Rattle.interleaving.specs.PM.{p1_place};
 ghost use Rattle.transposing.specs.Words.{Begins, Spreads};
-ghost use Rattle.pm.specs.Rows.{Changed, Shown, group_of, nibbleFor, seatOf, RowsDone};
+ghost use Rattle.pm.specs.Rows.{Changed, Shown, group_of, nibble_for, seat_of, RowsDone};
 
 use crate::shown;
 use crate::table::{index_table, k_at};
@@ -24,7 +24,7 @@ fn start_of(table: &[u16; 1152], r: usize, c: usize) -> usize
 // The nibbles of the row r of every block: of the 36 columns four at a time, of the 320 bits of their k in order.
 fn row_nibbles(spreads: &[u64; 256], table: &[u16; 1152], coded: &[u8], r: usize, out: &mut [u8])
     requires { (length coded.now ≡ 45680) × Spreads spreads.now × (table.now ≡ ks) × (r < 32) × (length out.old ≡ 2880) }
-    ensures { Begins (nibbleFor (bit_at coded.now) r) 2880 out.new }
+    ensures { Begins (nibble_for (bit_at coded.now) r) 2880 out.new }
 {
     let mut x: usize = 0;
     while x < 9 {
@@ -59,7 +59,7 @@ fn wide(x: u16) -> usize
 // The place of the nibble z of two partitions side by side, which show the bits t and u of a k.
 fn seat(t: usize, u: usize, z: usize) -> usize
     requires { (t < 320) × (u < 320) × (z < 18) }
-    ensures { (result ≡ seatOf t u z) × (result < 2880) }
+    ensures { (result ≡ seat_of t u z) × (result < 2880) }
 {
     if z < 9 {
         return 320 * z + t;
@@ -78,7 +78,7 @@ fn joined(high: u8, low: u8) -> u8
 // Writes a row of two partitions side by side, which show the bits t and u of a k: nine bytes from place n on.
 fn write_pair(nibbles: &[u8; 2880], t: usize, u: usize, n: usize, pm: &mut [u8])
     requires { (t < 320) × (u < 320) × (n + 9 ≤ length pm.old) × ((q : ℕ) → get_or nibbles.now q 0 < 16) }
-    ensures { (g : ℕ → ℕ) → ((y : ℕ) → y < 9 → g (n + y) ≡ 16 * get_or nibbles.now (seatOf t u (2 * y)) 0 + get_or nibbles.now (seatOf t u (2 * y + 1)) 0) → Changed n (n + 9) g pm.old pm.new }
+    ensures { (g : ℕ → ℕ) → ((y : ℕ) → y < 9 → g (n + y) ≡ 16 * get_or nibbles.now (seat_of t u (2 * y)) 0 + get_or nibbles.now (seat_of t u (2 * y + 1)) 0) → Changed n (n + 9) g pm.old pm.new }
 {
     let mut y: usize = 0;
     while y < 9 {
@@ -92,7 +92,7 @@ fn write_pair(nibbles: &[u8; 2880], t: usize, u: usize, n: usize, pm: &mut [u8])
 // Writes the row r of every block: its partitions two at a time.
 fn write_row(nibbles: &[u8; 2880], shown: &[u16; 320], r: usize, pm: &mut [u8])
     requires { (length pm.old ≡ 46080) × Shown shown.now × (r < 32) × ((q : ℕ) → get_or nibbles.now q 0 < 16) }
-    ensures { (f : ℕ → ℕ) → Begins (nibbleFor f r) 2880 nibbles.now → RowsDone f r pm.old → RowsDone f (r + 1) pm.new }
+    ensures { (f : ℕ → ℕ) → Begins (nibble_for f r) 2880 nibbles.now → RowsDone f r pm.old → RowsDone f (r + 1) pm.new }
 {
     let mut i: usize = 0;
     while i < 160 {
@@ -110,7 +110,7 @@ fn write_row(nibbles: &[u8; 2880], shown: &[u16; 320], r: usize, pm: &mut [u8])
 // Writes the coded P1 bits into the matrix, by Interleaver I; what it leaves in the cells of PIDS is free.
 pub fn scatter_p1(coded: &[u8], pm: &mut [u8])
     requires { (length coded.now ≡ 45680) × (length pm.old ≡ 46080) }
-    ensures { (i : ℕ) → i < 365440 → bit_at pm.new (p1Place i) ≡ bit_at coded.now i }
+    ensures { (i : ℕ) → i < 365440 → bit_at pm.new (p1_place i) ≡ bit_at coded.now i }
 {
     let spreads = transposing::spreads();
     let table = index_table();

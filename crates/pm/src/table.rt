@@ -1,6 +1,6 @@
 // 10.2.3.3 turned round: the k that lands in each row and column of an interleaver block, row by row.
 ghost use Rattle.std.specs.Prelude.{◌≡◌, ◌<◌};
-ghost use Rattle.interleaving.specs.TableI.{ks, kFor};
+ghost use Rattle.interleaving.specs.TableI.{ks, k_for};
 
 const KS: [u16; 1152] = [
     0, 288, 576, 864, 128, 416, 704, 992, 256, 544, 832, 1120, 96, 384, 672, 960, 224, 512, 800,
@@ -84,7 +84,7 @@ fn wide(x: u16) -> usize
 // The k of the row r and the column c.
 pub fn k_at(table: &[u16; 1152], r: usize, c: usize) -> usize
     requires { (table.now ≡ ks) × (r < 32) × (c < 36) }
-    ensures { (result ≡ kFor r c) × (result < 1152) }
+    ensures { (result ≡ k_for r c) × (result < 1152) }
 {
     wide(table[36 * r + c])
 }

@@ -5,8 +5,8 @@ use Rattle.std.specs.Float.Ieee.{fits, neg, lt}
 use Rattle.points.specs.declared.Point.{Point}
 
 -- positive zero
-abbrev pub zeroPart : Float
-zeroPart = fin false 0 (pos 0)
+abbrev pub zero_part : Float
+zero_part = fin false 0 (pos 0)
 
 -- Tables 12-1 and 12-2: the bit 1 stands for 1, the bit 0 for -1
 abbrev pub unit : ℕ → Float
@@ -21,13 +21,13 @@ unfoldable pub point_of : (i q : ℕ) → Float → Point
 point_of i q scale = record { re = part i scale; im = part q scale }
 
 -- 12.1: unused subcarriers are 0 + j0
-unfoldable pub noPoint : Point
-noPoint = record { re = zeroPart; im = zeroPart }
+unfoldable pub no_point : Point
+no_point = record { re = zero_part; im = zero_part }
 
 -- of single precision, as every f32 is, finite and above zero
 unfoldable pub usable : Float → Bool
-usable scale = fits binary32 scale && (lt zeroPart scale && lt scale (inf false))
+usable scale = fits binary32 scale && (lt zero_part scale && lt scale (inf false))
 
 -- the bit that a part stands for, by its sign
 unfoldable pub by_sign : Float → ℕ
-by_sign x = cond (lt zeroPart x) 1 0
+by_sign x = cond (lt zero_part x) 1 0

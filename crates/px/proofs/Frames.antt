@@ -10,7 +10,7 @@ use lib.Dec.{ltb}
 use lib.ListN.{get_or}
 use borrow.Author.Tests.{eq-eqb, ne_eqb}
 use Rattle.bits.specs.Bits.{bit_at}
-use Rattle.interleaving.specs.PX.{cells, step_of, unreached, isFill}
+use Rattle.interleaving.specs.PX.{cells, step_of, unreached, is_fill}
 use Rattle.interleaving.specs.FinderPX.{source}
 use Rattle.interleaving.proofs.Steps.{unreached-is}
 
@@ -23,8 +23,8 @@ and-false true = refl
 and-false false = refl
 
 -- a bit that is not 1 shows no fill
-pub fill-not : (kind half : ℕ) (px : ℕ → ℕ) (j b : ℕ) → b ≡ px j → (b ≡ 1 → ⊥) → false ≡ isFill kind half px j
-unfolding isFill
+pub fill-not : (kind half : ℕ) (px : ℕ → ℕ) (j b : ℕ) → b ≡ px j → (b ≡ 1 → ⊥) → false ≡ is_fill kind half px j
+unfolding is_fill
 fill-not kind half px j b b-is h = rw (← b-is, ne_eqb b 1 h) (sym (and-false (unreached kind (step_of kind half j))))
 
 -- a byte of zeros shows none
@@ -35,7 +35,7 @@ zero_bit l j i z lo hi =
     let d : 0 / 2 ^ (7 - i % 8) ≡ 0 = zero-div (2 ^ (7 - i % 8)) in
     rw (e, z, d)
 
-pub zero-no-fill : (kind half : ℕ) (l : List ℕ) (j i : ℕ) → get_or l j 0 ≡ 0 → 8 * j ≤ i → i < 8 * j + 8 → isFill kind half (bit_at l) i ≡ false
+pub zero-no-fill : (kind half : ℕ) (l : List ℕ) (j i : ℕ) → get_or l j 0 ≡ 0 → 8 * j ≤ i → i < 8 * j + 8 → is_fill kind half (bit_at l) i ≡ false
 zero-no-fill kind half l j i z lo hi = sym (fill-not kind half (bit_at l) i 0 (zero_bit l j i z lo hi) (λ e. omega arith))
 
 -- i is the bit's step, and s the step that writes its cell
@@ -44,8 +44,8 @@ module _ (kind half : ℕ) (px : ℕ → ℕ) (j : ℕ) (hk : kind < 2)
   test-is : unreached kind (step_of kind half j) ≡ ltb i s
   test-is = rw (← i-is) (unreached-is kind i hk hi ∙ rw s-is)
 
-  pub fill_if : (b : ℕ) → b ≡ px j → b ≡ 1 → ltb i s ≡ isFill kind half px j
-  unfolding isFill
+  pub fill_if : (b : ℕ) → b ≡ px j → b ≡ 1 → ltb i s ≡ is_fill kind half px j
+  unfolding is_fill
   fill_if b b-is h = rw (test-is, ← b-is, eq-eqb b 1 h) (sym (and-true (ltb i s)))
 
 -- the same from the number n on

@@ -12,10 +12,10 @@ use lib.ListN.{length, get_or, set, length-set}
 use lib.Seq.{get_or-set_same, get_or-set_other}
 use Rattle.bits.specs.Bits.{number}
 use Rattle.bits.proofs.Numbers.{number-cong, number_lt}
-use Rattle.interleaving.specs.PX.{partitions, codedBytes, cells}
+use Rattle.interleaving.specs.PX.{partitions, coded_bytes, cells}
 use Rattle.interleaving.specs.FinderPX.{source}
 use Rattle.interleaving.proofs.Mod.{mod_same}
-use Rattle.px.specs.Merged.{ahead, near4, nearBit, nearMask, seenBit, seenMask, mixed, Kept, Merged, Status}
+use Rattle.px.specs.Merged.{ahead, near4, near_bit, near_mask, seen_bit, seen_mask, mixed, Kept, Merged, Status}
 use Rattle.px_lanes.proofs.LaneLaws.{number-split}
 use Rattle.px_steps.proofs.Blocks.{rows_on}
 use Rattle.px_steps.proofs.Early.{unwritten-yes, unwritten-no}
@@ -27,27 +27,27 @@ pub near4-lt : (q : ℕ) → near4 q < 16
 unfolding near4
 near4-lt q = number_lt 4 (λ u. 1 - (q + (32 - 3 * u)) % 32 / 16) (λ u l. omega arith)
 
-pub seenBit-lt : (kind x : ℕ) → seenBit kind x < 2
-unfolding seenBit
-seenBit-lt kind x = go (ltb (1152 * partitions kind * 15 + x) (source kind (1152 * partitions kind * 15 + x)))
+pub seen_bit-lt : (kind x : ℕ) → seen_bit kind x < 2
+unfolding seen_bit
+seen_bit-lt kind x = go (ltb (1152 * partitions kind * 15 + x) (source kind (1152 * partitions kind * 15 + x)))
   where
     go : (b : Bool) → cond b 0 1 < 2
     go true = omega arith
     go false = omega arith
 
-pub seen_no : (kind x i : ℕ) → i ≡ 1152 * partitions kind * 15 + x → ltb i (source kind i) ≡ true → 0 ≡ seenBit kind x
-unfolding seenBit
+pub seen_no : (kind x i : ℕ) → i ≡ 1152 * partitions kind * 15 + x → ltb i (source kind i) ≡ true → 0 ≡ seen_bit kind x
+unfolding seen_bit
 seen_no kind x i i-is e = ap (λ (b : Bool). cond b 0 1) (sym (rw i-is at e))
 
-pub seen-yes : (kind x i : ℕ) → i ≡ 1152 * partitions kind * 15 + x → ltb i (source kind i) ≡ false → 1 ≡ seenBit kind x
-unfolding seenBit
+pub seen-yes : (kind x i : ℕ) → i ≡ 1152 * partitions kind * 15 + x → ltb i (source kind i) ≡ false → 1 ≡ seen_bit kind x
+unfolding seen_bit
 seen-yes kind x i i-is e = ap (λ (b : Bool). cond b 0 1) (sym (rw i-is at e))
 
 pub four-bits : (a b c d : ℕ) → 8 * a + 4 * b + 2 * c + d ≡ (((0 * 2 + a) * 2 + b) * 2 + c) * 2 + d
 four-bits a b c d = omega arith
 
 pub last-lt : (kind x : ℕ) → kind < 2 → x < 1152 * partitions kind → 1152 * partitions kind * 15 + x < cells kind
-unfolding partitions codedBytes
+unfolding partitions coded_bytes
 last-lt zero x h l = omega arith
 last-lt (suc zero) x h l = omega arith
 last-lt (suc (suc kind)) x h l = absurd (omega arith)
@@ -99,23 +99,23 @@ turn_on t a b u ht ha hu e =
 bit-on : (t a b u : ℕ) → t < 16 → a < 32 → u < 4 → b ≡ (a + 3 * u) % 32 → 1 - ((t + (32 - a)) % 32 + (32 - 3 * u)) % 32 / 16 ≡ 1 - (t + (32 - b)) % 32 / 16
 bit-on t a b u ht ha hu e = ap (λ (q : ℕ). 1 - q / 16) (turn_on t a b u ht ha hu e)
 
-four : (kind t v : ℕ) → kind < 2 → t < 16 → near4 ((t + (32 - ahead kind (4 * v))) % 32) ≡ number 4 (λ u. nearBit kind t (4 * v + u))
-unfolding near4 nearBit
+four : (kind t v : ℕ) → kind < 2 → t < 16 → near4 ((t + (32 - ahead kind (4 * v))) % 32) ≡ number 4 (λ u. near_bit kind t (4 * v + u))
+unfolding near4 near_bit
 four kind t v hk ht = number-cong 4 _ _ (λ u l. bit-on t (ahead kind (4 * v)) (ahead kind (4 * v + u)) u ht (ahead-lt kind (4 * v)) l (ahead-on kind v u hk l))
 
 pub near_byte : (kind t g a b : ℕ) → kind < 2 → t < 16 → a ≡ near4 ((t + (32 - ahead kind (8 * g))) % 32) → b ≡ near4 ((t + (32 - ahead kind (8 * g + 4))) % 32)
-    → 16 * a + b ≡ nearMask kind t g
-unfolding nearMask
+    → 16 * a + b ≡ near_mask kind t g
+unfolding near_mask
 near_byte kind t g a b hk ht a-is b-is =
     let e : 8 * g ≡ 4 * (2 * g) = omega arith in
     let d : 8 * g + 4 ≡ 4 * (2 * g + 1) = omega arith in
-    let high : a ≡ number 4 (λ u. nearBit kind t (8 * g + u)) =
+    let high : a ≡ number 4 (λ u. near_bit kind t (8 * g + u)) =
     a-is ∙ ap (λ (x : ℕ). near4 ((t + (32 - ahead kind x)) % 32)) e ∙ four kind t (2 * g) hk ht
-    ∙ number-cong 4 _ _ (λ u l. ap (nearBit kind t) (omega arith)) in
-    let low : b ≡ number 4 (λ u. nearBit kind t (8 * g + (4 + u))) =
+    ∙ number-cong 4 _ _ (λ u l. ap (near_bit kind t) (omega arith)) in
+    let low : b ≡ number 4 (λ u. near_bit kind t (8 * g + (4 + u))) =
     b-is ∙ ap (λ (x : ℕ). near4 ((t + (32 - ahead kind x)) % 32)) d ∙ four kind t (2 * g + 1) hk ht
-    ∙ number-cong 4 _ _ (λ u l. ap (nearBit kind t) (omega arith)) in
-    ap₂ (λ (x y : ℕ). 16 * x + y) high low ∙ number-split (λ u. nearBit kind t (8 * g + u))
+    ∙ number-cong 4 _ _ (λ u l. ap (near_bit kind t) (omega arith)) in
+    ap₂ (λ (x y : ℕ). 16 * x + y) high low ∙ number-split (λ u. near_bit kind t (8 * g + u))
 
 -- ---- what is seen, by the places of block 15: the same but where a place is 0 blocks on
 
@@ -125,8 +125,8 @@ far-on s l h = omega arith
 close-on : (s : ℕ) → s ≤ 15 → 1 ≡ 1 - (15 + (32 - s)) % 32 / 16
 close-on s l = omega arith
 
-seen-near : (kind x : ℕ) → kind < 2 → x < 1152 * partitions kind → 0 < ahead kind x → seenBit kind x ≡ nearBit kind 15 x
-unfolding nearBit
+seen-near : (kind x : ℕ) → kind < 2 → x < 1152 * partitions kind → 0 < ahead kind x → seen_bit kind x ≡ near_bit kind 15 x
+unfolding near_bit
 seen-near kind x hk hx pos =
     let on = rows_on kind 15 x hk hx in
     let r-lt : x / (partitions kind * 36) < 32 = on.2 in
@@ -157,7 +157,7 @@ none_at_zero a (suc (suc (suc zero))) ha hu none = elim (dec_lt 0 ((a + 3 * 3) %
 none_at_zero a (suc (suc (suc (suc u)))) ha hu none = absurd (omega arith)
 
 pub seen-by-near : (kind v a r : ℕ) → kind < 2 → v < 288 * partitions kind → a ≡ ahead kind (4 * v) → a < 32
-    → ((32 - a) % 32 % 3 + (32 - a) % 32 / 10 ≡ 0 → ⊥) → r ≡ near4 ((15 + (32 - a)) % 32) → r ≡ number 4 (λ u. seenBit kind (4 * v + u))
+    → ((32 - a) % 32 % 3 + (32 - a) % 32 / 10 ≡ 0 → ⊥) → r ≡ near4 ((15 + (32 - a)) % 32) → r ≡ number 4 (λ u. seen_bit kind (4 * v + u))
 seen-by-near kind v a r hk hv a-is ha none r-is =
     r-is
     ∙ ap (λ (x : ℕ). near4 ((15 + (32 - x)) % 32)) a-is
@@ -165,17 +165,17 @@ seen-by-near kind v a r hk hv a-is ha none r-is =
     ∙ number-cong 4 _ _ (λ u l. sym (seen-near kind (4 * v + u) hk (omega arith)
     (rw (ahead-on kind v u hk l, ← a-is) (none_at_zero a u ha l none))))
 
-pub seen-byte : (kind g a b : ℕ) → a ≡ number 4 (λ u. seenBit kind (4 * (2 * g) + u)) → b ≡ number 4 (λ u. seenBit kind (4 * (2 * g + 1) + u))
-    → 16 * a + b ≡ seenMask kind g
-unfolding seenMask
+pub seen-byte : (kind g a b : ℕ) → a ≡ number 4 (λ u. seen_bit kind (4 * (2 * g) + u)) → b ≡ number 4 (λ u. seen_bit kind (4 * (2 * g + 1) + u))
+    → 16 * a + b ≡ seen_mask kind g
+unfolding seen_mask
 seen-byte kind g a b a-is b-is =
     ap₂ (λ (x y : ℕ). 16 * x + y)
-    (a-is ∙ number-cong 4 _ _ (λ u l. ap (seenBit kind) (omega arith)))
-    (b-is ∙ number-cong 4 _ (λ u. seenBit kind (8 * g + (4 + u))) (λ u l. ap (seenBit kind) (omega arith)))
-    ∙ number-split (λ u. seenBit kind (8 * g + u))
+    (a-is ∙ number-cong 4 _ _ (λ u l. ap (seen_bit kind) (omega arith)))
+    (b-is ∙ number-cong 4 _ (λ u. seen_bit kind (8 * g + (4 + u))) (λ u l. ap (seen_bit kind) (omega arith)))
+    ∙ number-split (λ u. seen_bit kind (8 * g + u))
 
-pub seen-four : (kind x a b c d : ℕ) → a ≡ seenBit kind x → b ≡ seenBit kind (x + 1) → c ≡ seenBit kind (x + 2) → d ≡ seenBit kind (x + 3)
-    → 8 * a + 4 * b + 2 * c + d ≡ number 4 (λ u. seenBit kind (x + u))
+pub seen-four : (kind x a b c d : ℕ) → a ≡ seen_bit kind x → b ≡ seen_bit kind (x + 1) → c ≡ seen_bit kind (x + 2) → d ≡ seen_bit kind (x + 3)
+    → 8 * a + 4 * b + 2 * c + d ≡ number 4 (λ u. seen_bit kind (x + u))
 unfolding number
 seen-four kind x a b c d a-is b-is c-is d-is =
     let first : x + 0 ≡ x = omega arith in
@@ -207,7 +207,7 @@ module _ (kind half t g : ℕ) (memory px m p : List ℕ) (hk : kind < 2) (hh : 
   S = 144 * partitions kind
 
   abbrev n : ℕ
-  n = codedBytes kind
+  n = coded_bytes kind
 
   abbrev j : ℕ
   j = S * t + g
@@ -219,13 +219,13 @@ module _ (kind half t g : ℕ) (memory px m p : List ℕ) (hk : kind < 2) (hh : 
   Q = (1 - half) * n + j
 
   abbrev X : ℕ
-  X = mixed (get_or memory O 0) (get_or px j 0) (nearMask kind t g)
+  X = mixed (get_or memory O 0) (get_or px j 0) (near_mask kind t g)
 
   abbrev Y : ℕ
-  Y = mixed (get_or px j 0) (get_or memory Q 0) (nearMask kind t g)
+  Y = mixed (get_or px j 0) (get_or memory Q 0) (near_mask kind t g)
 
   abbrev Z : ℕ
-  Z = mixed (get_or memory O 0) (get_or px j 0) (bit_and (nearMask kind t g) (seenMask kind g))
+  Z = mixed (get_or memory O 0) (get_or px j 0) (bit_and (near_mask kind t g) (seen_mask kind g))
 
   j-lt : j < n
   j-lt = (in_frame kind t g 0 hk ht hg (omega arith)).0
@@ -244,13 +244,13 @@ module _ (kind half t g : ℕ) (memory px m p : List ℕ) (hk : kind < 2) (hh : 
         own =
             get_or-set_other (set memory O X) Q O Y 0 (halves-apart half n j j hh j-lt j-lt)
             ∙ get_or-set_same memory O X 0 O-lt
-            ∙ ap₂ (λ (x a : ℕ). mixed x a (nearMask kind t g)) here.own here.shown;
+            ∙ ap₂ (λ (x a : ℕ). mixed x a (near_mask kind t g)) here.own here.shown;
         other =
             get_or-set_same (set memory O X) Q Y 0 Q-lt
-            ∙ ap₂ (λ (x a : ℕ). mixed x a (nearMask kind t g)) here.shown here.other;
+            ∙ ap₂ (λ (x a : ℕ). mixed x a (near_mask kind t g)) here.shown here.other;
         shown =
             get_or-set_same px j Z 0 j-in
-            ∙ ap₂ (λ (x a : ℕ). mixed x a (bit_and (nearMask kind t g) (seenMask kind g))) here.own here.shown;
+            ∙ ap₂ (λ (x a : ℕ). mixed x a (bit_and (near_mask kind t g) (seen_mask kind g))) here.own here.shown;
       }
 
   -- the others stay
@@ -296,15 +296,15 @@ module _ (kind half t g : ℕ) (memory px m p : List ℕ) (hk : kind < 2) (hh : 
       }
 
 pub status-more : (kind half t g i o q near seen : ℕ) (memory px m p memory' px' : List ℕ) → kind < 2 → half < 2 → t < 16 → g < 144 * partitions kind
-    → i ≡ 144 * partitions kind * t + g → o ≡ half * codedBytes kind + i → q ≡ (1 - half) * codedBytes kind + i → near ≡ nearMask kind t g → seen
-    ≡ seenMask kind g
+    → i ≡ 144 * partitions kind * t + g → o ≡ half * coded_bytes kind + i → q ≡ (1 - half) * coded_bytes kind + i → near ≡ near_mask kind t g → seen
+    ≡ seen_mask kind g
     → memory' ≡ set (set memory o (mixed (get_or memory o 0) (get_or px i 0) near)) q (mixed (get_or px i 0) (get_or memory q 0) near)
     → px' ≡ set px i (mixed (get_or memory o 0) (get_or px i 0) (bit_and near seen))
     → Status kind half memory px m p (16 * g + t) → Status kind half memory' px' m p (16 * g + t + 1)
 status-more kind half t g i o q near seen memory px m p memory' px' hk hh ht hg i-is o_is q-is near-is seen-is memory-is px-is st =
     rw (memory-is, px-is, o_is, q-is, i-is, near-is, seen-is) (next kind half t g memory px m p hk hh ht hg st)
 
-pub status-none : (kind half : ℕ) (memory px : List ℕ) → length memory ≡ 2 * codedBytes kind → length px ≡ codedBytes kind
+pub status-none : (kind half : ℕ) (memory px : List ℕ) → length memory ≡ 2 * coded_bytes kind → length px ≡ coded_bytes kind
     → Status kind half memory px memory px (16 * 0)
 status-none kind half memory px long wide =
     record {

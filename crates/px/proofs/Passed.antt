@@ -11,14 +11,14 @@ use lib.ListN.{get_or}
 use borrow.Author.Tests.{lt-ltb, le-ltb}
 use Rattle.bits.specs.Bits.{Bytes, bit_at, packed}
 use Rattle.bits.proofs.Numbers.{digit, digit_lt, number-digit}
-use Rattle.bits.proofs.Packed.{bitAt-digit, bitAt-packed, packed-of}
-use Rattle.interleaving.specs.PX.{partitions, codedBytes, codedBits, after, read}
+use Rattle.bits.proofs.Packed.{bit_at-digit, bit_at-packed, packed-of}
+use Rattle.interleaving.specs.PX.{partitions, coded_bytes, coded_bits, after, read}
 use Rattle.interleaving.specs.FinderPX.{source}
-use Rattle.px.specs.Merged.{ahead, nearBit, nearMask, seenBit, seenMask, mixed, Merged, Status}
+use Rattle.px.specs.Merged.{ahead, near_bit, near_mask, seen_bit, seen_mask, mixed, Merged, Status}
 use Rattle.px_steps.proofs.Blocks.{ahead_of}
 use Rattle.px_steps.proofs.Residues.{in_frame}
 use Rattle.px.proofs.Passing.{cell-new, cell-old, read-new, read-old}
-use Rattle.px.proofs.Merging.{seenBit-lt}
+use Rattle.px.proofs.Merging.{seen_bit-lt}
 
 -- ---- a digit of a mixed byte
 
@@ -72,25 +72,25 @@ module _ (x a m t : ℕ) where
 
 -- ---- the masks
 
-near-lt : (kind t x : ℕ) → nearBit kind t x < 2
-unfolding nearBit
+near-lt : (kind t x : ℕ) → near_bit kind t x < 2
+unfolding near_bit
 near-lt kind t x = omega arith
 
-near-digit : (kind t g u : ℕ) → u < 8 → digit (nearMask kind t g) (7 - u) ≡ nearBit kind t (8 * g + u)
-unfolding nearMask
-near-digit kind t g u l = number-digit 8 (λ v. nearBit kind t (8 * g + v)) (λ v h. near-lt kind t (8 * g + v)) u l
+near-digit : (kind t g u : ℕ) → u < 8 → digit (near_mask kind t g) (7 - u) ≡ near_bit kind t (8 * g + u)
+unfolding near_mask
+near-digit kind t g u l = number-digit 8 (λ v. near_bit kind t (8 * g + v)) (λ v h. near-lt kind t (8 * g + v)) u l
 
-seen-digit : (kind g u : ℕ) → u < 8 → digit (seenMask kind g) (7 - u) ≡ seenBit kind (8 * g + u)
-unfolding seenMask
-seen-digit kind g u l = number-digit 8 (λ v. seenBit kind (8 * g + v)) (λ v h. seenBit-lt kind (8 * g + v)) u l
+seen-digit : (kind g u : ℕ) → u < 8 → digit (seen_mask kind g) (7 - u) ≡ seen_bit kind (8 * g + u)
+unfolding seen_mask
+seen-digit kind g u l = number-digit 8 (λ v. seen_bit kind (8 * g + v)) (λ v h. seen_bit-lt kind (8 * g + v)) u l
 
-near-is : (kind t x : ℕ) → nearBit kind t x ≡ 1 - (t + (32 - ahead_of kind x)) % 32 / 16
-unfolding nearBit ahead
+near-is : (kind t x : ℕ) → near_bit kind t x ≡ 1 - (t + (32 - ahead_of kind x)) % 32 / 16
+unfolding near_bit ahead
 near-is kind t x = refl
 
-seen-is : (kind x : ℕ) → (seenBit kind x ≡ 1 → source kind (1152 * partitions kind * 15 + x) ≤ 1152 * partitions kind * 15 + x)
-    × (seenBit kind x ≡ 0 → 1152 * partitions kind * 15 + x < source kind (1152 * partitions kind * 15 + x))
-unfolding seenBit
+seen-is : (kind x : ℕ) → (seen_bit kind x ≡ 1 → source kind (1152 * partitions kind * 15 + x) ≤ 1152 * partitions kind * 15 + x)
+    × (seen_bit kind x ≡ 0 → 1152 * partitions kind * 15 + x < source kind (1152 * partitions kind * 15 + x))
+unfolding seen_bit
 seen-is kind x =
     let i : ℕ = 1152 * partitions kind * 15 + x in
     elim (dec_lt i (source kind i)) [
@@ -101,9 +101,9 @@ seen-is kind x =
 -- ---- the places of the bits
 
 bit-sums : (kind half t g u : ℕ) → kind < 2
-    → (8 * (half * codedBytes kind + (144 * partitions kind * t + g)) + u ≡ 1152 * partitions kind * (16 * half + t) + (8 * g + u))
+    → (8 * (half * coded_bytes kind + (144 * partitions kind * t + g)) + u ≡ 1152 * partitions kind * (16 * half + t) + (8 * g + u))
     × (8 * (144 * partitions kind * t + g) + u ≡ 1152 * partitions kind * t + (8 * g + u))
-unfolding partitions codedBytes
+unfolding partitions coded_bytes
 bit-sums zero half t g u h = (omega arith, omega arith)
 bit-sums (suc zero) half t g u h = (omega arith, omega arith)
 bit-sums (suc (suc kind)) half t g u h = absurd (omega arith)
@@ -115,16 +115,16 @@ own-half half t s hh ht e = (omega arith, λ d. omega arith)
 other_half : (half t s : ℕ) → half < 2 → t < 16 → (t + (32 - s)) % 32 / 16 ≡ 1 → ((16 * half + t + (32 - s)) % 32 / 16 ≡ half → ⊥) × ((16 * (1 - half) + t + (32 - s)) % 32 / 16 ≡ half)
 other_half half t s hh ht e = (λ d. omega arith, omega arith)
 
-near-or : (kind t x : ℕ) → ((nearBit kind t x ≡ 1) × ((t + (32 - ahead_of kind x)) % 32 / 16 ≡ 0)) ⊎ ((nearBit kind t x ≡ 0) × ((t + (32 - ahead_of kind x)) % 32 / 16 ≡ 1))
+near-or : (kind t x : ℕ) → ((near_bit kind t x ≡ 1) × ((t + (32 - ahead_of kind x)) % 32 / 16 ≡ 0)) ⊎ ((near_bit kind t x ≡ 0) × ((t + (32 - ahead_of kind x)) % 32 / 16 ≡ 1))
 near-or kind t x = go ((t + (32 - ahead_of kind x)) % 32 / 16) (omega arith) (near-is kind t x)
   where
-    go : (q : ℕ) → q < 2 → nearBit kind t x ≡ 1 - q → ((nearBit kind t x ≡ 1) × (q ≡ 0)) ⊎ ((nearBit kind t x ≡ 0) × (q ≡ 1))
+    go : (q : ℕ) → q < 2 → near_bit kind t x ≡ 1 - q → ((near_bit kind t x ≡ 1) × (q ≡ 0)) ⊎ ((near_bit kind t x ≡ 0) × (q ≡ 1))
     go zero l e = inl (e, refl)
     go (suc zero) l e = inr (e, refl)
     go (suc (suc q)) l e = absurd (omega arith)
 
 module _ (kind half : ℕ) (memory px m p : List ℕ) (f : ℕ → ℕ) (hk : kind < 2) (hh : half < 2) (f_lt : (i : ℕ) → f i < 2)
-    (p-is : p ≡ packed (codedBytes kind) (λ i. f (source kind i % codedBits kind)))
+    (p-is : p ≡ packed (coded_bytes kind) (λ i. f (source kind i % coded_bits kind)))
     (st : Status kind half memory px m p (16 * (144 * partitions kind))) where
   module _ (t g u : ℕ) (ht : t < 16) (hg : g < 144 * partitions kind) (hu : u < 8) where
     abbrev W : ℕ
@@ -143,22 +143,22 @@ module _ (kind half : ℕ) (memory px m p : List ℕ) (f : ℕ → ℕ) (hk : ki
     was = st.done t g ht hg (omega arith)
 
     -- the coded bit, and what stood there
-    coded-bit : digit (get_or p j 0) (7 - u) ≡ f (source kind (W * t + x) % codedBits kind)
+    coded-bit : digit (get_or p j 0) (7 - u) ≡ f (source kind (W * t + x) % coded_bits kind)
     coded-bit =
-        sym (bitAt-digit p j u hu)
+        sym (bit_at-digit p j u hu)
         ∙ ap (λ (l : List ℕ). bit_at l (8 * j + u)) p-is
-        ∙ bitAt-packed (codedBytes kind) (λ i. f (source kind i % codedBits kind)) (λ i l. f_lt (source kind i % codedBits kind)) (8 * j + u) (in_frame kind t g u hk ht hg hu).1
-        ∙ ap (λ (i : ℕ). f (source kind i % codedBits kind)) (bit-sums kind half t g u hk).1
+        ∙ bit_at-packed (coded_bytes kind) (λ i. f (source kind i % coded_bits kind)) (λ i l. f_lt (source kind i % coded_bits kind)) (8 * j + u) (in_frame kind t g u hk ht hg hu).1
+        ∙ ap (λ (i : ℕ). f (source kind i % coded_bits kind)) (bit-sums kind half t g u hk).1
 
-    old_bit : (h : ℕ) → digit (get_or m (h * codedBytes kind + j) 0) (7 - u) ≡ bit_at m (W * (16 * h + t) + x)
-    old_bit h = sym (bitAt-digit m (h * codedBytes kind + j) u hu) ∙ ap (bit_at m) (bit-sums kind h t g u hk).0
+    old_bit : (h : ℕ) → digit (get_or m (h * coded_bytes kind + j) 0) (7 - u) ≡ bit_at m (W * (16 * h + t) + x)
+    old_bit h = sym (bit_at-digit m (h * coded_bytes kind + j) u hu) ∙ ap (bit_at m) (bit-sums kind h t g u hk).0
 
-    mask : digit (nearMask kind t g) (7 - u) ≡ nearBit kind t x
+    mask : digit (near_mask kind t g) (7 - u) ≡ near_bit kind t x
     mask = near-digit kind t g u hu
 
-    own-bit : bit_at memory (8 * (half * codedBytes kind + j) + u) ≡ after kind half f (bit_at m) (codedBits kind) (W * (16 * half + t) + x)
+    own-bit : bit_at memory (8 * (half * coded_bytes kind + j) + u) ≡ after kind half f (bit_at m) (coded_bits kind) (W * (16 * half + t) + x)
     own-bit =
-        bitAt-digit memory (half * codedBytes kind + j) u hu ∙ ap (λ (z : ℕ). digit z (7 - u)) was.own
+        bit_at-digit memory (half * coded_bytes kind + j) u hu ∙ ap (λ (z : ℕ). digit z (7 - u)) was.own
         ∙ elim (near-or kind t x) [
           | inl n ↦
               mixed-new _ _ _ (7 - u) (mask ∙ n.0) ∙ coded-bit
@@ -168,9 +168,9 @@ module _ (kind half : ℕ) (memory px m p : List ℕ) (f : ℕ → ℕ) (hk : ki
               ∙ sym (cell-old kind half x f (bit_at m) hk hh x_lt (16 * half + t) (omega arith) (other_half half t (ahead_of kind x) hh ht n.1).0)
         ]
 
-    other-bit : bit_at memory (8 * ((1 - half) * codedBytes kind + j) + u) ≡ after kind half f (bit_at m) (codedBits kind) (W * (16 * (1 - half) + t) + x)
+    other-bit : bit_at memory (8 * ((1 - half) * coded_bytes kind + j) + u) ≡ after kind half f (bit_at m) (coded_bits kind) (W * (16 * (1 - half) + t) + x)
     other-bit =
-        bitAt-digit memory ((1 - half) * codedBytes kind + j) u hu ∙ ap (λ (z : ℕ). digit z (7 - u)) was.other
+        bit_at-digit memory ((1 - half) * coded_bytes kind + j) u hu ∙ ap (λ (z : ℕ). digit z (7 - u)) was.other
         ∙ elim (near-or kind t x) [
           | inl n ↦
               mixed-new _ _ _ (7 - u) (mask ∙ n.0) ∙ old_bit (1 - half)
@@ -180,72 +180,72 @@ module _ (kind half : ℕ) (memory px m p : List ℕ) (f : ℕ → ℕ) (hk : ki
               ∙ sym (cell-new kind half x f (bit_at m) hk hh x_lt (16 * (1 - half) + t) t (omega arith) ht (omega arith) (other_half half t (ahead_of kind x) hh ht n.1).1)
         ]
 
-    seen : digit (bit_and (nearMask kind t g) (seenMask kind g)) (7 - u) ≡ min (nearBit kind t x) (seenBit kind x)
-    seen = digit_and (nearMask kind t g) (seenMask kind g) (7 - u) ∙ ap₂ min mask (seen-digit kind g u hu)
+    seen : digit (bit_and (near_mask kind t g) (seen_mask kind g)) (7 - u) ≡ min (near_bit kind t x) (seen_bit kind x)
+    seen = digit_and (near_mask kind t g) (seen_mask kind g) (7 - u) ∙ ap₂ min mask (seen-digit kind g u hu)
 
     shown-bit : bit_at px (8 * j + u) ≡ read kind half f (bit_at m) (W * t + x)
     shown-bit =
-        bitAt-digit px j u hu ∙ ap (λ (z : ℕ). digit z (7 - u)) was.shown
+        bit_at-digit px j u hu ∙ ap (λ (z : ℕ). digit z (7 - u)) was.shown
         ∙ elim (near-or kind t x) [
           | inl n ↦
-              elim (ℕ_discrete (seenBit kind x) 1) [
+              elim (ℕ_discrete (seen_bit kind x) 1) [
                 | yes y ↦
                     mixed-new _ _ _ (7 - u) (seen ∙ ap₂ min n.0 y) ∙ coded-bit
                     ∙ sym (read-new kind half x f (bit_at m) hk hh x_lt t ht (own-half half t (ahead_of kind x) hh ht n.1).0 ((seen-is kind x).0 y))
                 | no d ↦
-                    let z : seenBit kind x ≡ 0 = omega (arith, seenBit-lt kind x) in
+                    let z : seen_bit kind x ≡ 0 = omega (arith, seen_bit-lt kind x) in
                     mixed-old _ _ _ (7 - u) (seen ∙ ap₂ min n.0 z) ∙ old_bit half
                     ∙ sym (read-old kind half x f (bit_at m) hk hh x_lt t ht (λ e. (seen-is kind x).1 z))
               ]
           | inr n ↦
-              let z : min (nearBit kind t x) (seenBit kind x) ≡ 0 = omega (arith, n.0) in
+              let z : min (near_bit kind t x) (seen_bit kind x) ≡ 0 = omega (arith, n.0) in
               mixed-old _ _ _ (7 - u) (seen ∙ z) ∙ old_bit half
               ∙ sym (read-old kind half x f (bit_at m) hk hh x_lt t ht (λ e. absurd ((other_half half t (ahead_of kind x) hh ht n.1).0 e)))
         ]
 
-split-bit : (kind i : ℕ) → kind < 2 → i < 16 * codedBytes kind
-    → (i ≡ 8 * (i / codedBits kind * codedBytes kind + (144 * partitions kind * (i % codedBits kind / (1152 * partitions kind)) + i % (1152 * partitions kind) / 8)) + i % 8)
-    × (i / codedBits kind < 2) × (i % codedBits kind / (1152 * partitions kind) < 16) × (i % (1152 * partitions kind) / 8 < 144 * partitions kind)
-unfolding partitions codedBytes
+split-bit : (kind i : ℕ) → kind < 2 → i < 16 * coded_bytes kind
+    → (i ≡ 8 * (i / coded_bits kind * coded_bytes kind + (144 * partitions kind * (i % coded_bits kind / (1152 * partitions kind)) + i % (1152 * partitions kind) / 8)) + i % 8)
+    × (i / coded_bits kind < 2) × (i % coded_bits kind / (1152 * partitions kind) < 16) × (i % (1152 * partitions kind) / 8 < 144 * partitions kind)
+unfolding partitions coded_bytes
 split-bit zero i h l = (omega arith, omega arith, omega arith, omega arith)
 split-bit (suc zero) i h l = (omega arith, omega arith, omega arith, omega arith)
 split-bit (suc (suc kind)) i h l = absurd (omega arith)
 
-split-frame : (kind i : ℕ) → kind < 2 → i < 8 * codedBytes kind
+split-frame : (kind i : ℕ) → kind < 2 → i < 8 * coded_bytes kind
     → (i ≡ 8 * (144 * partitions kind * (i / (1152 * partitions kind)) + i % (1152 * partitions kind) / 8) + i % 8)
     × (i / (1152 * partitions kind) < 16) × (i % (1152 * partitions kind) / 8 < 144 * partitions kind)
-unfolding partitions codedBytes
+unfolding partitions coded_bytes
 split-frame zero i h l = (omega arith, omega arith, omega arith)
 split-frame (suc zero) i h l = (omega arith, omega arith, omega arith)
 split-frame (suc (suc kind)) i h l = absurd (omega arith)
 
 module _ (kind half : ℕ) (memory px m p : List ℕ) (f : ℕ → ℕ) (hk : kind < 2) (hh : half < 2) (f_lt : (i : ℕ) → f i < 2)
-    (p-is : p ≡ packed (codedBytes kind) (λ i. f (source kind i % codedBits kind)))
+    (p-is : p ≡ packed (coded_bytes kind) (λ i. f (source kind i % coded_bits kind)))
     (st : Status kind half memory px m p (16 * (144 * partitions kind))) where
   memory-bit : (h t g u : ℕ) → h < 2 → t < 16 → g < 144 * partitions kind → u < 8
-      → bit_at memory (8 * (h * codedBytes kind + (144 * partitions kind * t + g)) + u)
-      ≡ after kind half f (bit_at m) (codedBits kind) (8 * (h * codedBytes kind + (144 * partitions kind * t + g)) + u)
+      → bit_at memory (8 * (h * coded_bytes kind + (144 * partitions kind * t + g)) + u)
+      ≡ after kind half f (bit_at m) (coded_bits kind) (8 * (h * coded_bytes kind + (144 * partitions kind * t + g)) + u)
   memory-bit h t g u lh ht hg hu =
       elim (ℕ_discrete h half) [
         | yes e ↦
             rw e (own-bit kind half memory px m p f hk hh f_lt p-is st t g u ht hg hu
-            ∙ ap (after kind half f (bit_at m) (codedBits kind)) (sym (bit-sums kind half t g u hk).0))
+            ∙ ap (after kind half f (bit_at m) (coded_bits kind)) (sym (bit-sums kind half t g u hk).0))
         | no d ↦
             let e : h ≡ 1 - half = omega arith in
             rw e (other-bit kind half memory px m p f hk hh f_lt p-is st t g u ht hg hu
-            ∙ ap (after kind half f (bit_at m) (codedBits kind)) (sym (bit-sums kind (1 - half) t g u hk).0))
+            ∙ ap (after kind half f (bit_at m) (coded_bits kind)) (sym (bit-sums kind (1 - half) t g u hk).0))
       ]
 
-  pub memory-is : Bytes memory → memory ≡ packed (2 * codedBytes kind) (after kind half f (bit_at m) (codedBits kind))
+  pub memory-is : Bytes memory → memory ≡ packed (2 * coded_bytes kind) (after kind half f (bit_at m) (coded_bits kind))
   memory-is bytes =
-      packed-of (2 * codedBytes kind) memory _ st.long bytes
+      packed-of (2 * coded_bytes kind) memory _ st.long bytes
       (λ i l.
       let at = split-bit kind i hk (omega arith) in
       rw (sym at.0) at (memory-bit _ _ _ (i % 8) at.1 at.2 at.3 (omega arith)))
 
-  pub px-is : Bytes px → px ≡ packed (codedBytes kind) (read kind half f (bit_at m))
+  pub px-is : Bytes px → px ≡ packed (coded_bytes kind) (read kind half f (bit_at m))
   px-is bytes =
-      packed-of (codedBytes kind) px _ st.wide bytes
+      packed-of (coded_bytes kind) px _ st.wide bytes
       (λ i l.
       let at = split-frame kind i hk l in
       rw (sym at.0) at

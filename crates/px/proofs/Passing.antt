@@ -5,18 +5,18 @@ use Prim.Native.Nat.{ℕ, zero, suc, ◌+◌, ◌-◌, ◌*◌, ◌/◌, ◌%◌
 use native.Mathlib.Decide.{ℕ_discrete}
 use native.Mathlib.Omega.{arith}
 use Rattle.bits.proofs.Written.{written_once, written-other}
-use Rattle.interleaving.specs.PX.{partitions, codedBytes, codedBits, cells, step_of, place, after, read}
+use Rattle.interleaving.specs.PX.{partitions, coded_bytes, coded_bits, cells, step_of, place, after, read}
 use Rattle.interleaving.specs.FinderPX.{source}
 use Rattle.interleaving.proofs.OncePX.{px-each-once}
-use Rattle.px_steps.proofs.Blocks.{ahead_of, withinOf, cell-lt, source-block, turn-mod}
+use Rattle.px_steps.proofs.Blocks.{ahead_of, within_of, cell-lt, source-block, turn-mod}
 
 -- ---- a cell after n steps of an L1 frame: w is the step that writes it, and k the bit of the L1 frame that step has
 
-module _ (kind half : ℕ) (f m : ℕ → ℕ) (n c : ℕ) (hk : kind < 2) (hh : half < 2) (hn : n ≤ codedBits kind) (hc : c < cells kind) where
+module _ (kind half : ℕ) (f m : ℕ → ℕ) (n c : ℕ) (hk : kind < 2) (hh : half < 2) (hn : n ≤ coded_bits kind) (hc : c < cells kind) where
   step_in : (j : ℕ) → j < n → step_of kind half j < cells kind
   step_in j l = half_in half hh
     where
-      half_in : (h : ℕ) → h < 2 → h * codedBits kind + j < cells kind
+      half_in : (h : ℕ) → h < 2 → h * coded_bits kind + j < cells kind
       half_in zero q = omega arith
       half_in (suc zero) q = omega arith
       half_in (suc (suc h)) q = absurd (omega arith)
@@ -38,26 +38,26 @@ module _ (kind half : ℕ) (f m : ℕ → ℕ) (n c : ℕ) (hk : kind < 2) (hh :
 -- ---- of the bits of an L1 frame at the place x: t is a turn from 0 to 31, b a block, and o the step in the turn
 
 turn_step : (kind half t o : ℕ) → kind < 2 → t / 16 ≡ half → o < 1152 * partitions kind
-    → (step_of kind half (t % 16 * (1152 * partitions kind) + o) ≡ t * (1152 * partitions kind) + o) × (t % 16 * (1152 * partitions kind) + o < codedBits kind)
-unfolding partitions codedBytes
+    → (step_of kind half (t % 16 * (1152 * partitions kind) + o) ≡ t * (1152 * partitions kind) + o) × (t % 16 * (1152 * partitions kind) + o < coded_bits kind)
+unfolding partitions coded_bytes
 turn_step zero half t o h e l = (omega arith, omega arith)
 turn_step (suc zero) half t o h e l = (omega arith, omega arith)
 turn_step (suc (suc kind)) half t o h e l = absurd (omega arith)
 
-turn-none : (kind half t o k : ℕ) → kind < 2 → (t / 16 ≡ half → ⊥) → o < 1152 * partitions kind → k < codedBits kind → step_of kind half k ≡ t * (1152 * partitions kind) + o → ⊥
-unfolding partitions codedBytes
+turn-none : (kind half t o k : ℕ) → kind < 2 → (t / 16 ≡ half → ⊥) → o < 1152 * partitions kind → k < coded_bits kind → step_of kind half k ≡ t * (1152 * partitions kind) + o → ⊥
+unfolding partitions coded_bytes
 turn-none zero half t o k h e l lk q = e (omega arith)
 turn-none (suc zero) half t o k h e l lk q = e (omega arith)
 turn-none (suc (suc kind)) half t o k h e l lk q = absurd (omega arith)
 
 block-step : (kind half t x : ℕ) → kind < 2 → step_of kind half (1152 * partitions kind * t + x) ≡ 1152 * partitions kind * (16 * half + t) + x
-unfolding partitions codedBytes
+unfolding partitions coded_bytes
 block-step zero half t x h = omega arith
 block-step (suc zero) half t x h = omega arith
 block-step (suc (suc kind)) half t x h = absurd (omega arith)
 
-frame-lt : (kind t x : ℕ) → kind < 2 → t < 16 → x < 1152 * partitions kind → suc (1152 * partitions kind * t + x) ≤ codedBits kind
-unfolding partitions codedBytes
+frame-lt : (kind t x : ℕ) → kind < 2 → t < 16 → x < 1152 * partitions kind → suc (1152 * partitions kind * t + x) ≤ coded_bits kind
+unfolding partitions coded_bytes
 frame-lt zero t x h ht l = omega arith
 frame-lt (suc zero) t x h ht l = omega arith
 frame-lt (suc (suc kind)) t x h ht l = absurd (omega arith)
@@ -79,34 +79,34 @@ module _ (kind half x : ℕ) (f m : ℕ → ℕ) (hk : kind < 2) (hh : half < 2)
   s = ahead_of kind x
 
   abbrev o : ℕ
-  o = withinOf kind x
+  o = within_of kind x
 
   o_lt : o < W
   o_lt = (source-block kind 0 x hk (omega arith) hx).1
 
   -- the bit of an L1 frame that a place of either of its two blocks takes
-  bit_is : (b t : ℕ) → b < 32 → t < 16 → b % 16 ≡ t → (b + (32 - s)) % 32 % 16 * W + o ≡ source kind (W * t + x) % codedBits kind
+  bit_is : (b t : ℕ) → b < 32 → t < 16 → b % 16 ≡ t → (b + (32 - s)) % 32 % 16 * W + o ≡ source kind (W * t + x) % coded_bits kind
   bit_is b t hb ht e =
       let q : (b + (32 - s)) % 32 % 16 ≡ (t + (32 - s)) % 32 % 16 = same_rest b t s hb ht e in
       ap (λ (v : ℕ). v * W + o) q
       ∙ sym (turn-mod kind ((t + (32 - s)) % 32) o hk (omega arith) o_lt)
-      ∙ ap (λ (v : ℕ). v % codedBits kind) (sym (source-block kind t x hk (omega arith) hx).0)
+      ∙ ap (λ (v : ℕ). v % coded_bits kind) (sym (source-block kind t x hk (omega arith) hx).0)
     where
       same_rest : (b t s : ℕ) → b < 32 → t < 16 → b % 16 ≡ t → (b + (32 - s)) % 32 % 16 ≡ (t + (32 - s)) % 32 % 16
       same_rest b t s hb ht e = omega arith
 
   -- the place x of the block b, after the whole L1 frame
   pub cell-new : (b t : ℕ) → b < 32 → t < 16 → b % 16 ≡ t → (b + (32 - s)) % 32 / 16 ≡ half
-      → after kind half f m (codedBits kind) (W * b + x) ≡ f (source kind (W * t + x) % codedBits kind)
+      → after kind half f m (coded_bits kind) (W * b + x) ≡ f (source kind (W * t + x) % coded_bits kind)
   cell-new b t hb ht e own =
       let step = turn_step kind half ((b + (32 - s)) % 32) o hk own o_lt in
-      after-new kind half f m (codedBits kind) (W * b + x) hk hh (omega arith) (cell-lt kind b x hk hb hx) _ step.1
+      after-new kind half f m (coded_bits kind) (W * b + x) hk hh (omega arith) (cell-lt kind b x hk hb hx) _ step.1
       (step.0 ∙ sym (source-block kind b x hk hb hx).0)
       ∙ ap f (bit_is b t hb ht e)
 
-  pub cell-old : (b : ℕ) → b < 32 → ((b + (32 - s)) % 32 / 16 ≡ half → ⊥) → after kind half f m (codedBits kind) (W * b + x) ≡ m (W * b + x)
+  pub cell-old : (b : ℕ) → b < 32 → ((b + (32 - s)) % 32 / 16 ≡ half → ⊥) → after kind half f m (coded_bits kind) (W * b + x) ≡ m (W * b + x)
   cell-old b hb none =
-      after-old kind half f m (codedBits kind) (W * b + x) hk hh (omega arith) (cell-lt kind b x hk hb hx)
+      after-old kind half f m (coded_bits kind) (W * b + x) hk hh (omega arith) (cell-lt kind b x hk hb hx)
       (λ k l e. turn-none kind half ((b + (32 - s)) % 32) o k hk none o_lt l (e ∙ (source-block kind b x hk hb hx).0))
 
   -- what the place's bit shows
@@ -115,7 +115,7 @@ module _ (kind half x : ℕ) (f m : ℕ → ℕ) (hk : kind < 2) (hh : half < 2)
     last = (source-block kind 15 x hk (omega arith) hx).0
 
     pub read-new : (16 * half + t + (32 - s)) % 32 / 16 ≡ half → source kind (W * 15 + x) ≤ W * 15 + x
-        → read kind half f m (W * t + x) ≡ f (source kind (W * t + x) % codedBits kind)
+        → read kind half f m (W * t + x) ≡ f (source kind (W * t + x) % coded_bits kind)
     unfolding read
     read-new own l =
         let b_lt : 16 * half + t < 32 = omega arith in
@@ -148,7 +148,7 @@ module _ (kind half x : ℕ) (f m : ℕ → ℕ) (hk : kind < 2) (hh : half < 2)
               let q : (16 * half + t + (32 - s)) % 32 % 16 ≡ (t + (32 - s)) % 32 % 16 = omega arith in
               let after-it = (shown kind t s o x hk ht (omega arith) o_lt hx near).1 (rw last at (late own)) in
               let k-is : step_of kind half k ≡ step_of kind half ((16 * half + t + (32 - s)) % 32 % 16 * W + o) = e' ∙ sym step.0 in
-              let same : k ≡ (t + (32 - s)) % 32 % 16 * W + o = rw q at (cancel (half * codedBits kind) k _ k-is) in
+              let same : k ≡ (t + (32 - s)) % 32 % 16 * W + o = rw q at (cancel (half * coded_bits kind) k _ k-is) in
               omega (arith, same, after-it, l)
           | no none ↦ turn-none kind half ((16 * half + t + (32 - s)) % 32) o k hk none o_lt (omega arith) e'
         ]))

@@ -2,8 +2,8 @@
 ghost use Rattle.std.specs.Prelude.{◌≡◌, List, true, false, ℕ, ◌+◌, ◌-◌, ◌*◌, ◌/◌, ◌%◌, ◌<◌, ◌≤◌, length, get_or, set};
 ghost use Rattle.std.specs.Int.Bits.{bit_and};
 ghost use Rattle.bits.specs.Bits.{bit_at, number, packed};
-ghost use Rattle.interleaving.specs.PX.{partitions as «partitions-of», codedBytes, codedBits, after, read, isFill, firstFill};
-ghost use Rattle.px.specs.Merged.{ahead as «ahead_of_lem», near4 as «near4-of», Nears, nearMask, seenBit, seenMask, mixed, Status};
+ghost use Rattle.interleaving.specs.PX.{partitions as «partitions-of», coded_bytes, coded_bits, after, read, is_fill, first_fill};
+ghost use Rattle.px.specs.Merged.{ahead as «ahead_of_lem», near4 as «near4-of», Nears, near_mask, seen_bit, seen_mask, mixed, Status};
 
 pub use px_gather::gather;
 pub use px_steps::source;
@@ -61,7 +61,7 @@ fn near_half(nears: &[u8; 32], t: usize, a: usize) -> u8
 // places are a blocks on, and the last four b.
 fn near(nears: &[u8; 32], t: usize, a: usize, b: usize) -> u8
     requires { (a < 32) × (b < 32) × (t < 16) × Nears nears.now }
-    ensures { (kind g : ℕ) → kind < 2 → a ≡ «ahead_of_lem» kind (8 * g) → b ≡ «ahead_of_lem» kind (8 * g + 4) → result ≡ nearMask kind t g }
+    ensures { (kind g : ℕ) → kind < 2 → a ≡ «ahead_of_lem» kind (8 * g) → b ≡ «ahead_of_lem» kind (8 * g + 4) → result ≡ near_mask kind t g }
 {
     16 * near_half(nears, t, a) + near_half(nears, t, b)
 }
@@ -69,7 +69,7 @@ fn near(nears: &[u8; 32], t: usize, a: usize, b: usize) -> u8
 // Whether the place x is written at or before the step that reads it, where the same L1 frame writes it.
 fn seen_bit(kind: usize, x: usize) -> u8
     requires { (kind < 2) × (x < 1152 * «partitions-of» kind) }
-    ensures { (result ≡ seenBit kind x) × (result < 2) }
+    ensures { (result ≡ seen_bit kind x) × (result < 2) }
 {
     if px_steps::unwritten(kind, 15 * px_steps::block(kind) + x) {
         return 0;
@@ -80,7 +80,7 @@ fn seen_bit(kind: usize, x: usize) -> u8
 // The same of the four places from x on.
 fn seen_four(kind: usize, x: usize) -> u8
     requires { (kind < 2) × (x + 3 < 1152 * «partitions-of» kind) }
-    ensures { (result ≡ number 4 (λ u. seenBit kind (x + u))) × (result < 16) }
+    ensures { (result ≡ number 4 (λ u. seen_bit kind (x + u))) × (result < 16) }
 {
     let a = seen_bit(kind, x);
     let b = seen_bit(kind, x + 1);
@@ -91,7 +91,7 @@ fn seen_four(kind: usize, x: usize) -> u8
 // The same of the places from 4 v on, of which the first is a blocks on. Where none is 0 blocks on, they are those that the L1 frame writes in its own block 15.
 fn seen_half(kind: usize, nears: &[u8; 32], v: usize, a: usize) -> u8
     requires { (kind < 2) × (v < 288 * «partitions-of» kind) × Nears nears.now × (a ≡ «ahead_of_lem» kind (4 * v)) × (a < 32) }
-    ensures { (result ≡ number 4 (λ u. seenBit kind (4 * v + u))) × (result < 16) }
+    ensures { (result ≡ number 4 (λ u. seen_bit kind (4 * v + u))) × (result < 16) }
 {
     let q = (32 - a) % 32;
     if q % 3 + q / 10 == 0 {
@@ -104,7 +104,7 @@ fn seen_half(kind: usize, nears: &[u8; 32], v: usize, a: usize) -> u8
 fn seen(kind: usize, nears: &[u8; 32], a: usize, b: usize, g: usize) -> u8
     requires { (kind < 2) × (g < 144 * «partitions-of» kind) × Nears nears.now × (a ≡ «ahead_of_lem» kind (8 * g)) × (b ≡ «ahead_of_lem» kind (8 * g + 4))
         × (a < 32) × (b < 32) }
-    ensures { result ≡ seenMask kind g }
+    ensures { result ≡ seen_mask kind g }
 {
     16 * seen_half(kind, nears, 2 * g, a) + seen_half(kind, nears, 2 * g + 1, b)
 }
@@ -142,8 +142,8 @@ fn merge_turns(
     memory: &mut [u8],
     px: &mut [u8],
 )
-    requires kind_bound { (kind < 2) × (half < 2) × (g < 144 * «partitions-of» kind) × Nears nears.now × (seen ≡ seenMask kind g) × (a ≡ «ahead_of_lem» kind (8 * g)) × (b ≡ «ahead_of_lem» kind (8 * g + 4)) × (a < 32) × (b < 32) }
-    requires memory_len { (length memory.old ≡ 2 * codedBytes kind) × (length px.old ≡ codedBytes kind) }
+    requires kind_bound { (kind < 2) × (half < 2) × (g < 144 * «partitions-of» kind) × Nears nears.now × (seen ≡ seen_mask kind g) × (a ≡ «ahead_of_lem» kind (8 * g)) × (b ≡ «ahead_of_lem» kind (8 * g + 4)) × (a < 32) × (b < 32) }
+    requires memory_len { (length memory.old ≡ 2 * coded_bytes kind) × (length px.old ≡ coded_bytes kind) }
     ensures { (m p : List ℕ) → Status kind half memory.old px.old m p (16 * g) → Status kind half memory.new px.new m p (16 * g + 16) }
 {
     let size = px_steps::block(kind) / 8;
@@ -160,7 +160,7 @@ fn merge_turns(
 
 // The coded bits in px, at the places that they are written to, go into the internal matrix, and px shows what the steps read.
 fn merge(kind: usize, half: usize, memory: &mut [u8], px: &mut [u8])
-    requires { (kind < 2) × (half < 2) × (length memory.old ≡ 2 * codedBytes kind) × (length px.old ≡ codedBytes kind) }
+    requires { (kind < 2) × (half < 2) × (length memory.old ≡ 2 * coded_bytes kind) × (length px.old ≡ coded_bytes kind) }
     ensures { Status kind half memory.new px.new memory.old px.old (16 * (144 * «partitions-of» kind)) }
 {
     let nears = nears();
@@ -179,9 +179,9 @@ fn merge(kind: usize, half: usize, memory: &mut [u8], px: &mut [u8])
 // coded bits can be laid out at their places first, and then go to the one half or the other, and to what is read, eight at a time.
 pub fn pass(kind: usize, half: usize, coded: &[u8], memory: &mut [u8], px: &mut [u8])
     requires kind_bound { (kind < 2) × (half < 2) }
-    requires coded_len { (length coded.now ≡ codedBytes kind) × (length memory.old ≡ 2 * codedBytes kind) × (length px.old ≡ codedBytes kind) }
-    ensures memory_after { memory.new ≡ packed (2 * codedBytes kind) (after kind half (bit_at coded.now) (bit_at memory.old) (codedBits kind)) }
-    ensures px_after { px.new ≡ packed (codedBytes kind) (read kind half (bit_at coded.now) (bit_at memory.old)) }
+    requires coded_len { (length coded.now ≡ coded_bytes kind) × (length memory.old ≡ 2 * coded_bytes kind) × (length px.old ≡ coded_bytes kind) }
+    ensures memory_after { memory.new ≡ packed (2 * coded_bytes kind) (after kind half (bit_at coded.now) (bit_at memory.old) (coded_bits kind)) }
+    ensures px_after { px.new ≡ packed (coded_bytes kind) (read kind half (bit_at coded.now) (bit_at memory.old)) }
 {
     px_lanes::fresh(kind, coded, px);
     merge(kind, half, memory, px);
@@ -189,8 +189,8 @@ pub fn pass(kind: usize, half: usize, coded: &[u8], memory: &mut [u8], px: &mut 
 
 // Whether the bit j of an L1 frame's matrix is 1 though it is read before its cell is written.
 fn is_fill(kind: usize, half: usize, px: &[u8], j: usize) -> bool
-    requires { (kind < 2) × (half < 2) × (length px.now ≡ codedBytes kind) × (j < codedBits kind) }
-    ensures { result ≡ isFill kind half (bit_at px.now) j }
+    requires { (kind < 2) × (half < 2) × (length px.now ≡ coded_bytes kind) × (j < coded_bits kind) }
+    ensures { result ≡ is_fill kind half (bit_at px.now) j }
 {
     if bits::get(px, j) == 1 {
         return px_steps::unwritten(kind, px_steps::step_of(kind, half, j));
@@ -200,9 +200,9 @@ fn is_fill(kind: usize, half: usize, px: &[u8], j: usize) -> bool
 
 // The lowest such bit of the byte j; the next byte's first bit where there is none. A byte of zeros has none.
 fn fill_in_byte(kind: usize, half: usize, px: &[u8], j: usize) -> usize
-    requires { (kind < 2) × (half < 2) × (length px.now ≡ codedBytes kind) × (j < codedBytes kind) }
-    ensures by_index { (i : ℕ) → 8 * j ≤ i → i < result → isFill kind half (bit_at px.now) i ≡ false }
-    ensures upper_bound { (result ≤ 8 * j + 8) × (result < 8 * j + 8 → (8 * j ≤ result) × (isFill kind half (bit_at px.now) result ≡ true)) }
+    requires { (kind < 2) × (half < 2) × (length px.now ≡ coded_bytes kind) × (j < coded_bytes kind) }
+    ensures by_index { (i : ℕ) → 8 * j ≤ i → i < result → is_fill kind half (bit_at px.now) i ≡ false }
+    ensures upper_bound { (result ≤ 8 * j + 8) × (result < 8 * j + 8 → (8 * j ≤ result) × (is_fill kind half (bit_at px.now) result ≡ true)) }
 {
     if px[j] == 0 {
         return 8 * j + 8;
@@ -219,8 +219,8 @@ fn fill_in_byte(kind: usize, half: usize, px: &[u8], j: usize) -> usize
 
 // The lowest bit of an L1 frame's matrix that is 1 though it is read before its cell is written; their number where there is none.
 pub fn first_fill(kind: usize, half: usize, px: &[u8]) -> usize
-    requires { (kind < 2) × (half < 2) × (length px.now ≡ codedBytes kind) }
-    ensures { result ≡ firstFill kind half (bit_at px.now) }
+    requires { (kind < 2) × (half < 2) × (length px.now ≡ coded_bytes kind) }
+    ensures { result ≡ first_fill kind half (bit_at px.now) }
 {
     let mut j = 0;
     while j < px.len() {

@@ -12,23 +12,23 @@ use borrow.Author.Tests.{lt-ltb, le-ltb}
 use Rattle.bits.specs.Bits.{bit_at, number, byte_of, written}
 use Rattle.bits.specs.Once.{EachOnce, Below}
 use Rattle.bits.proofs.Numbers.{number-cong, number_lt, number-digit, digit}
-use Rattle.bits.proofs.Packed.{bit_at_lt, bitAt-digit}
+use Rattle.bits.proofs.Packed.{bit_at_lt, bit_at-digit}
 use Rattle.bits.proofs.Written.{written_once, written-other}
 use Rattle.interleaving.specs.declared.Position.{Position}
-use Rattle.interleaving.specs.Matrix.{Inside, matrixRow, matrixColumn, cell_of, position_of}
+use Rattle.interleaving.specs.Matrix.{Inside, matrix_row, matrix_column, cell_of, position_of}
 use Rattle.interleaving.specs.EquationsI as I
-use Rattle.interleaving.specs.TableI.{ks, kFor}
+use Rattle.interleaving.specs.TableI.{ks, k_for}
 use Rattle.interleaving.specs.PX.{v4}
-use Rattle.interleaving.specs.PX2.{partitions, runs, v8, order, frameBits, place}
+use Rattle.interleaving.specs.PX2.{partitions, runs, v8, order, frame_bits, place}
 use Rattle.interleaving.proofs.Block.{column-lt}
 use Rattle.interleaving.proofs.Matrix.{position-cell}
 use Rattle.interleaving.proofs.Mod.{mod-of, div-of}
 use Rattle.interleaving.proofs.PXKinds.{plain4, perm4}
 use Rattle.interleaving.proofs.OnceI.{positions-once-I, positions-once-I-runs}
-use Rattle.interleaving.proofs.OncePX2.{perm8, sourceIn, one-each-once}
+use Rattle.interleaving.proofs.OncePX2.{perm8, source_in, one-each-once}
 use Rattle.interleaving.proofs.TableI.{together}
 use Rattle.transposing.specs.Words.{Begins}
-use Rattle.px2.specs.Places.{turn_of, bitIn, byteIn, Starts, nibbleOf, row_of, pair_of, Changed}
+use Rattle.px2.specs.Places.{turn_of, bit_in, byte_in, Starts, nibble_of, row_of, pair_of, Changed}
 
 -- ---- lists
 
@@ -75,7 +75,7 @@ pub placed-none : (m : ℕ) (l : List ℕ) → Placed m 0 l
 placed-none m l = record { is = λ j h. absurd (omega arith) }
 
 same_place : (j k : ℕ) → j < 1152 → k < 1152 → place_of j ≡ place_of k → j ≡ k
-unfolding kFor
+unfolding k_for
 same_place j k hj hk e = sym (together.back j hj) ∙ ap (λ (n : ℕ). get_or ks n 0) e ∙ together.back k hk
 
 pub placed-turn : {m k : ℕ} {l : List ℕ} (n x : ℕ) → Placed m k l → k < 1152 → length l ≡ 1152 → n ≡ place_of k → x ≡ m * k
@@ -89,7 +89,7 @@ placed-turn {m} {k} {l} n x p h long at is =
     }
 
 known : (n : ℕ) → n < 1152 → (get_or ks n 0 + 1 ≤ 1152) × (place_of (get_or ks n 0) ≡ n)
-unfolding kFor
+unfolding k_for
 known n h =
     let hr : n / 36 < 32 = omega arith in
     let hc : n % 36 < 36 = omega arith in
@@ -111,8 +111,8 @@ placed-all {m} {k} {l} h p = record { is = is; below = λ n hn. omega (arith, is
 
 -- ---- the bytes of a row of two partitions
 
-pub nibble-lt : (f : ℕ → ℕ) → ((i : ℕ) → f i < 2) → (starts : List ℕ) (a t : ℕ) → nibbleOf f starts a t < 16
-unfolding nibbleOf
+pub nibble-lt : (f : ℕ → ℕ) → ((i : ℕ) → f i < 2) → (starts : List ℕ) (a t : ℕ) → nibble_of f starts a t < 16
+unfolding nibble_of
 nibble-lt f b starts a t = number_lt 4 _ (λ i h. b _)
 
 number-split : (h : ℕ → ℕ) → number 8 h ≡ 16 * number 4 h + number 4 (λ i. h (4 + i))
@@ -121,8 +121,8 @@ number-split h = omega arith
 
 pub nibble-sum : (f : ℕ → ℕ) (starts : List ℕ) (a t : ℕ)
     → 8 * f (8 * get_or starts a 0 + t) + 4 * f (8 * get_or starts (a + 1) 0 + t) + 2 * f (8 * get_or starts (a + 2) 0 + t) + f (8 * get_or starts (a + 3) 0 + t)
-    ≡ nibbleOf f starts a t
-unfolding nibbleOf number
+    ≡ nibble_of f starts a t
+unfolding nibble_of number
 nibble-sum f starts a t = let z : a + 0 ≡ a = omega arith in rw z (omega arith)
 
 -- the cell of the pair q of the row y, nibble z and column u of it
@@ -145,16 +145,16 @@ module _ (row : ℕ) (f : ℕ → ℕ) (starts : List ℕ) (y q : ℕ) (hrow : r
   from = 18 * ((row + 1) * y) + 9 * q
 
   abbrev bits : ℕ → ℕ
-  bits c = bitIn row f (position_of (partitions row) 36 c)
+  bits c = bit_in row f (position_of (partitions row) 36 c)
 
   at-cell : (z u : ℕ) → z < 18 → u < 4
       → f (8 * get_or starts (36 * r + 4 * (z % 9) + u) 0 + turn_of row b r (2 * q + z / 9)) ≡ bits (8 * from + 4 * z + u)
-  unfolding bitIn kFor
+  unfolding bit_in k_for
   at-cell z u hz hu =
       let at : Position = record { block = b; row = r; partition = 2 * q + z / 9; column = 4 * (z % 9) + u } in
       let k = cell-is row y q z u hrow hy hq hz hu in
       let inside : Inside (partitions row) 2 36 at = record { block-lt = omega arith; row_lt = omega arith; partition-lt = k.0; column-lt = omega arith } in
-      let here : cell_of (partitions row) 36 at ≡ 8 * from + 4 * z + u = unfold cell_of matrixRow matrixColumn in k.1 in
+      let here : cell_of (partitions row) 36 at ≡ 8 * from + 4 * z + u = unfold cell_of matrix_row matrix_column in k.1 in
       let is : position_of (partitions row) 36 (8 * from + 4 * z + u) ≡ at = rw here at (position-cell (partitions row) 2 36 at inside) in
       let n : 36 * r + 4 * (z % 9) + u ≡ 36 * r + (4 * (z % 9) + u) = omega arith in
       let s : get_or starts (36 * r + 4 * (z % 9) + u) 0 ≡ (row + 1) * get_or ks (36 * r + (4 * (z % 9) + u)) 0 = ap (λ (x : ℕ). get_or starts x 0) n ∙ st.is _ (omega arith) in
@@ -162,7 +162,7 @@ module _ (row : ℕ) (f : ℕ → ℕ) (starts : List ℕ) (y q : ℕ) (hrow : r
       ∙ sym (ap (λ (p : Position). f (8 * ((row + 1) * get_or ks (36 * p.row + p.column) 0) + turn_of row p.block p.row p.partition)) is)
 
   pair_is : (z : ℕ) → z < 18 → pair_of f starts (36 * r) (turn_of row b r (2 * q)) (turn_of row b r (2 * q + 1)) z ≡ number 4 (λ u. bits (8 * from + 4 * z + u))
-  unfolding pair_of nibbleOf
+  unfolding pair_of nibble_of
   pair_is z h = elim (dec_lt z 9) [
     | yes l ↦
         let p : 2 * q + z / 9 ≡ 2 * q = omega arith in
@@ -174,10 +174,10 @@ module _ (row : ℕ) (f : ℕ → ℕ) (starts : List ℕ) (y q : ℕ) (hrow : r
         rw (le-ltb z 9 (omega arith)) (number-cong 4 _ _ (λ u hu. rw (p, m) at (at-cell z u h hu)))
   ]
 
-  pub pair-byte : (e : ℕ) → e < 9 → byteIn row f (from + e)
+  pub pair-byte : (e : ℕ) → e < 9 → byte_in row f (from + e)
       ≡ 16 * pair_of f starts (36 * r) (turn_of row b r (2 * q)) (turn_of row b r (2 * q + 1)) (2 * e)
       + pair_of f starts (36 * r) (turn_of row b r (2 * q)) (turn_of row b r (2 * q + 1)) (2 * e + 1)
-  unfolding byteIn
+  unfolding byte_in
   pair-byte e h =
       number-split (λ k. bits (8 * (from + e) + k))
       ∙ ap₂ (λ (a c : ℕ). 16 * a + c)
@@ -187,7 +187,7 @@ module _ (row : ℕ) (f : ℕ → ℕ) (starts : List ℕ) (y q : ℕ) (hrow : r
 -- the same, where s and t are the turns
 pub pair-turned : (row : ℕ) (f : ℕ → ℕ) (starts : List ℕ) (y q : ℕ) → row < 2 → y < 64 → q < 2 * (row + 1) → Starts (row + 1) starts → {s t : ℕ}
     → s ≡ turn_of row (y / 32) (y % 32) (2 * q) → t ≡ turn_of row (y / 32) (y % 32) (2 * q + 1)
-    → (e : ℕ) → e < 9 → byteIn row f (18 * ((row + 1) * y) + 9 * q + e)
+    → (e : ℕ) → e < 9 → byte_in row f (18 * ((row + 1) * y) + 9 * q + e)
     ≡ 16 * pair_of f starts (36 * (y % 32)) s t (2 * e) + pair_of f starts (36 * (y % 32)) s t (2 * e + 1)
 pair-turned row f starts y q hrow hy hq st es et e h = rw (es, et) (pair-byte row f starts y q hrow hy hq st e h)
 
@@ -206,10 +206,10 @@ pair_lt f b starts a s t z = elim (dec_lt z 9) [
 ]
 
 -- the nibble of the x-th four places and the bit t, and its bound
-pub row_at : (m : ℕ) (f : ℕ → ℕ) (starts : List ℕ) (a x t : ℕ) → t < 8 * m → row_of m f starts a (8 * (m * x) + t) ≡ nibbleOf f starts (a + 4 * x) t
+pub row_at : (m : ℕ) (f : ℕ → ℕ) (starts : List ℕ) (a x t : ℕ) → t < 8 * m → row_of m f starts a (8 * (m * x) + t) ≡ nibble_of f starts (a + 4 * x) t
 unfolding row_of
 row_at m f starts a x t h =
-    ap₂ (λ (c d : ℕ). nibbleOf f starts (a + 4 * c) d) (div-of (8 * m) x t _ (omega arith) h) (mod-of (8 * m) x t _ (omega arith) h)
+    ap₂ (λ (c d : ℕ). nibble_of f starts (a + 4 * c) d) (div-of (8 * m) x t _ (omega arith) h) (mod-of (8 * m) x t _ (omega arith) h)
 
 pub row_lt : (m : ℕ) (f : ℕ → ℕ) → ((i : ℕ) → f i < 2) → (starts : List ℕ) (a q : ℕ) → row_of m f starts a q < 256
 unfolding row_of
@@ -268,8 +268,8 @@ turn-wide (suc (suc row)) b r p x h z l e = absurd (omega arith)
 
 -- ---- the bit at its position
 
-abbrev pub positionIn : (row i : ℕ) → Position
-positionIn row i = I.position (partitions row) 2 36 (runs row) (order row) i
+abbrev pub position_in : (row i : ℕ) → Position
+position_in row i = I.position (partitions row) 2 36 (runs row) (order row) i
 
 narrow-turn : (i k : ℕ) → ((i + k) % 2 + k * 11 % 32) % 2 ≡ i % 2
 narrow-turn i k =
@@ -286,22 +286,22 @@ narrow-sum i k e = ap (λ (x : ℕ). 8 * (1 * k) + (2 * (i / 2 % 4) + x)) (narro
 wide-sum : (i k p : ℕ) → k ≡ i / 16 → 8 * (2 * k) + (8 * (((i / 8 + p * 7) % 2 + p) % 2) + i % 8) ≡ i
 wide-sum i k p e = omega arith
 
-pub bit-here : (row : ℕ) → row < 2 → (f : ℕ → ℕ) (i : ℕ) → i < frameBits row → bitIn row f (positionIn row i) ≡ f i
-unfolding bitIn turn_of partitions runs order frameBits I.position I.partition I.partIndex I.block I.k_of
+pub bit-here : (row : ℕ) → row < 2 → (f : ℕ → ℕ) (i : ℕ) → i < frame_bits row → bit_in row f (position_in row i) ≡ f i
+unfolding bit_in turn_of partitions runs order frame_bits I.position I.partition I.part_index I.block I.k_of
 bit-here zero h f i l =
     let e : (i + 0) / 2 % 4 ≡ i / 2 % 4 = omega arith in
-    let s : 8 * (1 * kFor (I.row (i / 8)) (I.column 36 (i / 8))) + (2 * (i / 2 % 4) + ((i + i / 8) % 2 + I.row (i / 8)) % 2) ≡ i = unfold I.row in narrow-sum i (kFor (I.row (i / 8)) (I.column 36 (i / 8))) (together.back (i / 8) (omega arith)) in
+    let s : 8 * (1 * k_for (I.row (i / 8)) (I.column 36 (i / 8))) + (2 * (i / 2 % 4) + ((i + i / 8) % 2 + I.row (i / 8)) % 2) ≡ i = unfold I.row in narrow-sum i (k_for (I.row (i / 8)) (I.column 36 (i / 8))) (together.back (i / 8) (omega arith)) in
     ap f (rw (e, plain4 (i / 2 % 4) (omega arith)) s)
 bit-here (suc zero) h f i l =
     let q : (i + 0) / 1 % 8 ≡ i % 8 = omega arith in
-    let s = wide-sum i (kFor (I.row (i / 16)) (I.column 36 (i / 16))) (get_or v8 (i % 8) 0) (together.back (i / 16) (omega arith)) in
+    let s = wide-sum i (k_for (I.row (i / 16)) (I.column 36 (i / 16))) (get_or v8 (i % 8) 0) (together.back (i / 16) (omega arith)) in
     ap f (rw (q, perm8.w-v (i % 8) (omega arith)) s)
 bit-here (suc (suc row)) h f i l = absurd (omega arith)
 
 -- ---- the matrix
 
-pub bytes_of : (row : ℕ) → row < 2 → frameBits row ≡ 9216 * (row + 1)
-unfolding frameBits
+pub bytes_of : (row : ℕ) → row < 2 → frame_bits row ≡ 9216 * (row + 1)
+unfolding frame_bits
 bytes_of zero h = refl
 bytes_of (suc zero) h = refl
 bytes_of (suc (suc row)) h = absurd (omega arith)
@@ -319,7 +319,7 @@ module _ (B S : ℕ) (h : ℕ → ℕ) (hb : (c : ℕ) → h c < 2) (px out : Li
       let z : 8 * (d / 8) + d % 8 ≡ d = omega arith in
       let k : d % 8 < 8 = omega arith in
       ap (bit_at out) e
-      ∙ bitAt-digit out (B + d / 8) (d % 8) k
+      ∙ bit_at-digit out (B + d / 8) (d % 8) k
       ∙ ap (λ (x : ℕ). digit x (7 - d % 8)) (ch.inside (d / 8) (omega arith))
       ∙ number-digit 8 (λ u. h (8 * (d / 8) + u)) (λ i l. hb _) (d % 8) k
       ∙ ap h z
@@ -352,19 +352,19 @@ module _ (B S : ℕ) (h : ℕ → ℕ) (hb : (c : ℕ) → h c < 2) (px out : Li
       ]
     ]
 
-inside_of : (row : ℕ) → row < 2 → (i : ℕ) → i < frameBits row → Inside (partitions row) 2 36 (positionIn row i)
-unfolding partitions runs order frameBits
+inside_of : (row : ℕ) → row < 2 → (i : ℕ) → i < frame_bits row → Inside (partitions row) 2 36 (position_in row i)
+unfolding partitions runs order frame_bits
 inside_of zero h i l = (positions-once-I-runs 4 4 8 v4 v4 (omega arith) refl perm4 2 (omega arith) (omega arith)).there i l
 inside_of (suc zero) h i l = (positions-once-I 8 4 8 v8 v8 (omega arith) refl perm8 2 (omega arith)).there i l
 inside_of (suc (suc row)) h i l = absurd (omega arith)
 
-position-inside : (row : ℕ) → row < 2 → (i : ℕ) → i < frameBits row → position_of (partitions row) 36 (I.place (partitions row) 2 36 (runs row) (order row) i) ≡ positionIn row i
+position-inside : (row : ℕ) → row < 2 → (i : ℕ) → i < frame_bits row → position_of (partitions row) 36 (I.place (partitions row) 2 36 (runs row) (order row) i) ≡ position_in row i
 unfolding I.place
-position-inside row h i l = position-cell (partitions row) 2 36 (positionIn row i) (inside_of row h i l)
+position-inside row h i l = position-cell (partitions row) 2 36 (position_in row i) (inside_of row h i l)
 
 place-frame : (row f : ℕ) → row < 2 → (i : ℕ) → i < 8 * (1152 * (row + 1))
-    → place row (f * frameBits row + i) ≡ 8 * (f * (1152 * (row + 1))) + I.place (partitions row) 2 36 (runs row) (order row) i
-unfolding place frameBits
+    → place row (f * frame_bits row + i) ≡ 8 * (f * (1152 * (row + 1))) + I.place (partitions row) 2 36 (runs row) (order row) i
+unfolding place frame_bits
 place-frame zero f h i l =
     let q : (f * 9216 + i) / 9216 ≡ f = omega arith in
     let m : (f * 9216 + i) % 9216 ≡ i = omega arith in
@@ -378,21 +378,21 @@ place-frame (suc zero) f h i l =
 place-frame (suc (suc row)) f h i l = absurd (omega arith)
 
 pub whole : (row f : ℕ) → row < 2 → (coded px out : List ℕ)
-    → Changed (f * (1152 * (row + 1))) (1152 * (row + 1)) (byteIn row (bit_at coded)) px out
-    → bit_at out ≡ written (λ i. place row (f * frameBits row + i)) (bit_at coded) (frameBits row) (bit_at px)
-unfolding byteIn
+    → Changed (f * (1152 * (row + 1))) (1152 * (row + 1)) (byte_in row (bit_at coded)) px out
+    → bit_at out ≡ written (λ i. place row (f * frame_bits row + i)) (bit_at coded) (frame_bits row) (bit_at px)
+unfolding byte_in
 whole row f h coded px out ch =
-    let n : 8 * (1152 * (row + 1)) ≡ frameBits row = omega (arith, bytes_of row h) in
-    let once : EachOnce (Below (8 * (1152 * (row + 1)))) (8 * (1152 * (row + 1))) (I.place (partitions row) 2 36 (runs row) (order row)) (sourceIn row) = rw n (one-each-once row h) in
-    let small : (c : ℕ) → bitIn row (bit_at coded) (position_of (partitions row) 36 c) < 2 = unfold bitIn in λ c. bit_at_lt coded _ in
-    let all = all-bits (f * (1152 * (row + 1))) (1152 * (row + 1)) (λ c. bitIn row (bit_at coded) (position_of (partitions row) 36 c)) small px out ch
-    (bit_at coded) _ _ (λ i. place row (f * frameBits row + i)) once
-    (λ i l. ap (bitIn row (bit_at coded)) (position-inside row h i (omega arith)) ∙ bit-here row h (bit_at coded) i (omega arith))
+    let n : 8 * (1152 * (row + 1)) ≡ frame_bits row = omega (arith, bytes_of row h) in
+    let once : EachOnce (Below (8 * (1152 * (row + 1)))) (8 * (1152 * (row + 1))) (I.place (partitions row) 2 36 (runs row) (order row)) (source_in row) = rw n (one-each-once row h) in
+    let small : (c : ℕ) → bit_in row (bit_at coded) (position_of (partitions row) 36 c) < 2 = unfold bit_in in λ c. bit_at_lt coded _ in
+    let all = all-bits (f * (1152 * (row + 1))) (1152 * (row + 1)) (λ c. bit_in row (bit_at coded) (position_of (partitions row) 36 c)) small px out ch
+    (bit_at coded) _ _ (λ i. place row (f * frame_bits row + i)) once
+    (λ i l. ap (bit_in row (bit_at coded)) (position-inside row h i (omega arith)) ∙ bit-here row h (bit_at coded) i (omega arith))
     (λ i l. place-frame row f h i l) in
     fun_ext (λ c. rw n at (all c))
 
 -- the frames below f, and frame f, have room among the eight
-pub frame-fits : (row f : ℕ) → row < 2 → f < 8 → (f * (1152 * (row + 1)) + 1152 * (row + 1) ≤ frameBits row) × (frameBits row ≤ 18432)
+pub frame-fits : (row f : ℕ) → row < 2 → f < 8 → (f * (1152 * (row + 1)) + 1152 * (row + 1) ≤ frame_bits row) × (frame_bits row ≤ 18432)
 frame-fits row f h hf =
     let more : f + 1 ≤ 8 = omega arith in
     let n = bytes_of row h in

@@ -4,9 +4,9 @@ ghost use Rattle.std.specs.Prelude.{◌≡◌, List, ℕ, ◌+◌, ◌*◌, ◌<
 ghost use Rattle.bits.specs.Bits.{bit_at, written};
 ghost use Rattle.interleaving.specs.EquationsI.{row as «row-of», column as «column-of»};
 ghost use Rattle.interleaving.specs.PX.{v4};
-ghost use Rattle.interleaving.specs.PX2.{v8, frameBits, place as «place_of»};
+ghost use Rattle.interleaving.specs.PX2.{v8, frame_bits, place as «place_of»};
 ghost use Rattle.transposing.specs.Words.{Begins, Spreads};
-ghost use Rattle.px2.specs.Places.{turn_of, byteIn, Starts, row_of, pair_of, Changed};
+ghost use Rattle.px2.specs.Places.{turn_of, byte_in, Starts, row_of, pair_of, Changed};
 
 // Tables 10-17 and 10-19, a table for each column: J, B, C, M and N. The first entry is for row 0, MP5; the second for row 1, MP6.
 const J: [usize; 2] = [4, 8];
@@ -189,7 +189,7 @@ fn write_row(
     px2: &mut [u8],
 )
     requires { (row < 2) × Spreads spreads.now × Starts (row + 1) starts.now × (length coded.now ≡ 1152 * (row + 1)) × (y < 64) × (first + 1152 * (row + 1) ≤ length px2.old) × (first + 1152 * (row + 1) ≤ 18432) }
-    ensures { (l : List ℕ) → Changed first (18 * ((row + 1) * y)) (byteIn row (bit_at coded.now)) l px2.old → Changed first (18 * ((row + 1) * (y + 1))) (byteIn row (bit_at coded.now)) l px2.new }
+    ensures { (l : List ℕ) → Changed first (18 * ((row + 1) * y)) (byte_in row (bit_at coded.now)) l px2.old → Changed first (18 * ((row + 1) * (y + 1))) (byte_in row (bit_at coded.now)) l px2.new }
 {
     let m = row + 1;
     let b = y / 32;
@@ -209,8 +209,8 @@ fn write_row(
 
 // Writes the matrix of frame f among the eight, from the frame's coded bits.
 pub fn interleave(row: usize, f: usize, coded: &[u8], px2: &mut [u8])
-    requires { (row < 2) × (f < 8) × (length coded.now * 8 ≡ frameBits row) × (length px2.old ≡ frameBits row) }
-    ensures { bit_at px2.new ≡ written (λ i. «place_of» row (f * frameBits row + i)) (bit_at coded.now) (frameBits row) (bit_at px2.old) }
+    requires { (row < 2) × (f < 8) × (length coded.now * 8 ≡ frame_bits row) × (length px2.old ≡ frame_bits row) }
+    ensures { bit_at px2.new ≡ written (λ i. «place_of» row (f * frame_bits row + i)) (bit_at coded.now) (frame_bits row) (bit_at px2.old) }
 {
     let m = row + 1;
     let spreads = transposing::spreads();

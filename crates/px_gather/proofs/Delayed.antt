@@ -4,7 +4,7 @@ use mathlib.Core.Path.{◌≡◌, sym, ap, ◌∙◌}
 use Prim.Native.Nat.{ℕ, zero, suc, ◌+◌, ◌-◌, ◌*◌, ◌%◌, ◌≤◌, ◌<◌}
 use native.Mathlib.Nat.{mod-eq_of_lt, mul-le-mul}
 use native.Mathlib.Omega.{arith}
-use Rattle.interleaving.specs.PX.{partitions, runs, codedBytes, codedBits, cells, step_of, place, later}
+use Rattle.interleaving.specs.PX.{partitions, runs, coded_bytes, coded_bits, cells, step_of, place, later}
 use Rattle.interleaving.proofs.Mod.{mod-of}
 use Rattle.interleaving.proofs.Steps.{later-lt}
 use Rattle.px_steps.proofs.Residues.{in_frame, in-entries}
@@ -30,7 +30,7 @@ turn-sums : (kind half t g u : ℕ) → kind < 2
     → (8 * (144 * partitions kind * t + g) + u ≡ 1152 * partitions kind * t + (8 * g + u))
     × (step_of kind half (8 * (144 * partitions kind * t + g) + u) ≡ 1152 * partitions kind * (16 * half + t) + (8 * g + u))
     × (step_of kind 0 (8 * g + u) ≡ 1152 * partitions kind * 0 + (8 * g + u))
-unfolding partitions codedBytes
+unfolding partitions coded_bytes
 turn-sums zero half t g u h = (omega arith, omega arith, omega arith)
 turn-sums (suc zero) half t g u h = (omega arith, omega arith, omega arith)
 turn-sums (suc (suc kind)) half t g u h = absurd (omega arith)
@@ -60,7 +60,7 @@ byte-in kind g u h hg hu = omega arith
 around : (kind turn k e x : ℕ) → kind < 2 → turn < 32 → e < 1152 * partitions kind → x < 1152 * partitions kind
     → ((turn + k) % 32 * (1152 * partitions kind) + e + cells kind - (1152 * partitions kind * turn + x)) % cells kind
     ≡ (k % 32 * (1152 * partitions kind) + e + cells kind - x) % cells kind
-unfolding partitions codedBytes
+unfolding partitions coded_bytes
 around zero turn k e x h ht he hx = omega arith
 around (suc zero) turn k e x h ht he hx = omega arith
 around (suc (suc kind)) turn k e x h ht he hx = absurd (omega arith)
@@ -110,7 +110,7 @@ later-turn kind half t g u hk hh ht hg hu =
 -- the place that the code finds for it: i is the turn's first cell, and l the first turn's place
 pub later-found : (kind half t g u i l : ℕ) → kind < 2 → half < 2 → t < 16 → g < 144 * partitions kind → u < 8
     → i ≡ 1152 * partitions kind * t → l ≡ later kind 0 (8 * g + u)
-    → (i + l ≡ later kind half (8 * (144 * partitions kind * t + g) + u)) × (i + l < 3 * codedBits kind)
+    → (i + l ≡ later kind half (8 * (144 * partitions kind * t + g) + u)) × (i + l < 3 * coded_bits kind)
 later-found kind half t g u i l hk hh ht hg hu i-is l-is =
     let e : i + l ≡ later kind half (8 * (144 * partitions kind * t + g) + u) = rw (i-is, l-is) (sym (later-turn kind half t g u hk hh ht hg hu)) in
     (e, omega (arith, e, later-lt kind half (8 * (144 * partitions kind * t + g) + u) (in_frame kind t g u hk ht hg hu).1))

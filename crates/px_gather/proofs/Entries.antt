@@ -4,7 +4,7 @@ use Prim.Native.Nat.{ℕ, ◌+◌, ◌*◌, ◌/◌, ◌%◌, ◌≤◌, ◌<◌
 use native.Mathlib.Nat.{mod-lt}
 use native.Mathlib.Omega.{arith}
 use lib.ListN.{get_or}
-use Rattle.interleaving.specs.Matrix.{matrixRow, matrixColumn, cell_of, cell}
+use Rattle.interleaving.specs.Matrix.{matrix_row, matrix_column, cell_of, cell}
 use Rattle.interleaving.specs.EquationsIV as IV
 use Rattle.interleaving.specs.InverseIV as Inv
 use Rattle.interleaving.specs.PX.{partitions, runs, order, cells, place}
@@ -12,12 +12,12 @@ use Rattle.interleaving.proofs.BlockIV as P
 use Rattle.interleaving.proofs.Slot.{slot_is}
 use Rattle.interleaving.proofs.Counter.{pt-is}
 use Rattle.interleaving.proofs.SlotsIV as L
-use Rattle.interleaving.proofs.PXKinds.{Kind, kind-is, codedBytes-is}
+use Rattle.interleaving.proofs.PXKinds.{Kind, kind-is, coded_bytes-is}
 use Rattle.px_gather.specs.Entries.{entry}
 
 pub entry-is : (kind p n : ℕ)
     → (32 * ((n / 1152 + (n % 1152 + p * 7)) % 32) + 11 * n % 1152 / 36) * (partitions kind * 36) + (36 * p + 11 * n % 1152 % 36) ≡ entry kind p n
-unfolding entry cell cell_of matrixRow matrixColumn IV.row_at
+unfolding entry cell cell_of matrix_row matrix_column IV.row_at
 entry-is kind p n =
     rw (
       P.block-is (partitions kind) 32 36 (runs kind) 5027 48 (order kind) (omega arith) (omega arith) refl p n,
@@ -40,13 +40,13 @@ module _ (kind : ℕ) (hk : kind < 2) where
     x = i + 2 * (M / 4)
 
     -- its partition index, read off its place in the round of M * J = 8 steps
-    slot : x % 8 / M ≡ IV.partIndex J 32 36 M (order kind) i
-    unfolding IV.partIndex
+    slot : x % 8 / M ≡ IV.part_index J 32 36 M (order kind) i
+    unfolding IV.part_index
     slot = rw K.eight at (sym (slot_is J M K.J-pos K.M-pos x))
 
     module _ (p : ℕ) (p-is : p ≡ x % 8 / M) where
       pub part-lt : p < J
-      part-lt = rw (p-is, slot) (unfold IV.partIndex in mod-lt _ K.J-pos)
+      part-lt = rw (p-is, slot) (unfold IV.part_index in mod-lt _ K.J-pos)
 
       pub part-is : p ≡ IV.partition J 32 36 M (order kind) i
       unfolding IV.partition
@@ -67,7 +67,7 @@ module _ (kind : ℕ) (hk : kind < 2) where
         counter-lt h =
             rw n-pt
             (rw K.turns at
-            (L.pt-lt J 32 36 M K.T (order kind) (order kind) K.J-pos K.M-pos K.perm i (rw K.turns (omega (arith, codedBytes-is kind hk)))))
+            (L.pt-lt J 32 36 M K.T (order kind) (order kind) K.J-pos K.M-pos K.perm i (rw K.turns (omega (arith, coded_bytes-is kind hk)))))
 
         pub place_is : entry kind p n ≡ place kind i
         unfolding entry place IV.place IV.partition

@@ -12,7 +12,7 @@ entry kind p n =
     cell (partitions kind) 36 p
     (IV.block_at (partitions kind) 32 36 (runs kind) (order kind) p n)
     (IV.row_at (partitions kind) 32 36 (runs kind) (order kind) n)
-    (IV.columnAt (partitions kind) 32 36 (runs kind) (order kind) n)
+    (IV.column_at (partitions kind) 32 36 (runs kind) (order kind) n)
 
 -- a turn is 1152 entries, one for each row and column of a block: where the entry n of a turn stands in its block, from the partition's first cell
 unfoldable pub spot : (kind n : ℕ) → ℕ

@@ -2,7 +2,7 @@
 ghost use Rattle.std.specs.Prelude.{◌≡◌, ℕ, ◌+◌, ◌-◌, ◌*◌, ◌/◌, ◌%◌, ◌<◌, ◌≤◌, length, get_or};
 ghost use Rattle.bits.specs.Bits.{bit_at, packed, byte_of};
 ghost use Rattle.interleaving.specs.InverseIV.{missed as «missed-of»};
-ghost use Rattle.interleaving.specs.PX.{partitions as «partitions-of», runs as «runs_of», codedBytes, cells, step_of, place as «place_of», later as «Later-of»};
+ghost use Rattle.interleaving.specs.PX.{partitions as «partitions-of», runs as «runs_of», coded_bytes, cells, step_of, place as «place_of», later as «Later-of»};
 ghost use Rattle.px_gather.specs.Entries.{entry as «entry_of», spot as «spot_of_lem», Parts, Counts, Delays};
 
 // 10.2.6.1: the counter that the step x, with the offset, fetches for its partition p.
@@ -118,7 +118,7 @@ fn gather_byte(
     t: usize,
     three: &[u8],
 ) -> u8
-    requires { (kind < 2) × (half < 2) × (g < 144 * «partitions-of» kind) × (t < 16) × Delays kind g delays.now × (length three.now ≡ 3 * codedBytes kind) }
+    requires { (kind < 2) × (half < 2) × (g < 144 * «partitions-of» kind) × (t < 16) × Delays kind g delays.now × (length three.now ≡ 3 * coded_bytes kind) }
     ensures { result ≡ byte_of (λ i. bit_at three.now («Later-of» kind half i)) (144 * «partitions-of» kind * t + g) }
 {
     let i = px_steps::block(kind) * t;
@@ -140,7 +140,7 @@ fn gather_turns(
     three: &[u8],
     coded: &mut [u8],
 )
-    requires { (kind < 2) × (half < 2) × (g < 144 * «partitions-of» kind) × Delays kind g delays.now × (length three.now ≡ 3 * codedBytes kind) × (length coded.old ≡ codedBytes kind) }
+    requires { (kind < 2) × (half < 2) × (g < 144 * «partitions-of» kind) × Delays kind g delays.now × (length three.now ≡ 3 * coded_bytes kind) × (length coded.old ≡ coded_bytes kind) }
     ensures by_index { (t : ℕ) → t < 16 → get_or coded.new (144 * «partitions-of» kind * t + g) 0 ≡ byte_of (λ i. bit_at three.now («Later-of» kind half i)) (144 * «partitions-of» kind * t + g) }
     ensures by_index_2 { (t h : ℕ) → h < g → get_or coded.new (144 * «partitions-of» kind * t + h) 0 ≡ get_or coded.old (144 * «partitions-of» kind * t + h) 0 }
 {
@@ -154,8 +154,8 @@ fn gather_turns(
 
 // The coded bits of an L1 frame out of its matrix and the two that follow, laid end to end: by the byte of a turn, so that its places are found once for the sixteen turns.
 pub fn gather(kind: usize, half: usize, three: &[u8], coded: &mut [u8])
-    requires { (kind < 2) × (half < 2) × (length three.now ≡ 3 * codedBytes kind) × (length coded.old ≡ codedBytes kind) }
-    ensures { coded.new ≡ packed (codedBytes kind) (λ j. bit_at three.now («Later-of» kind half j)) }
+    requires { (kind < 2) × (half < 2) × (length three.now ≡ 3 * coded_bytes kind) × (length coded.old ≡ coded_bytes kind) }
+    ensures { coded.new ≡ packed (coded_bytes kind) (λ j. bit_at three.now («Later-of» kind half j)) }
 {
     let parts = parts(kind);
     let counts = counts(kind);

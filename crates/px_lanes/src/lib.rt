@@ -2,15 +2,15 @@
 // for an entry of each partition, each as a digit to the base of 16, so that a sum of four of them turns four columns at once.
 ghost use Rattle.std.specs.Prelude.{◌≡◌, List, ℕ, ◌+◌, ◌-◌, ◌*◌, ◌/◌, ◌%◌, ◌^◌, ◌<◌, ◌≤◌, length, get_or};
 ghost use Rattle.bits.specs.Bits.{bit_at, packed};
-ghost use Rattle.interleaving.specs.PX.{partitions as «partitions-of», runs as «runs_of», codedBytes, codedBits};
+ghost use Rattle.interleaving.specs.PX.{partitions as «partitions-of», runs as «runs_of», coded_bytes, coded_bits};
 ghost use Rattle.interleaving.specs.FinderPX.{source as «source_of»};
 ghost use Rattle.transposing.specs.Words.{Begins};
-ghost use Rattle.px_lanes.specs.Laid.{hex, laneBit, laneAt, columnAt, quadAt, Laid};
+ghost use Rattle.px_lanes.specs.Laid.{hex, lane_bit, lane_at, column_at, quad_at, Laid};
 
 // The bit of the coded byte x that the partition p takes for the entry e of a run.
 fn lane_bit(kind: usize, e: usize, x: usize, p: usize) -> u16
     requires { (kind < 2) × (e < «runs_of» kind) × (x < 256) × (p < 4) }
-    ensures { (result ≡ laneBit kind e x p) × (result < 2) }
+    ensures { (result ≡ lane_bit kind e x p) × (result < 2) }
 {
     let s = px_steps::step(kind, p % px_steps::partitions(kind), e);
     ((x >> (7 - s)) % 2) as u16
@@ -19,7 +19,7 @@ fn lane_bit(kind: usize, e: usize, x: usize, p: usize) -> u16
 // That of every partition.
 fn lane(kind: usize, e: usize, x: usize) -> u16
     requires { (kind < 2) × (e < «runs_of» kind) × (x < 256) }
-    ensures { result ≡ hex (laneBit kind e x) }
+    ensures { result ≡ hex (lane_bit kind e x) }
 {
     let a = lane_bit(kind, e, x, 0);
     let b = lane_bit(kind, e, x, 1);
@@ -31,7 +31,7 @@ fn lane(kind: usize, e: usize, x: usize) -> u16
 // Those of every byte and entry, to be looked up.
 fn fill_lanes(kind: usize, lanes: &mut [u16; 1024])
     requires { (kind < 2) × (length lanes.old ≡ 1024) }
-    ensures { Begins (laneAt kind) (256 * «runs_of» kind) lanes.new }
+    ensures { Begins (lane_at kind) (256 * «runs_of» kind) lanes.new }
 {
     let n = 256 * px_steps::runs(kind);
     let mut i: usize = 0;
@@ -58,8 +58,8 @@ fn entry_in(n: usize) -> usize
 
 // The bits of the entry n, of the turn from which block d takes it in partition 0.
 fn lane_of(kind: usize, lanes: &[u16; 1024], n: usize, d: usize, coded: &[u8]) -> u16
-    requires { (kind < 2) × (n < 1152) × (d < 16) × Begins (laneAt kind) (256 * «runs_of» kind) lanes.now × (length coded.now ≡ codedBytes kind) }
-    ensures { (result ≡ columnAt kind coded.now n d) × (result ≤ 4369) }
+    requires { (kind < 2) × (n < 1152) × (d < 16) × Begins (lane_at kind) (256 * «runs_of» kind) lanes.now × (length coded.now ≡ coded_bytes kind) }
+    ensures { (result ≡ column_at kind coded.now n d) × (result ≤ 4369) }
 {
     let t = (d + (1152 - n)) % 16;
     let j = px_steps::block(kind) / 8 * t + (n >> (2 - kind));
@@ -76,10 +76,10 @@ fn four_columns(
     coded: &[u8],
     quads: &mut [u16; 144],
 )
-    requires { (kind < 2) × (r < 32) × (z < 9) × Begins (laneAt kind) (256 * «runs_of» kind) lanes.now × (length coded.now ≡ codedBytes kind)
+    requires { (kind < 2) × (r < 32) × (z < 9) × Begins (lane_at kind) (256 * «runs_of» kind) lanes.now × (length coded.now ≡ coded_bytes kind)
         × (length quads.old ≡ 144) }
-    ensures { (length quads.new ≡ 144) × (Begins (quadAt kind coded.now r) (16 * z) quads.old
-        → Begins (quadAt kind coded.now r) (16 * z + 16) quads.new) }
+    ensures { (length quads.new ≡ 144) × (Begins (quad_at kind coded.now r) (16 * z) quads.old
+        → Begins (quad_at kind coded.now r) (16 * z + 16) quads.new) }
 {
     let n = 36 * r + 4 * z;
     let first = entry_in(n);
@@ -98,9 +98,9 @@ fn four_columns(
 
 // The row r.
 fn row_quads(kind: usize, lanes: &[u16; 1024], r: usize, coded: &[u8], quads: &mut [u16; 144])
-    requires { (kind < 2) × (r < 32) × Begins (laneAt kind) (256 * «runs_of» kind) lanes.now × (length coded.now ≡ codedBytes kind)
+    requires { (kind < 2) × (r < 32) × Begins (lane_at kind) (256 * «runs_of» kind) lanes.now × (length coded.now ≡ coded_bytes kind)
         × (length quads.old ≡ 144) }
-    ensures { (length quads.new ≡ 144) × Begins (quadAt kind coded.now r) 144 quads.new }
+    ensures { (length quads.new ≡ 144) × Begins (quad_at kind coded.now r) 144 quads.new }
 {
     let mut z: usize = 0;
     while z < 9 {
@@ -121,9 +121,9 @@ fn nibble(quads: &[u16; 144], y: usize, t: usize) -> u8
 
 // Writes the byte k of the row r of every block, the byte g of the block; the bytes before it in each block stay.
 fn fresh_turns(kind: usize, quads: &[u16; 144], k: usize, g: usize, px: &mut [u8])
-    requires { (kind < 2) × (k < 18) × (g < 144 * «partitions-of» kind) × (length px.old ≡ codedBytes kind) }
+    requires { (kind < 2) × (k < 18) × (g < 144 * «partitions-of» kind) × (length px.old ≡ coded_bytes kind) }
     ensures { (l : List ℕ) (r : ℕ) → r < 32 → 2 * k < 9 * «partitions-of» kind → 2 * g ≡ 9 * «partitions-of» kind * r + 2 * k
-        → Begins (quadAt kind l r) 144 quads.now → Laid kind l g px.old → Laid kind l (g + 1) px.new }
+        → Begins (quad_at kind l r) 144 quads.now → Laid kind l g px.old → Laid kind l (g + 1) px.new }
 {
     let size = px_steps::block(kind) / 8;
     let mut t: usize = 0;
@@ -137,8 +137,8 @@ fn fresh_turns(kind: usize, quads: &[u16; 144], k: usize, g: usize, px: &mut [u8
 
 // Writes the row r of every block.
 fn fresh_row(kind: usize, quads: &[u16; 144], r: usize, px: &mut [u8])
-    requires { (kind < 2) × (r < 32) × (length px.old ≡ codedBytes kind) }
-    ensures { (l : List ℕ) → Begins (quadAt kind l r) 144 quads.now
+    requires { (kind < 2) × (r < 32) × (length px.old ≡ coded_bytes kind) }
+    ensures { (l : List ℕ) → Begins (quad_at kind l r) 144 quads.now
         → Laid kind l (9 * («partitions-of» kind / 2) * r) px.old → Laid kind l (9 * («partitions-of» kind / 2) * (r + 1)) px.new }
 {
     let w = 9 * (px_steps::partitions(kind) / 2);
@@ -151,8 +151,8 @@ fn fresh_row(kind: usize, quads: &[u16; 144], r: usize, px: &mut [u8])
 
 // The coded bits of an L1 frame at the places that they are written to, in either half of the internal matrix.
 pub fn fresh(kind: usize, coded: &[u8], px: &mut [u8])
-    requires { (kind < 2) × (length coded.now ≡ codedBytes kind) × (length px.old ≡ codedBytes kind) }
-    ensures { px.new ≡ packed (codedBytes kind) (λ i. bit_at coded.now («source_of» kind i % codedBits kind)) }
+    requires { (kind < 2) × (length coded.now ≡ coded_bytes kind) × (length px.old ≡ coded_bytes kind) }
+    ensures { px.new ≡ packed (coded_bytes kind) (λ i. bit_at coded.now («source_of» kind i % coded_bits kind)) }
 {
     let mut lanes = [0u16; 1024];
     let mut quads = [0u16; 144];

@@ -2,12 +2,12 @@
 use mathlib.Core.Path.{◌≡◌}
 use Prim.Native.Nat.{ℕ, ◌*◌, ◌/◌, ◌%◌, ◌<◌}
 use native.Mathlib.Omega.{arith}
-use Rattle.interleaving.specs.Matrix.{positionAt, position_of, partitionOf, block_of, row_of, columnOf}
+use Rattle.interleaving.specs.Matrix.{position_at, position_of, partition_of, block_of, row_of, column_of}
 use Rattle.interleaving.specs.InverseIV as Inv
 use Rattle.interleaving.specs.PX.{partitions, runs, order, cells}
 use Rattle.interleaving.specs.FinderPX.{source}
-use Rattle.interleaving.proofs.Matrix.{partitionOf-lt, blockOf-lt}
-use Rattle.interleaving.proofs.PXKinds.{Kind, kind-is, codedBytes-is}
+use Rattle.interleaving.proofs.Matrix.{partition_of-lt, block_of-lt}
+use Rattle.interleaving.proofs.PXKinds.{Kind, kind-is, coded_bytes-is}
 
 module _ (kind : ℕ) (hk : kind < 2) where
   abbrev J : ℕ
@@ -26,13 +26,13 @@ module _ (kind : ℕ) (hk : kind < 2) where
     width = omega (arith, K.J-pos)
 
     pub part-of-lt : z / 36 < J
-    unfolding partitionOf position_of positionAt
-    part-of-lt = rw z-is (partitionOf-lt J 36 c width)
+    unfolding partition_of position_of position_at
+    part-of-lt = rw z-is (partition_of-lt J 36 c width)
 
     pub block-of-lt : y / 32 < 32
-    unfolding block_of position_of positionAt
-    block-of-lt = rw y-is (blockOf-lt J 36 c width 32 (omega (arith, codedBytes-is kind hk)))
+    unfolding block_of position_of position_at
+    block-of-lt = rw y-is (block_of-lt J 36 c width 32 (omega (arith, coded_bytes-is kind hk)))
 
     pub source_is : Inv.index J M (z / 36) (Inv.count 32 36 5027 (z / 36) (y / 32) (y % 32) (z % 36)) ≡ source kind c
-    unfolding source Inv.source partitionOf block_of row_of columnOf position_of positionAt
+    unfolding source Inv.source partition_of block_of row_of column_of position_of position_at
     source_is = rw (K.plain (c % (J * 36) / 36) (rw z-is at part-of-lt), y-is, z-is)

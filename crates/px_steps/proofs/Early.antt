@@ -7,7 +7,7 @@ use native.Mathlib.Omega.{arith}
 use lib.Dec.{ltb}
 use borrow.Author.Tests.{lt-ltb, le-ltb}
 use Rattle.interleaving.specs.InverseIV as Inv
-use Rattle.interleaving.specs.PX.{partitions, runs, codedBytes, cells}
+use Rattle.interleaving.specs.PX.{partitions, runs, coded_bytes, cells}
 use Rattle.interleaving.specs.FinderPX.{source}
 use Rattle.px_steps.proofs.Cells.{source_is, part-of-lt}
 
@@ -50,7 +50,7 @@ turn-earlier : (b s : ℕ) → b < 32 → 0 < s → s ≤ b → (b + (32 - s)) %
 turn-earlier b s hb hs l = omega arith
 
 block-lt : (kind c y : ℕ) → kind < 2 → y ≡ c / (partitions kind * 36) → c < cells kind → y / 32 < 32
-unfolding partitions codedBytes
+unfolding partitions coded_bytes
 block-lt zero c y h y-is l = omega arith
 block-lt (suc zero) c y h y-is l = omega arith
 block-lt (suc (suc kind)) c y h y-is l = absurd (omega arith)

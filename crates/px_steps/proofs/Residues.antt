@@ -8,20 +8,20 @@ use native.Mathlib.Omega.{arith}
 use lib.ListN.{get_or, length, set}
 use lib.Seq.{ext_get_or, get_or-set_same, get_or-set_other}
 use Rattle.bits.specs.Bits.{byte_of, packed}
-use Rattle.bits.proofs.Packed.{length-packed, getD-packed}
-use Rattle.interleaving.specs.PX.{partitions, runs, codedBytes, codedBits}
-use Rattle.interleaving.proofs.PXKinds.{codedBytes-le}
+use Rattle.bits.proofs.Packed.{length-packed, get_or-packed}
+use Rattle.interleaving.specs.PX.{partitions, runs, coded_bytes, coded_bits}
+use Rattle.interleaving.proofs.PXKinds.{coded_bytes-le}
 
 pub in_frame : (kind t g u : ℕ) → kind < 2 → t < 16 → g < 144 * partitions kind → u < 8
-    → (144 * partitions kind * t + g < codedBytes kind) × (8 * (144 * partitions kind * t + g) + u < codedBits kind)
-unfolding partitions codedBytes
+    → (144 * partitions kind * t + g < coded_bytes kind) × (8 * (144 * partitions kind * t + g) + u < coded_bits kind)
+unfolding partitions coded_bytes
 in_frame zero t g u h ht hg hu = (omega arith, omega arith)
 in_frame (suc zero) t g u h ht hg hu = (omega arith, omega arith)
 in_frame (suc (suc kind)) t g u h ht hg hu = absurd (omega arith)
 
 -- the entries of a byte in its turn
-pub in-entries : (kind g : ℕ) → kind < 2 → g < 144 * partitions kind → (g * runs kind + runs kind ≤ 1152) × (8 * g + 8 ≤ codedBits kind)
-unfolding partitions runs codedBytes
+pub in-entries : (kind g : ℕ) → kind < 2 → g < 144 * partitions kind → (g * runs kind + runs kind ≤ 1152) × (8 * g + 8 ≤ coded_bits kind)
+unfolding partitions runs coded_bytes
 in-entries zero g h hg = (omega arith, omega arith)
 in-entries (suc zero) g h hg = (omega arith, omega arith)
 in-entries (suc (suc kind)) g h hg = absurd (omega arith)
@@ -40,7 +40,7 @@ apart-turns (suc (suc kind)) t s g hk l e = absurd (omega arith)
 
 -- the byte j, that of the turn t, is set to x
 module _ (kind g t j x : ℕ) (out : List ℕ) (hk : kind < 2) (hg : g < 144 * partitions kind) (ht : t < 16)
-    (j-is : j ≡ 144 * partitions kind * t + g) (long : length out ≡ codedBytes kind) where
+    (j-is : j ≡ 144 * partitions kind * t + g) (long : length out ≡ coded_bytes kind) where
   pub turn_more : (f : ℕ → ℕ) → ((s : ℕ) → s < t → get_or out (144 * partitions kind * s + g) 0 ≡ f (144 * partitions kind * s + g))
       → x ≡ f (144 * partitions kind * t + g)
       → (s : ℕ) → s < t + 1 → get_or (set out j x) (144 * partitions kind * s + g) 0 ≡ f (144 * partitions kind * s + g)
@@ -69,25 +69,25 @@ residue-more kind g f was out before here stay t h ht l =
       | no d ↦ let h-lt : h < g = omega arith in stay t h h-lt ∙ before t h ht h-lt
     ]
 
-split : (kind j : ℕ) → kind < 2 → j < codedBytes kind
+split : (kind j : ℕ) → kind < 2 → j < coded_bytes kind
     → (144 * partitions kind * (j / (144 * partitions kind)) + j % (144 * partitions kind) ≡ j)
     × (j / (144 * partitions kind) < 16) × (j % (144 * partitions kind) < 144 * partitions kind)
-unfolding partitions codedBytes
+unfolding partitions coded_bytes
 split zero j h l = (omega arith, omega arith, omega arith)
 split (suc zero) j h l = (omega arith, omega arith, omega arith)
 split (suc (suc kind)) j h l = absurd (omega arith)
 
 -- all of them
-pub residues-all : (kind g : ℕ) (f : ℕ → ℕ) (out : List ℕ) → kind < 2 → length out ≡ codedBytes kind → 144 * partitions kind ≤ g
+pub residues-all : (kind g : ℕ) (f : ℕ → ℕ) (out : List ℕ) → kind < 2 → length out ≡ coded_bytes kind → 144 * partitions kind ≤ g
     → ((t h : ℕ) → t < 16 → h < g → get_or out (144 * partitions kind * t + h) 0 ≡ byte_of f (144 * partitions kind * t + h))
-    → out ≡ packed (codedBytes kind) f
+    → out ≡ packed (coded_bytes kind) f
 residues-all kind g f out hk long hg all =
-    ext_get_or 0 out (packed (codedBytes kind) f) (long ∙ sym (length-packed (codedBytes kind) f))
+    ext_get_or 0 out (packed (coded_bytes kind) f) (long ∙ sym (length-packed (coded_bytes kind) f))
     (λ j l.
-    let j-lt : j < codedBytes kind = omega arith in
+    let j-lt : j < coded_bytes kind = omega arith in
     let parts = split kind j hk j-lt in
     let e = all (j / (144 * partitions kind)) (j % (144 * partitions kind)) parts.1 (omega (arith, parts.2)) in
-    (rw parts.0 at e) ∙ sym (getD-packed (codedBytes kind) f j j-lt))
+    (rw parts.0 at e) ∙ sym (get_or-packed (coded_bytes kind) f j j-lt))
 
 -- ---- the code's products fit
 
@@ -103,8 +103,8 @@ size-le (suc (suc kind)) h = absurd (omega arith)
 -- where the code stores the byte g of the block t, w the cells of a block
 
 pub stored_at : (kind w t g : ℕ) → kind < 2 → t < 16 → g < 144 * partitions kind → w ≡ 1152 * partitions kind → w ≤ 4608
-    → (w / 8 * t + g ≡ 144 * partitions kind * t + g) × (w / 8 * t + g < codedBytes kind) × (w / 8 * t ≤ 4608 * 15) × (codedBytes kind ≤ 9216)
+    → (w / 8 * t + g ≡ 144 * partitions kind * t + g) × (w / 8 * t + g < coded_bytes kind) × (w / 8 * t ≤ 4608 * 15) × (coded_bytes kind ≤ 9216)
 stored_at kind w t g hk ht hg w-is w_le =
     let size : w / 8 ≡ 144 * partitions kind = omega arith in
     let e : w / 8 * t + g ≡ 144 * partitions kind * t + g = ap (λ (v : ℕ). v * t + g) size in
-    (e, rw e (in_frame kind t g 0 hk ht hg (omega arith)).0, turn-le (w / 8) t (omega arith) ht, codedBytes-le kind hk)
+    (e, rw e (in_frame kind t g 0 hk ht hg (omega arith)).0, turn-le (w / 8) t (omega arith) ht, coded_bytes-le kind hk)

@@ -1,7 +1,7 @@
 // The steps of the PX interleaving process (section 10.4.2) and the cells that they write: the tables, and Interleaver IV turned round.
 ghost use Rattle.std.specs.Prelude.{◌≡◌, ltb, get_or, ◌+◌, ◌-◌, ◌*◌, ◌/◌, ◌%◌, ◌<◌, ◌≤◌};
 ghost use Rattle.interleaving.specs.InverseIV.{missed as «missed-of», count, index};
-ghost use Rattle.interleaving.specs.PX.{partitions as «partitions-of», runs as «runs_of», order as «order-of», codedBytes, codedBits, cells};
+ghost use Rattle.interleaving.specs.PX.{partitions as «partitions-of», runs as «runs_of», order as «order-of», coded_bytes, coded_bits, cells};
 ghost use Rattle.interleaving.specs.PX.{blocks as «blocks-of», columns as «columns_of», step_of};
 ghost use Rattle.interleaving.specs.FinderPX.{source as «source_of»};
 
@@ -78,7 +78,7 @@ pub fn runs(kind: usize) -> usize
 // The bytes of an L1 frame's coded bits.
 fn coded_bytes(kind: usize) -> usize
     requires { kind < 2 }
-    ensures { (result ≡ codedBytes kind) × (result ≤ 9216) }
+    ensures { (result ≡ coded_bytes kind) × (result ≤ 9216) }
 {
     if kind == 0 {
         return BYTES[0];
@@ -89,7 +89,7 @@ fn coded_bytes(kind: usize) -> usize
 // The coded bits.
 pub fn coded_bits(kind: usize) -> usize
     requires { kind < 2 }
-    ensures { (result ≡ codedBits kind) × (result ≤ 73728) }
+    ensures { (result ≡ coded_bits kind) × (result ≤ 73728) }
 {
     8 * coded_bytes(kind)
 }
@@ -138,7 +138,7 @@ pub fn source(kind: usize, c: usize) -> usize
 
 // The step of the bit j of an L1 frame.
 pub fn step_of(kind: usize, half: usize, j: usize) -> usize
-    requires { (kind < 2) × (half < 2) × (j < codedBits kind) }
+    requires { (kind < 2) × (half < 2) × (j < coded_bits kind) }
     ensures { (result ≡ step_of kind half j) × (result < cells kind) }
 {
     half * coded_bits(kind) + j
@@ -146,8 +146,8 @@ pub fn step_of(kind: usize, half: usize, j: usize) -> usize
 
 // The byte j of an L1 frame, counted through the two L1 frames of the internal matrix.
 pub fn byte_of(kind: usize, half: usize, j: usize) -> usize
-    requires { (kind < 2) × (half < 2) × (j < codedBytes kind) }
-    ensures { (result ≡ half * codedBytes kind + j) × (result < 2 * codedBytes kind) }
+    requires { (kind < 2) × (half < 2) × (j < coded_bytes kind) }
+    ensures { (result ≡ half * coded_bytes kind + j) × (result < 2 * coded_bytes kind) }
 {
     half * coded_bytes(kind) + j
 }

@@ -10,11 +10,11 @@ use native.Mathlib.Omega.{arith}
 use borrow.Author.Tests.{eq-eqb, ne_eqb, eqb-true}
 use lib.Dec.{eqb}
 use lib.ListN.{length}
-use Rattle.control.specs.Control.{controlOf}
+use Rattle.control.specs.Control.{control_of}
 use Rattle.control.specs.Departs.{number_in, strays}
 use Rattle.control.specs.Modes.{covered}
 use Rattle.control.proofs.Sent.{control-length}
-use Rattle.blockset.specs.LookupFrame.{lookedUpFrame}
+use Rattle.blockset.specs.LookupFrame.{looked_up_frame}
 use Rattle.blockset.specs.declared.LookedFrame.{LookedFrame}
 use Rattle.blockset.specs.declared.LookedFrame.TheVariants.{Of, Faulty, Unfit}
 use Rattle.blockset.proofs.Mixed.{mixed, modes-mixed, numbers-mixed}
@@ -22,39 +22,39 @@ use Rattle.blockset.proofs.Sets.{control-accepted, reading-accepted, accepted-co
 use Rattle.runs.specs.declared.Answer.{Answer}
 use Rattle.runs.specs.declared.Answer.TheVariants.{Success, StateNotValid, WrongLength, WrongControl}
 use Rattle.runs.specs.declared.State.{State}
-use Rattle.runs.specs.Lengths.{readerLen, senderLen}
-use Rattle.runs.specs.Answers.{number_of, onSuccess}
+use Rattle.runs.specs.Lengths.{reader_len, sender_len}
+use Rattle.runs.specs.Answers.{number_of, on_success}
 use Rattle.runs.specs.Causes.{at, judge, when, wrong}
-use Rattle.runs.specs.Lent.{Lent, Memory, Result, filled, meant, signalOf}
-use Rattle.runs.specs.Starting.{memorySizes, valid}
-use Rattle.runs.specs.Sending.{lentSizes, refused, sendAnswer, sendStep, sent}
-use Rattle.runs.specs.Reading.{readAnswer, read_step, received, unnumbered}
+use Rattle.runs.specs.Lent.{Lent, Memory, Result, filled, meant, signal_of}
+use Rattle.runs.specs.Starting.{memory_sizes, valid}
+use Rattle.runs.specs.Sending.{lent_sizes, refused, send_answer, send_step, sent}
+use Rattle.runs.specs.Reading.{read_answer, read_step, received, unnumbered}
 use Rattle.runs.proofs.Answered.{not-success, success-is}
 use Rattle.runs.proofs.Refusals.{first-clear}
-use Rattle.calls.specs.Admitted.{firstCause}
+use Rattle.calls.specs.Admitted.{first_cause}
 use Rattle.calls.proofs.Admitted.{clear, fits, valid-says}
 use Rattle.queries.specs.declared.blocks.LookedUpFrame.TheVariants.{Found, Refused}
-use Rattle.queries.specs.LookupFrame.{lookupFrameOf, told, values, Values}
+use Rattle.queries.specs.LookupFrame.{lookup_frame_of, told, values, Values}
 
-pub other_length : (control : List ℕ) → (length control ≡ 4096 → ⊥) → lookupFrameOf control ≡ Refused (WrongLength 0)
-unfolding lookupFrameOf
+pub other_length : (control : List ℕ) → (length control ≡ 4096 → ⊥) → lookup_frame_of control ≡ Refused (WrongLength 0)
+unfolding lookup_frame_of
 other_length control h = rw (ne_eqb (length control) 4096 h)
 
-pub of_blocks : (control : List ℕ) → length control ≡ 4096 → lookupFrameOf control ≡ told (lookedUpFrame control)
-unfolding lookupFrameOf
+pub of_blocks : (control : List ℕ) → length control ≡ 4096 → lookup_frame_of control ≡ told (looked_up_frame control)
+unfolding lookup_frame_of
 of_blocks control h = rw (eq-eqb (length control) 4096 h)
 
 -- ---- accepted
 
 -- The control of a covered mode and a number 0 to 7 is accepted with them.
-pub accepts : (m z : ℕ) → covered m ≡ true → z < 8 → lookupFrameOf (controlOf m z) ≡ Found m z
-accepts m z cov hz = of_blocks (controlOf m z) (control-length m z) ∙ ap told (control-accepted m z cov hz)
+pub accepts : (m z : ℕ) → covered m ≡ true → z < 8 → lookup_frame_of (control_of m z) ≡ Found m z
+accepts m z cov hz = of_blocks (control_of m z) (control-length m z) ∙ ap told (control-accepted m z cov hz)
 
 -- What is accepted is the control of the mode and the number that are given.
 pub record Accepted (control : List ℕ) (m z : ℕ) : Type 0 where
   pub is-covered : covered m ≡ true
   pub number-low : z < 8
-  pub is : control ≡ controlOf m z
+  pub is : control ≡ control_of m z
 
 found-cases : (t : Bool) (x : LookedFrame) (m z : ℕ) → cond t (told x) (Refused (WrongLength 0)) ≡ Found m z → (t ≡ true) × (x ≡ Of m z)
 found-cases false x m z e = let z : ◌≡◌ {A = ℕ} 0 1 = cc in absurd (omega arith)
@@ -62,10 +62,10 @@ found-cases true (Of m' z') m z e = let a : m' ≡ m = cc in let b : z' ≡ z = 
 found-cases true (Faulty block) m z e = let z : ◌≡◌ {A = ℕ} 0 1 = cc in absurd (omega arith)
 found-cases true (Unfit block) m z e = let z : ◌≡◌ {A = ℕ} 0 1 = cc in absurd (omega arith)
 
-pub accepted : (control : List ℕ) (m z : ℕ) → lookupFrameOf control ≡ Found m z → Accepted control m z
-unfolding lookupFrameOf
+pub accepted : (control : List ℕ) (m z : ℕ) → lookup_frame_of control ≡ Found m z → Accepted control m z
+unfolding lookup_frame_of
 accepted control m z e =
-    let f = found-cases (eqb (length control) 4096) (lookedUpFrame control) m z e in
+    let f = found-cases (eqb (length control) 4096) (looked_up_frame control) m z e in
     record {
       is-covered = accepted-covered control m z f.1;
       number-low = accepted-number control m z f.1;
@@ -74,18 +74,18 @@ accepted control m z e =
 
 -- ---- in a run
 
-on-success : (done refused : Result) → onSuccess Success done refused ≡ done
-unfolding onSuccess
+on-success : (done refused : Result) → on_success Success done refused ≡ done
+unfolding on_success
 on-success done refused = refl
 
 -- a call that is answered by 0 did what it does
-done-is : (a : Answer) (done refused : Result) → refused.answer ≡ a → number_of (onSuccess a done refused).answer ≡ 0
-    → (a ≡ Success) × (onSuccess a done refused ≡ done)
+done-is : (a : Answer) (done refused : Result) → refused.answer ≡ a → number_of (on_success a done refused).answer ≡ 0
+    → (a ≡ Success) × (on_success a done refused ≡ done)
 done-is a done refused r e =
     elim (ℕ_discrete (number_of a) 0) [
-      | yes z ↦ let s = success-is a z in (s, ap (λ (x : Answer). onSuccess x done refused) s ∙ on-success done refused)
+      | yes z ↦ let s = success-is a z in (s, ap (λ (x : Answer). on_success x done refused) s ∙ on-success done refused)
       | no n ↦
-          let d : onSuccess a done refused ≡ refused = not-success a done refused (λ q. n (ap number_of q)) in
+          let d : on_success a done refused ≡ refused = not-success a done refused (λ q. n (ap number_of q)) in
           absurd (n (sym (ap (λ (x : Result). number_of x.answer) d ∙ ap number_of r) ∙ e))
     ]
 
@@ -100,18 +100,18 @@ clear-to-4 true (some k) p rest h = absurd (h.1 refl)
 clear-to-4 false o p rest h = absurd (h.0 refl)
 
 module _ (s : State) (m : Memory) (l : Lent) where
-  send-clear : number_of (sendAnswer s m l) ≡ 0 → (covered s.mode ≡ true) × (l.frames.reserved < 8)
-  unfolding sendAnswer firstCause
-  send-clear e = let c = clear s l.frames.reserved (wrong 0 (lentSizes s.mode (meant s.mode l) ++ memorySizes senderLen s.mode m)) e in ((valid-says s c.0).0, c.1)
+  send-clear : number_of (send_answer s m l) ≡ 0 → (covered s.mode ≡ true) × (l.frames.reserved < 8)
+  unfolding send_answer first_cause
+  send-clear e = let c = clear s l.frames.reserved (wrong 0 (lent_sizes s.mode (meant s.mode l) ++ memory_sizes sender_len s.mode m)) e in ((valid-says s c.0).0, c.1)
 
   -- The control of every sending is accepted, with the mode and the number that were sent.
-  pub accepts-sent : number_of (sendStep s m l).answer ≡ 0
-      → lookupFrameOf (sendStep s m l).lent.signal.control ≡ Found s.mode l.frames.reserved
-  unfolding sendStep sent signalOf filled
+  pub accepts-sent : number_of (send_step s m l).answer ≡ 0
+      → lookup_frame_of (send_step s m l).lent.signal.control ≡ Found s.mode l.frames.reserved
+  unfolding send_step sent signal_of filled
   accepts-sent e =
-      let d = done-is (sendAnswer s m l) (sent s m l) (refused s m l (sendAnswer s m l)) refl e in
+      let d = done-is (send_answer s m l) (sent s m l) (refused s m l (send_answer s m l)) refl e in
       let c = send-clear (ap number_of d.0) in
-      ap (λ (r : Result). lookupFrameOf r.lent.signal.control) d.1 ∙ accepts s.mode l.frames.reserved c.0 c.1
+      ap (λ (r : Result). lookup_frame_of r.lent.signal.control) d.1 ∙ accepts s.mode l.frames.reserved c.0 c.1
 
   abbrev control : List ℕ
   control = l.signal.control
@@ -120,39 +120,39 @@ module _ (s : State) (m : Memory) (l : Lent) where
   past a e = ((λ d. omega arith), (λ d. omega arith), (λ d. omega arith))
 
   -- What a reading accepts under 4 is accepted with its mode, whatever later cause it meets.
-  pub accepts-read : (number_of (readAnswer s m l) ≢ 2) × (number_of (readAnswer s m l) ≢ 3) × (number_of (readAnswer s m l) ≢ 4)
-      → lookupFrameOf control ≡ Found s.mode (number_in s.mode control)
-  unfolding readAnswer lentSizes
+  pub accepts-read : (number_of (read_answer s m l) ≢ 2) × (number_of (read_answer s m l) ≢ 3) × (number_of (read_answer s m l) ≢ 4)
+      → lookup_frame_of control ≡ Found s.mode (number_in s.mode control)
+  unfolding read_answer lent_sizes
   accepts-read h =
       let c = clear-to-4 (valid s) _ _ _ h in
-      let f = fits readerLen s m (unnumbered l) c.0 (omega arith) c.1 in
+      let f = fits reader_len s m (unnumbered l) c.0 (omega arith) c.1 in
       of_blocks control f.control
       ∙ ap told (reading-accepted s.mode control (valid-says s c.0).0 (first-clear 16 (strays s.mode control) c.2))
 
   -- A reading that succeeds returns the number that is given.
   pub accepts-returned : number_of (read_step s m l).answer ≡ 0
-      → lookupFrameOf control ≡ Found s.mode (read_step s m l).lent.frames.reserved
+      → lookup_frame_of control ≡ Found s.mode (read_step s m l).lent.frames.reserved
   unfolding read_step received
   accepts-returned e =
-      let d = done-is (readAnswer s m l) (received s m l) (refused s m (unnumbered l) (readAnswer s m l)) refl e in
-      accepts-read (past (readAnswer s m l) (ap number_of d.0))
+      let d = done-is (read_answer s m l) (received s m l) (refused s m (unnumbered l) (read_answer s m l)) refl e in
+      accepts-read (past (read_answer s m l) (ap number_of d.0))
       ∙ ap (λ (r : Result). Found s.mode r.lent.frames.reserved) (sym d.1)
 
 -- ---- refused
 
 -- refused with this number and place, the lookup gives mode and number 0
-abbrev noFrame : (number place : ℕ) → Values
-noFrame number place = record { number = number; place = place; mode = 0; reserved = 0 }
+abbrev no_frame : (number place : ℕ) → Values
+no_frame number place = record { number = number; place = place; mode = 0; reserved = 0 }
 
-pub of-another-length : (control : List ℕ) → (length control ≡ 4096 → ⊥) → values (lookupFrameOf control) ≡ noFrame 3 0
+pub of-another-length : (control : List ℕ) → (length control ≡ 4096 → ⊥) → values (lookup_frame_of control) ≡ no_frame 3 0
 of-another-length control h = ap values (other_length control h)
 
-unfit-block : (control : List ℕ) (c : ℕ) → length control ≡ 4096 → lookedUpFrame control ≡ Unfit c → values (lookupFrameOf control) ≡ noFrame 13 c
+unfit-block : (control : List ℕ) (c : ℕ) → length control ≡ 4096 → looked_up_frame control ≡ Unfit c → values (lookup_frame_of control) ≡ no_frame 13 c
 unfit-block control c l e = ap values (of_blocks control l ∙ ap told e)
 
 -- Blocks that pass one by one and not as a set: block 0 of MP1 before the others of MP3, and block 0 of number 1 before the others of number 0.
-pub modes-mixed-refused : values (lookupFrameOf (mixed 1 0 3 0)) ≡ noFrame 13 1
+pub modes-mixed-refused : values (lookup_frame_of (mixed 1 0 3 0)) ≡ no_frame 13 1
 modes-mixed-refused = unfit-block (mixed 1 0 3 0) 1 modes-mixed.long modes-mixed.refused
 
-pub numbers-mixed-refused : values (lookupFrameOf (mixed 3 1 3 0)) ≡ noFrame 13 1
+pub numbers-mixed-refused : values (lookup_frame_of (mixed 3 1 3 0)) ≡ no_frame 13 1
 numbers-mixed-refused = unfit-block (mixed 3 1 3 0) 1 numbers-mixed.long numbers-mixed.refused

@@ -5,7 +5,7 @@ use native.Mathlib.Decide.{dec_lt}
 use native.Mathlib.Omega.{arith}
 use borrow.Author.Tests.{lt-ltb, le-ltb}
 use Rattle.interleaving.specs.declared.Position.{Position}
-use Rattle.interleaving.specs.Matrix.{Inside, positionAt}
+use Rattle.interleaving.specs.Matrix.{Inside, position_at}
 use Rattle.interleaving.specs.FinderPM.{source}
 use Rattle.interleaving.proofs.PositionsPM.{positions-pm}
 use Rattle.runs.specs.declared.Answer.{Answer}
@@ -25,7 +25,7 @@ module _ (row column : ℕ) where
   unfolding placed
   column-out h l = rw (lt-ltb row 512 h, le-ltb column 720 l)
 
-  pub within : row < 512 → column < 720 → At (positionAt 36 row column) ≡ placed row column
+  pub within : row < 512 → column < 720 → At (position_at 36 row column) ≡ placed row column
   unfolding placed
   within h l = rw (lt-ltb row 512 h, lt-ltb column 720 l)
 
@@ -36,7 +36,7 @@ module _ (row column : ℕ) where
       go : Dec (row < 512) → Dec (column < 720) → Inside 20 16 36 p
       go (yes h) (yes l) =
           let i = within h l in
-          let same : positionAt 36 row column ≡ p = cc in
+          let same : position_at 36 row column ≡ p = cc in
           subst (Inside 20 16 36) same (positions-pm.inside row column h l)
       go (yes h) (no l) =
           let i = column-out h (omega arith) in
@@ -51,7 +51,7 @@ module _ (row column : ℕ) where
   unfolding found
   found-at r e = ap found_at e
 
-  pub found_within : row < 512 → column < 720 → found row column ≡ told (source (positionAt 36 row column))
+  pub found_within : row < 512 → column < 720 → found row column ≡ told (source (position_at 36 row column))
   found_within h l = sym (found-at _ (within h l))
 
   pub found-row-out : 512 ≤ row → found row column ≡ NoCell (WrongLength 0)

@@ -13,12 +13,12 @@ use Rattle.control.specs.Departs.{block_at}
 use Rattle.control.specs.declared.Looked.{Looked}
 use Rattle.control.specs.declared.Looked.TheVariants.{Found as block_of}
 use Rattle.blockset.specs.declared.LookedFrame.TheVariants.{Of, Faulty, Unfit}
-use Rattle.blockset.specs.LookupFrame.{no_block, fitting, named, says, faulty, unfit, lookedUpFrame}
+use Rattle.blockset.specs.LookupFrame.{no_block, fitting, named, says, faulty, unfit, looked_up_frame}
 use Rattle.runs.specs.declared.Answer.TheVariants.{WrongLength, WrongControl, MixedControl}
 use Rattle.queries.specs.declared.blocks.LookedUp.TheVariants.{Found as Block, Refused as NoBlock}
 use Rattle.queries.specs.declared.blocks.LookedUpFrame.TheVariants.{Found, Refused}
 use Rattle.queries.specs.Lookup as single
-use Rattle.queries.specs.LookupFrame.{lookupFrameOf, told, values}
+use Rattle.queries.specs.LookupFrame.{lookup_frame_of, told, values}
 use Rattle.queries.specs.OneByOne.{alone, Passes, InOrder, FirstFaulty, FirstUnfit, OneByOne}
 use Rattle.queries.proofs.CasesSet.{told-block, told_none, none_told, block-told, fits-is, is-fits, known, bad-cases, odd-cases, of-cases, answer-length, answer-of, answer-4, answer-13}
 use Rattle.queries.proofs.Framed.{other_length, of_blocks}
@@ -32,7 +32,7 @@ module _ (control : List ℕ) (l : length control ≡ 4096) where
 
   -- a block alone is looked up as it says
   alone-is : (c : ℕ) → c < 16 → alone control c ≡ single.told (says control c)
-  unfolding single.lookupOf says
+  unfolding single.lookup_of says
   alone-is c h = rw (eq-eqb (length (block_at control c)) 256 (block-long c h))
 
   says_is : (c m n z : ℕ) → c < 16 → alone control c ≡ Block m n z → says control c ≡ block_of m n z
@@ -79,8 +79,8 @@ module _ (control : List ℕ) (l : length control ≡ 4096) where
   unfolding faulty
   first_good e = lowest-below 16 (faulty control) 0 (omega (arith, ltb-false bad 16 e))
 
-  faulty-first : (c : ℕ) → lookedUpFrame control ≡ Faulty c → FirstFaulty control c
-  unfolding lookedUpFrame
+  faulty-first : (c : ℕ) → looked_up_frame control ≡ Faulty c → FirstFaulty control c
+  unfolding looked_up_frame
   faulty-first c e =
       let q = bad-cases (ltb bad 16) (ltb odd 16) bad odd c (says control 0) first_good e in
       let h : bad < 16 = ltb-true bad 16 q.0 in
@@ -92,13 +92,13 @@ module _ (control : List ℕ) (l : length control ≡ 4096) where
         below = λ k j. good-passes k (omega arith) (lowest-below 16 (faulty control) k (omega (arith, q.1)));
       }
 
-  first-faulty : (c : ℕ) → FirstFaulty control c → lookedUpFrame control ≡ Faulty c
-  unfolding lookedUpFrame
+  first-faulty : (c : ℕ) → FirstFaulty control c → looked_up_frame control ≡ Faulty c
+  unfolding looked_up_frame
   first-faulty c f =
       rw (lowest-at 16 c (faulty control) f.inside (λ k j. passes-good k (omega (arith, f.inside)) (f.below k j)) (faulty-bad c f.inside f.faulty), lt-ltb c 16 f.inside)
 
-  unfit-first : (c : ℕ) → lookedUpFrame control ≡ Unfit c → FirstUnfit control c
-  unfolding lookedUpFrame
+  unfit-first : (c : ℕ) → looked_up_frame control ≡ Unfit c → FirstUnfit control c
+  unfolding looked_up_frame
   unfit-first c e =
       let q = odd-cases (ltb bad 16) (ltb odd 16) bad odd c (says control 0) e in
       let none : 16 ≤ bad = ltb-false bad 16 q.0 in
@@ -123,8 +123,8 @@ module _ (control : List ℕ) (l : length control ≡ 4096) where
             omega arith;
       }
 
-  first-unfit : (c : ℕ) → FirstUnfit control c → lookedUpFrame control ≡ Unfit c
-  unfolding lookedUpFrame
+  first-unfit : (c : ℕ) → FirstUnfit control c → looked_up_frame control ≡ Unfit c
+  unfolding looked_up_frame
   first-unfit c f =
       let first = says_is 0 f.mode f.count f.reserved (omega arith) f.first in
       rw (
@@ -134,8 +134,8 @@ module _ (control : List ℕ) (l : length control ≡ 4096) where
         lt-ltb c 16 f.inside,
       )
 
-  of-in-order : (m z : ℕ) → lookedUpFrame control ≡ Of m z → InOrder control m z
-  unfolding lookedUpFrame
+  of-in-order : (m z : ℕ) → looked_up_frame control ≡ Of m z → InOrder control m z
+  unfolding looked_up_frame
   of-in-order m z e =
       let q = of-cases (ltb bad 16) (ltb odd 16) bad odd m z (says control 0) e in
       record {
@@ -143,8 +143,8 @@ module _ (control : List ℕ) (l : length control ≡ 4096) where
         each = λ c h. fit_is m q.1.0 z q.1.1 c h (lowest-below 16 (unfit control) c (omega (arith, ltb-false odd 16 q.0)));
       }
 
-  in-order-of : (m z : ℕ) → InOrder control m z → lookedUpFrame control ≡ Of m z
-  unfolding lookedUpFrame
+  in-order-of : (m z : ℕ) → InOrder control m z → looked_up_frame control ≡ Of m z
+  unfolding looked_up_frame
   in-order-of m z o =
       let first = says_is 0 m 0 z (omega arith) (o.each 0 (omega arith)) in
       rw (
@@ -159,25 +159,25 @@ module _ (control : List ℕ) where
   abbrev long : Bool
   long = eqb (length control) 4096
 
-  is-other : lookupFrameOf control ≡ Refused (WrongLength 0) → length control ≡ 4096 → ⊥
-  unfolding lookupFrameOf
+  is-other : lookup_frame_of control ≡ Refused (WrongLength 0) → length control ≡ 4096 → ⊥
+  unfolding lookup_frame_of
   is-other e l =
-      let a : long ≡ false = answer-length long (lookedUpFrame control) e in
+      let a : long ≡ false = answer-length long (looked_up_frame control) e in
       let b : long ≡ true = eq-eqb (length control) 4096 l in
       let q : ◌≡◌ {A = ℕ} 0 1 = cc in
       omega arith
 
-  is-of : (m z : ℕ) → lookupFrameOf control ≡ Found m z → InOrder control m z
-  unfolding lookupFrameOf
-  is-of m z e = let q = answer-of long (lookedUpFrame control) m z e in of-in-order control (eqb-true (length control) 4096 q.0) m z q.1
+  is-of : (m z : ℕ) → lookup_frame_of control ≡ Found m z → InOrder control m z
+  unfolding lookup_frame_of
+  is-of m z e = let q = answer-of long (looked_up_frame control) m z e in of-in-order control (eqb-true (length control) 4096 q.0) m z q.1
 
-  is-4 : (c : ℕ) → lookupFrameOf control ≡ Refused (WrongControl c) → FirstFaulty control c
-  unfolding lookupFrameOf
-  is-4 c e = let q = answer-4 long (lookedUpFrame control) c e in faulty-first control (eqb-true (length control) 4096 q.0) c q.1
+  is-4 : (c : ℕ) → lookup_frame_of control ≡ Refused (WrongControl c) → FirstFaulty control c
+  unfolding lookup_frame_of
+  is-4 c e = let q = answer-4 long (looked_up_frame control) c e in faulty-first control (eqb-true (length control) 4096 q.0) c q.1
 
-  is-13 : (c : ℕ) → lookupFrameOf control ≡ Refused (MixedControl c) → FirstUnfit control c
-  unfolding lookupFrameOf
-  is-13 c e = let q = answer-13 long (lookedUpFrame control) c e in unfit-first control (eqb-true (length control) 4096 q.0) c q.1
+  is-13 : (c : ℕ) → lookup_frame_of control ≡ Refused (MixedControl c) → FirstUnfit control c
+  unfolding lookup_frame_of
+  is-13 c e = let q = answer-13 long (looked_up_frame control) c e in unfit-first control (eqb-true (length control) 4096 q.0) c q.1
 
   pub one_by_one : OneByOne control
   one_by_one =
@@ -190,8 +190,8 @@ module _ (control : List ℕ) where
 
 -- refused with this number and place, the lookup gives mode and number 0
 module _ (control : List ℕ) (c : ℕ) where
-  pub of-a-faulty-block : FirstFaulty control c → values (lookupFrameOf control) ≡ record { number = 4; place = c; mode = 0; reserved = 0 }
+  pub of-a-faulty-block : FirstFaulty control c → values (lookup_frame_of control) ≡ record { number = 4; place = c; mode = 0; reserved = 0 }
   of-a-faulty-block f = ap values (((one_by_one control).refused-4 c).1 f)
 
-  pub of-an-unfit-block : FirstUnfit control c → values (lookupFrameOf control) ≡ record { number = 13; place = c; mode = 0; reserved = 0 }
+  pub of-an-unfit-block : FirstUnfit control c → values (lookup_frame_of control) ≡ record { number = 13; place = c; mode = 0; reserved = 0 }
   of-an-unfit-block f = ap values (((one_by_one control).refused-13 c).1 f)

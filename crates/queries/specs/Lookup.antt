@@ -2,7 +2,7 @@
 use Rattle.std.specs.Prelude.{ℕ, cond, List, eqb, length}
 use Rattle.control.specs.declared.Looked.{Looked}
 use Rattle.control.specs.declared.Looked.TheVariants.{Found as block_of, NotABlock}
-use Rattle.control.specs.Lookup.{lookedUp}
+use Rattle.control.specs.Lookup.{looked_up}
 use Rattle.runs.specs.declared.Answer.TheVariants.{WrongLength, WrongControl}
 use Rattle.runs.specs.Answers.{number_of, place_of}
 use Rattle.queries.specs.declared.blocks.LookedUp.{LookedUp}
@@ -12,8 +12,8 @@ abbrev pub told : Looked → LookedUp
 told (block_of mode count reserved) = Found mode count reserved
 told NotABlock = Refused (WrongControl 0)
 
-unfoldable pub lookupOf : List ℕ → LookedUp
-lookupOf block = cond (eqb (length block) 256) (told (lookedUp block)) (Refused (WrongLength 0))
+unfoldable pub lookup_of : List ℕ → LookedUp
+lookup_of block = cond (eqb (length block) 256) (told (looked_up block)) (Refused (WrongLength 0))
 
 -- the values for each case: number and place of the table of causes, mode, count and reserved number
 pub record Values : Type 0 where

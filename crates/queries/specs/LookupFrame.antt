@@ -2,7 +2,7 @@
 use Rattle.std.specs.Prelude.{ℕ, cond, List, eqb, length}
 use Rattle.blockset.specs.declared.LookedFrame.{LookedFrame}
 use Rattle.blockset.specs.declared.LookedFrame.TheVariants.{Of, Faulty, Unfit}
-use Rattle.blockset.specs.LookupFrame.{lookedUpFrame}
+use Rattle.blockset.specs.LookupFrame.{looked_up_frame}
 use Rattle.runs.specs.declared.Answer.TheVariants.{WrongLength, WrongControl, MixedControl}
 use Rattle.runs.specs.Answers.{number_of, place_of}
 use Rattle.queries.specs.declared.blocks.LookedUpFrame.{LookedUpFrame}
@@ -14,8 +14,8 @@ told (Of mode reserved) = Found mode reserved
 told (Faulty block) = Refused (WrongControl block)
 told (Unfit block) = Refused (MixedControl block)
 
-unfoldable pub lookupFrameOf : List ℕ → LookedUpFrame
-lookupFrameOf control = cond (eqb (length control) 4096) (told (lookedUpFrame control)) (Refused (WrongLength 0))
+unfoldable pub lookup_frame_of : List ℕ → LookedUpFrame
+lookup_frame_of control = cond (eqb (length control) 4096) (told (looked_up_frame control)) (Refused (WrongLength 0))
 
 -- the values for each case: number and place of the table of causes, mode and reserved number
 pub record Values : Type 0 where

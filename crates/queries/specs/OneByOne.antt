@@ -5,12 +5,12 @@ use Rattle.runs.specs.declared.Answer.TheVariants.{WrongLength, WrongControl, Mi
 use Rattle.queries.specs.declared.blocks.LookedUp.{LookedUp}
 use Rattle.queries.specs.declared.blocks.LookedUp.TheVariants.{Found as Block, Refused as NoBlock}
 use Rattle.queries.specs.declared.blocks.LookedUpFrame.TheVariants.{Found, Refused}
-use Rattle.queries.specs.Lookup.{lookupOf}
-use Rattle.queries.specs.LookupFrame.{lookupFrameOf}
+use Rattle.queries.specs.Lookup.{lookup_of}
+use Rattle.queries.specs.LookupFrame.{lookup_frame_of}
 
 -- what block c of the control of an L1 frame is looked up as by itself
 abbrev pub alone : List ℕ → ℕ → LookedUp
-alone control c = lookupOf (block_at control c)
+alone control c = lookup_of (block_at control c)
 
 -- it is not faulty by itself: some mode, count and reserved number are found
 abbrev pub Passes : List ℕ → ℕ → Type 0
@@ -42,7 +42,7 @@ pub record FirstUnfit (control : List ℕ) (c : ℕ) : Type 0 where
 
 -- the four outcomes, each exactly when: another length is 3, place 0
 pub record OneByOne (control : List ℕ) : Type 0 where
-  pub other_length : (lookupFrameOf control ≡ Refused (WrongLength 0)) ↔ (length control ≡ 4096 → ⊥)
-  pub accepted : (mode reserved : ℕ) → (lookupFrameOf control ≡ Found mode reserved) ↔ InOrder control mode reserved
-  pub refused-4 : (c : ℕ) → (lookupFrameOf control ≡ Refused (WrongControl c)) ↔ FirstFaulty control c
-  pub refused-13 : (c : ℕ) → (lookupFrameOf control ≡ Refused (MixedControl c)) ↔ FirstUnfit control c
+  pub other_length : (lookup_frame_of control ≡ Refused (WrongLength 0)) ↔ (length control ≡ 4096 → ⊥)
+  pub accepted : (mode reserved : ℕ) → (lookup_frame_of control ≡ Found mode reserved) ↔ InOrder control mode reserved
+  pub refused-4 : (c : ℕ) → (lookup_frame_of control ≡ Refused (WrongControl c)) ↔ FirstFaulty control c
+  pub refused-13 : (c : ℕ) → (lookup_frame_of control ≡ Refused (MixedControl c)) ↔ FirstUnfit control c

@@ -2,7 +2,7 @@
 -- (docs/DECISIONS.md D51).
 use Rattle.std.specs.Prelude.{ℕ, cond, ltb}
 use Rattle.interleaving.specs.declared.Position.{Position}
-use Rattle.interleaving.specs.Matrix.{positionAt}
+use Rattle.interleaving.specs.Matrix.{position_at}
 use Rattle.runs.specs.declared.Answer.TheVariants.{WrongLength}
 use Rattle.runs.specs.Answers.{number_of, place_of}
 use Rattle.queries.specs.declared.places.Placed.{Placed}
@@ -10,7 +10,7 @@ use Rattle.queries.specs.declared.places.Placed.TheVariants.{At, Refused}
 
 -- a row above 511 is refused at place 0, a column above 719 at place 1
 unfoldable pub placed : (row column : ℕ) → Placed
-placed row column = cond (ltb row 512) (cond (ltb column 720) (At (positionAt 36 row column)) (Refused (WrongLength 1))) (Refused (WrongLength 0))
+placed row column = cond (ltb row 512) (cond (ltb column 720) (At (position_at 36 row column)) (Refused (WrongLength 1))) (Refused (WrongLength 0))
 
 -- number and place of the table of causes, and the position
 pub record Values : Type 0 where

@@ -3,40 +3,40 @@ use Rattle.std.specs.Prelude.{ℕ, ◌+◌, ◌-◌, ◌*◌, ◌≤◌, ◌<◌
 use Rattle.bits.specs.Bits.{bit_at}
 use Rattle.coding.specs.declared.Rate.TheVariants.{TwoFifths}
 use Rattle.coding.specs.Channel.{channel}
-use Rattle.interleaving.specs.Matrix.{positionAt}
+use Rattle.interleaving.specs.Matrix.{position_at}
 use Rattle.runs.specs.declared.Extended.{Extended}
 use Rattle.runs.specs.declared.Extended.TheVariants.{P3, P4}
 use Rattle.runs.specs.Lengths.{kind_of}
-use Rattle.runs.specs.Chain.{bitIn, codedOf}
-use Rattle.runs.specs.Lent.{frame_of, matrixOf}
-use Rattle.runs.specs.Starting.{stateAt}
-use Rattle.runs.specs.Runs.{SenderRun, frame_at, matricesAt}
+use Rattle.runs.specs.Chain.{bit_in, coded_of}
+use Rattle.runs.specs.Lent.{frame_of, matrix_of}
+use Rattle.runs.specs.Starting.{state_at}
+use Rattle.runs.specs.Runs.{SenderRun, frame_at, matrices_at}
 use Rattle.queries.specs.declared.finder.Found.TheVariants.{P1, Pids}
 use Rattle.queries.specs.declared.finder_px.FoundPx.TheVariants.{Coded, Fill}
 use Rattle.queries.specs.Finder.{found}
-use Rattle.queries.specs.FinderPX.{foundPX, cell_of, frameCoded}
+use Rattle.queries.specs.FinderPX.{found_px, cell_of, frame_coded}
 
-abbrev pub channelNumber : Extended → ℕ
-channelNumber P3 = 3
-channelNumber P4 = 4
+abbrev pub channel_number : Extended → ℕ
+channel_number P3 = 3
+channel_number P4 = 4
 
--- L1 frame t of the run a in MP1, MP2, MP3 or MP11, whose sending was handed the state `stateAt mode z t`: z is the number sent last, and makes no difference
+-- L1 frame t of the run a in MP1, MP2, MP3 or MP11, whose sending was handed the state `state_at mode z t`: z is the number sent last, and makes no difference
 pub record Sheet (mode : ℕ) (a : SenderRun mode) (t : ℕ) : Type 0 where
   -- S-3: the coded bit that the finder names for a row and a column stands at their position
   pub p1-position : (row column bit : ℕ) → found row column ≡ P1 bit
-      → bitIn (matricesAt mode a t).pm (positionAt 36 row column) ≡ channel TwoFifths 146176 (bit_at (frame_at mode a t).p1) bit
+      → bit_in (matrices_at mode a t).pm (position_at 36 row column) ≡ channel TwoFifths 146176 (bit_at (frame_at mode a t).p1) bit
   pub pids-position : (row column frame bit : ℕ) → found row column ≡ Pids frame bit
-      → bitIn (matricesAt mode a t).pm (positionAt 36 row column) ≡ channel TwoFifths 80 (bit_at (frame_at mode a t).pids) (frame * 200 + bit)
+      → bit_in (matrices_at mode a t).pm (position_at 36 row column) ≡ channel TwoFifths 80 (bit_at (frame_at mode a t).pids) (frame * 200 + bit)
   -- and in the cell of that row and that column, which is printed
   pub p1-cell : (row column bit : ℕ) → found row column ≡ P1 bit
-      → bit_at (matricesAt mode a t).pm (row * 720 + column) ≡ channel TwoFifths 146176 (bit_at (frame_at mode a t).p1) bit
+      → bit_at (matrices_at mode a t).pm (row * 720 + column) ≡ channel TwoFifths 146176 (bit_at (frame_at mode a t).p1) bit
   pub pids-cell : (row column frame bit : ℕ) → found row column ≡ Pids frame bit
-      → bit_at (matricesAt mode a t).pm (row * 720 + column) ≡ channel TwoFifths 80 (bit_at (frame_at mode a t).pids) (frame * 200 + bit)
+      → bit_at (matrices_at mode a t).pm (row * 720 + column) ≡ channel TwoFifths 80 (bit_at (frame_at mode a t).pids) (frame * 200 + bit)
   pub coded-cell : (e : Extended) (z pair row column earlier frame bit : ℕ) → z < 8
-      → foundPX (stateAt mode z t) (channelNumber e) pair row column ≡ Coded earlier frame bit
+      → found_px (state_at mode z t) (channel_number e) pair row column ≡ Coded earlier frame bit
       → (earlier ≤ t)
-      × (bit_at (matrixOf mode (matricesAt mode a t) e) (cell_of (kind_of mode e) pair row column)
-      ≡ codedOf (kind_of mode e) (frame_of (frame_at mode a (t - earlier)) e) (frame * frameCoded (kind_of mode e) + bit))
+      × (bit_at (matrix_of mode (matrices_at mode a t) e) (cell_of (kind_of mode e) pair row column)
+      ≡ coded_of (kind_of mode e) (frame_of (frame_at mode a (t - earlier)) e) (frame * frame_coded (kind_of mode e) + bit))
   pub fill-cell : (e : Extended) (z pair row column : ℕ) → z < 8
-      → foundPX (stateAt mode z t) (channelNumber e) pair row column ≡ Fill
-      → bit_at (matrixOf mode (matricesAt mode a t) e) (cell_of (kind_of mode e) pair row column) ≡ 0
+      → found_px (state_at mode z t) (channel_number e) pair row column ≡ Fill
+      → bit_at (matrix_of mode (matrices_at mode a t) e) (cell_of (kind_of mode e) pair row column) ≡ 0

@@ -1,7 +1,7 @@
 // Documents 01 and 02: a control block alone is looked up for its mode, block count and reserved number. S-8: so are the sixteen blocks of an L1 frame as a set.
 ghost use Rattle.std.specs.Prelude.{◌≡◌};
-ghost use Rattle.queries.specs.Lookup.{lookupOf, values};
-ghost use Rattle.queries.specs.LookupFrame.{lookupFrameOf, values as valuesOfFrame};
+ghost use Rattle.queries.specs.Lookup.{lookup_of, values};
+ghost use Rattle.queries.specs.LookupFrame.{lookup_frame_of, values as values_of_frame};
 
 use blockset::LookedFrame;
 use runs::Answer;
@@ -22,7 +22,7 @@ pub enum LookedUpFrame {
 
 // Looks up the mode, the block count and the number of one control block.
 pub fn lookup(block: &[u8]) -> LookedUp
-    ensures { (result ≡ lookupOf block.now) × (values result ≡ values (lookupOf block.now)) }
+    ensures { (result ≡ lookup_of block.now) × (values result ≡ values (lookup_of block.now)) }
 {
     if block.len() != 256 {
         return LookedUp::Refused {
@@ -47,7 +47,7 @@ pub fn lookup(block: &[u8]) -> LookedUp
 
 // Looks up the mode and the number of the sixteen control blocks of an L1 frame.
 pub fn lookup_frame(control: &[u8]) -> LookedUpFrame
-    ensures { (result ≡ lookupFrameOf control.now) × (valuesOfFrame result ≡ valuesOfFrame (lookupFrameOf control.now)) }
+    ensures { (result ≡ lookup_frame_of control.now) × (values_of_frame result ≡ values_of_frame (lookup_frame_of control.now)) }
 {
     if control.len() != 4096 {
         return LookedUpFrame::Refused {

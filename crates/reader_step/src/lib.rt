@@ -3,18 +3,18 @@ ghost use Rattle.std.specs.Prelude.{◌≡◌, ◌+◌, ◌≤◌, ltb, length, 
 ghost use Rattle.io.specs.Counts.{IsPrefixLen};
 ghost use Rattle.runs.specs.Reading.{read_step};
 ghost use Rattle.calls.specs.Called.{frames, memory};
-ghost use Rattle.layout.specs.Layout.{signalIn};
+ghost use Rattle.layout.specs.Layout.{signal_in};
 ghost use Rattle.frames.specs.Read.{handed};
 ghost use Rattle.text.specs.Put.{Put};
 ghost use Rattle.steps.specs.Steps.{step, step_of};
-ghost use Rattle.reader_step.specs.Returned.{frameBytes, p1Waits, readBytes, returned, unless};
+ghost use Rattle.reader_step.specs.Returned.{frame_bytes, p1_waits, read_bytes, returned, unless};
 
 use runs::State;
 use steps::Stepped;
 
 // Whether P1 waits.
 fn p1_waits(age: u8, delay: &[u8]) -> bool
-    ensures { result ≡ p1Waits age delay.now }
+    ensures { result ≡ p1_waits age delay.now }
 {
     if age < 3 {
         return 0 < delay.len();
@@ -85,8 +85,8 @@ fn read_lent(
         × (1 + length p1.old + length pids.old + length p2.old + length p3.old + length p4.old ≤ length out.old) }
     ensures { IsPrefixLen result.length out.new
         × (step result.state (memory memory3.new memory4.new delay.new) result.done (take result.length out.new)
-        ≡ step_of (frameBytes state.age) frame (read_step state (memory memory3.old memory4.old delay.old)
-        (handed (frames 0 p1.old pids.old p2.old p3.old p4.old) (signalIn state.mode input.now)))) }
+        ≡ step_of (frame_bytes state.age) frame (read_step state (memory memory3.old memory4.old delay.old)
+        (handed (frames 0 p1.old pids.old p2.old p3.old p4.old) (signal_in state.mode input.now)))) }
 {
     let age = state.age;
     let mode = state.mode;
@@ -127,7 +127,7 @@ pub fn read_bytes(
     requires { 41313 ≤ length out.old }
     ensures { IsPrefixLen result.length out.new
         × (step result.state (memory memory3.new memory4.new delay.new) result.done (take result.length out.new)
-        ≡ readBytes frame state (memory memory3.old memory4.old delay.old) input.now) }
+        ≡ read_bytes frame state (memory memory3.old memory4.old delay.old) input.now) }
 {
     let want = modes::reader_lengths(state.mode);
     let n1 = want[0];

@@ -1,7 +1,7 @@
 // Documents 01 and 02: reading an L1 frame.
 ghost use Rattle.std.specs.Prelude.{◌≡◌};
 ghost use Rattle.runs.specs.Reading.{read_step};
-ghost use Rattle.calls.specs.Called.{lent, memory, readGave};
+ghost use Rattle.calls.specs.Called.{lent, memory, read_gave};
 
 use calls::{ReadOutcome, admit};
 use causes::number;
@@ -24,7 +24,7 @@ pub fn read(
     memory4: &mut [u8],
     delay: &mut [u8],
 ) -> ReadOutcome
-    ensures { readGave result (memory memory3.new memory4.new delay.new)
+    ensures { read_gave result (memory memory3.new memory4.new delay.new)
         (lent result.reserved p1.new pids.new p2.new p3.new p4.new pm.now px1.now px2.now control.now)
         ≡ read_step state (memory memory3.old memory4.old delay.old)
         (lent 0 p1.old pids.old p2.old p3.old p4.old pm.now px1.now px2.now control.now) }

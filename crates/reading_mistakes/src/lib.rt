@@ -2,7 +2,7 @@
 // edits of it, so that what is refused is the mistake.
 ghost use Rattle.std.specs.Prelude.{◌≡◌};
 ghost use Rattle.runs.specs.Reading.{read_step};
-ghost use Rattle.calls.specs.Called.{lent, memory, readGave};
+ghost use Rattle.calls.specs.Called.{lent, memory, read_gave};
 
 use calls::ReadOutcome;
 use causes::number;
@@ -24,7 +24,7 @@ pub fn read(
     memory4: &mut [u8],
     delay: &mut [u8],
 ) -> ReadOutcome
-    ensures { readGave result (memory memory3.new memory4.new delay.new) (lent result.reserved p1.new pids.new p2.new p3.new p4.new pm.now px1.now px2.now control.now) ≡ read_step state (memory memory3.old memory4.old delay.old) (lent 0 p1.old pids.old p2.old p3.old p4.old pm.now px1.now px2.now control.now) }
+    ensures { read_gave result (memory memory3.new memory4.new delay.new) (lent result.reserved p1.new pids.new p2.new p3.new p4.new pm.now px1.now px2.now control.now) ≡ read_step state (memory memory3.old memory4.old delay.old) (lent 0 p1.old pids.old p2.old p3.old p4.old pm.now px1.now px2.now control.now) }
 {
     let outcome = reading::read(
         state, p1, pids, p2, p3, p4, pm, px1, px2, control, memory3, memory4, delay,

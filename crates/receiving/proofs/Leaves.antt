@@ -8,19 +8,19 @@ use Rattle.control.specs.Departs.{number_in}
 use Rattle.runs.specs.declared.Answer.{Answer}
 use Rattle.runs.specs.declared.Main.{Main}
 use Rattle.runs.specs.declared.State.{State}
-use Rattle.runs.specs.MainChannels.{mainOf, delayFrames}
-use Rattle.runs.specs.Answers.{number_of, onSuccess}
-use Rattle.runs.specs.Chain.{p1Of, p2Of, pidsOf}
-use Rattle.runs.specs.Paths.{oldest, scrambledOf, waiting}
+use Rattle.runs.specs.MainChannels.{main_of, delay_frames}
+use Rattle.runs.specs.Answers.{number_of, on_success}
+use Rattle.runs.specs.Chain.{p1_of, p2_of, pids_of}
+use Rattle.runs.specs.Paths.{oldest, scrambled_of, waiting}
 use Rattle.runs.specs.Lent.{Lent, Memory}
 use Rattle.runs.specs.Judged.{due}
 use Rattle.runs.specs.Starting.{next}
 use Rattle.runs.specs.Sending.{refused}
 use Rattle.runs.specs.Reading.{push, pushed, received, unnumbered}
 use Rattle.runs.proofs.Answered.{not-success, success-is}
-use Rattle.calls.specs.Called.{Buffer, lent, memory, readGave}
-use Rattle.judging.specs.Stages.{Recovered, after, fourth, signalAnswer}
-use Rattle.receiving.specs.Received.{receiveStep}
+use Rattle.calls.specs.Called.{Buffer, lent, memory, read_gave}
+use Rattle.judging.specs.Stages.{Recovered, after, fourth, signal_answer}
+use Rattle.receiving.specs.Received.{receive_step}
 
 -- frames that count only from age 2 on
 by-age : (age : ℕ) (early : Buffer) {own frames : Buffer} → (2 ≤ age → own ≡ frames) → cond (ltb age 2) early own ≡ cond (ltb age 2) early frames
@@ -32,40 +32,40 @@ by-age age early {own} {frames} e = go (ltb age 2) refl
 
 module _ (s : State) (m : Memory) (l : Lent) where
   -- received after the answer a: a refusal leaves everything as it was, and returns the number 0
-  module _ (a : Answer) (judged : a ≡ signalAnswer s m l.signal) where
-    pub kept : (number_of a ≡ 0 → ⊥) → refused s m (unnumbered l) a ≡ receiveStep s m l
-    unfolding receiveStep
-    kept ne = ap (refused s m (unnumbered l)) judged ∙ sym (not-success (signalAnswer s m l.signal) _ _ (λ z. ne (ap number_of (judged ∙ z))))
+  module _ (a : Answer) (judged : a ≡ signal_answer s m l.signal) where
+    pub kept : (number_of a ≡ 0 → ⊥) → refused s m (unnumbered l) a ≡ receive_step s m l
+    unfolding receive_step
+    kept ne = ap (refused s m (unnumbered l)) judged ∙ sym (not-success (signal_answer s m l.signal) _ _ (λ z. ne (ap number_of (judged ∙ z))))
 
-    done : number_of a ≡ 0 → received s m l ≡ receiveStep s m l
-    unfolding receiveStep onSuccess
+    done : number_of a ≡ 0 → received s m l ≡ receive_step s m l
+    unfolding receive_step on_success
     done zero = rw (sym judged ∙ success-is a zero)
 
     -- a success leaves what the definition says
-    pub handed_out : number_of a ≡ 0 → (s' : State) (z : ℕ) (k : Main) (p1 pids p2 p3 p4 own1 own2 own16 own3 own4 m3 m4 d : Buffer) → s' ≡ next z s → z ≡ number_in s.mode l.signal.control → k ≡ mainOf s.mode
-        → (own1 ≡ p1Of (mainOf s.mode) l.signal.matrices.pm) × (own2 ≡ p2Of (mainOf s.mode) l.signal.matrices.pm) × (own16 ≡ pidsOf l.signal.matrices.pm)
-        → p1 ≡ cond (ltb s.age (delayFrames k)) l.frames.p1 (scrambledOf k (oldest k m.delayed own1))
+    pub handed_out : number_of a ≡ 0 → (s' : State) (z : ℕ) (k : Main) (p1 pids p2 p3 p4 own1 own2 own16 own3 own4 m3 m4 d : Buffer) → s' ≡ next z s → z ≡ number_in s.mode l.signal.control → k ≡ main_of s.mode
+        → (own1 ≡ p1_of (main_of s.mode) l.signal.matrices.pm) × (own2 ≡ p2_of (main_of s.mode) l.signal.matrices.pm) × (own16 ≡ pids_of l.signal.matrices.pm)
+        → p1 ≡ cond (ltb s.age (delay_frames k)) l.frames.p1 (scrambled_of k (oldest k m.delayed own1))
         → (pids ≡ own16) × (p2 ≡ own2)
         → (2 ≤ s.age → Recovered s (after s m.for3 m.for4 l.signal.matrices.px1 l.signal.matrices.px2) own3 own4)
         → (p3 ≡ cond (ltb s.age 2) l.frames.p3 own3) × (p4 ≡ cond (ltb s.age 2) l.frames.p4 own4)
-        → (m3 ≡ push m.for3 l.signal.matrices.px1) × (m4 ≡ push m.for4 (fourth s l.signal.matrices.px2)) × (d ≡ waiting (mainOf s.mode) m.delayed own1)
-        → readGave (record { answer = a; state = s'; reserved = z }) (memory m3 m4 d)
+        → (m3 ≡ push m.for3 l.signal.matrices.px1) × (m4 ≡ push m.for4 (fourth s l.signal.matrices.px2)) × (d ≡ waiting (main_of s.mode) m.delayed own1)
+        → read_gave (record { answer = a; state = s'; reserved = z }) (memory m3 m4 d)
         (lent z p1 pids p2 p3 p4 l.signal.matrices.pm l.signal.matrices.px1 l.signal.matrices.px2 l.signal.control)
-        ≡ receiveStep s m l
+        ≡ receive_step s m l
     unfolding received pushed due
     handed_out ok s' z k p1 pids p2 p3 p4 own1 own2 own16 own3 own4 m3 m4 d es ez ek (o1, o2, o16) e1 (e16, e2) both (e3, e4) (em3, em4, ed) = made ∙ done ok
       where
-        made : readGave (record { answer = a; state = s'; reserved = z }) (memory m3 m4 d)
+        made : read_gave (record { answer = a; state = s'; reserved = z }) (memory m3 m4 d)
             (lent z p1 pids p2 p3 p4 l.signal.matrices.pm l.signal.matrices.px1 l.signal.matrices.px2 l.signal.control)
             ≡ received s m l
         made =
-            let f1 = e1 ∙ ap₂ (λ (k : Main) (o : Buffer). cond (ltb s.age (delayFrames k)) l.frames.p1 (scrambledOf k (oldest k m.delayed o))) ek o1 in
+            let f1 = e1 ∙ ap₂ (λ (k : Main) (o : Buffer). cond (ltb s.age (delay_frames k)) l.frames.p1 (scrambled_of k (oldest k m.delayed o))) ek o1 in
             let fs = es ∙ ap (λ (z : ℕ). next z s) ez in
             let f2 = e2 ∙ o2 in
             let f16 = e16 ∙ o16 in
             let f3 = e3 ∙ by-age s.age l.frames.p3 (λ h. (both h).0) in
             let f4 = e4 ∙ by-age s.age l.frames.p4 (λ h. (both h).1) in
-            let fd = ed ∙ ap (waiting (mainOf s.mode) m.delayed) o1 in
+            let fd = ed ∙ ap (waiting (main_of s.mode) m.delayed) o1 in
             λ i.
-            readGave (record { answer = success-is a ok i; state = fs i; reserved = ez i }) (memory (em3 i) (em4 i) (fd i))
+            read_gave (record { answer = success-is a ok i; state = fs i; reserved = ez i }) (memory (em3 i) (em4 i) (fd i))
             (lent (ez i) (f1 i) (f16 i) (f2 i) (f3 i) (f4 i) l.signal.matrices.pm l.signal.matrices.px1 l.signal.matrices.px2 l.signal.control)

@@ -1,14 +1,14 @@
 // Reading an L1 frame whose state and lengths are right: it is judged, and the frames that it returns and the reader's memory are written.
 ghost use Rattle.std.specs.Prelude.{cond, ◌≡◌, ◌≤◌, ltb, length};
 ghost use Rattle.runs.specs.declared.Extended.TheVariants.{P4};
-ghost use Rattle.runs.specs.MainChannels.{mainOf, delayFrames, delayLen, p1Len};
-ghost use Rattle.runs.specs.Lengths.{kind_of, matrixLen, px2Len, readerLen};
-ghost use Rattle.runs.specs.Paths.{oldest, scrambledOf, waiting};
+ghost use Rattle.runs.specs.MainChannels.{main_of, delay_frames, delay_len, p1_len};
+ghost use Rattle.runs.specs.Lengths.{kind_of, matrix_len, px2_len, reader_len};
+ghost use Rattle.runs.specs.Paths.{oldest, scrambled_of, waiting};
 ghost use Rattle.runs.specs.Reading.{push};
-ghost use Rattle.calls.specs.Called.{lent, memory, readGave};
+ghost use Rattle.calls.specs.Called.{lent, memory, read_gave};
 ghost use Rattle.calls.specs.Fits.{Fits};
 ghost use Rattle.judging.specs.Stages.{fourth};
-ghost use Rattle.receiving.specs.Received.{receiveStep};
+ghost use Rattle.receiving.specs.Received.{receive_step};
 
 use calls::{ReadOutcome, next_of};
 use causes::number;
@@ -17,8 +17,8 @@ use runs::{Extended, Main, State};
 
 // Returns the P1 frames whose second path has come: those of this L1 frame where there is no delay, and else those that have waited longest.
 fn return_p1(main: Main, age: u8, delay: &[u8], scrambled: &[u8], p1: &mut [u8])
-    requires { (length delay.now ≡ delayLen main) × (length scrambled.now ≡ p1Len main) × (length p1.old ≡ p1Len main) }
-    ensures { p1.new ≡ cond (ltb age (delayFrames main)) p1.old (scrambledOf main (oldest main delay.now scrambled.now)) }
+    requires { (length delay.now ≡ delay_len main) × (length scrambled.now ≡ p1_len main) × (length p1.old ≡ p1_len main) }
+    ensures { p1.new ≡ cond (ltb age (delay_frames main)) p1.old (scrambled_of main (oldest main delay.now scrambled.now)) }
 {
     if delay.len() == 0 {
         scrambling::scramble_each(18272, scrambled, p1);
@@ -66,8 +66,8 @@ fn keep(
     memory4: &mut [u8],
     delay: &mut [u8],
 )
-    requires { (length px1.now ≤ length memory3.old) × (length px2.now ≡ px2Len state.mode) × (matrixLen (kind_of state.mode P4) ≤ length memory4.old) × (length scrambled.now ≡ p1Len (mainOf state.mode)) × (length delay.old ≡ delayLen (mainOf state.mode)) }
-    ensures { (memory3.new ≡ push memory3.old px1.now) × (memory4.new ≡ push memory4.old (fourth state px2.now)) × (delay.new ≡ waiting (mainOf state.mode) delay.old scrambled.now) }
+    requires { (length px1.now ≤ length memory3.old) × (length px2.now ≡ px2_len state.mode) × (matrix_len (kind_of state.mode P4) ≤ length memory4.old) × (length scrambled.now ≡ p1_len (main_of state.mode)) × (length delay.old ≡ delay_len (main_of state.mode)) }
+    ensures { (memory3.new ≡ push memory3.old px1.now) × (memory4.new ≡ push memory4.old (fourth state px2.now)) × (delay.new ≡ waiting (main_of state.mode) delay.old scrambled.now) }
 {
     let n = matrix_len(kind_of(state.mode, Extended::P4));
     diversity::push(memory3, px1);
@@ -96,11 +96,11 @@ pub fn receive(
     own3: &mut [u8],
     own4: &mut [u8],
 ) -> ReadOutcome
-    requires { Fits readerLen state (memory memory3.old memory4.old delay.old) (lent 0 p1.old pids.old p2.old p3.old p4.old pm.now px1.now px2.now control.now)
-        × Fits readerLen state (memory memory3.old memory4.old delay.old) (lent 0 own1.old own16.old own2.old own3.old own4.old pm.now px1.now px2.now control.now) }
-    ensures { readGave result (memory memory3.new memory4.new delay.new)
+    requires { Fits reader_len state (memory memory3.old memory4.old delay.old) (lent 0 p1.old pids.old p2.old p3.old p4.old pm.now px1.now px2.now control.now)
+        × Fits reader_len state (memory memory3.old memory4.old delay.old) (lent 0 own1.old own16.old own2.old own3.old own4.old pm.now px1.now px2.now control.now) }
+    ensures { read_gave result (memory memory3.new memory4.new delay.new)
         (lent result.reserved p1.new pids.new p2.new p3.new p4.new pm.now px1.now px2.now control.now)
-        ≡ receiveStep state (memory memory3.old memory4.old delay.old)
+        ≡ receive_step state (memory memory3.old memory4.old delay.old)
         (lent 0 p1.old pids.old p2.old p3.old p4.old pm.now px1.now px2.now control.now) }
 {
     let answer = judging::judge_signal(

@@ -3,15 +3,15 @@ ghost use Rattle.std.specs.Prelude.{◌≡◌, List, ℕ, ◌+◌, ◌*◌, ◌<
 ghost use Rattle.bits.specs.Bits.{packed};
 ghost use Rattle.bits.specs.Tests.{lowest};
 ghost use Rattle.coding.specs.declared.Rate.TheVariants.{TwoFifths};
-ghost use Rattle.coding.specs.Buffers.{Buffers, uncodedEach};
-ghost use Rattle.coding.specs.Channel.{noFrame, unchannel};
+ghost use Rattle.coding.specs.Buffers.{Buffers, uncoded_each};
+ghost use Rattle.coding.specs.Channel.{no_frame, unchannel};
 ghost use Rattle.runs.specs.declared.Kind.TheVariants.{Narrow, Wide};
-ghost use Rattle.runs.specs.MainChannels.{delayFrames, delayLen, p1Bits, p1Frames, p1Len, p2Bits, p2Len, p1'Len};
-ghost use Rattle.runs.specs.Chain.{fillBad, frameBad, framesOf, gathered, p1Coded, p1Of, p2Of, pidsBad, pidsOf};
-ghost use Rattle.runs.specs.Paths.{delayBad, oldest};
-ghost use Rattle.runs.specs.Lengths.{frameLen, matrixLen, readerLen, tableRow};
+ghost use Rattle.runs.specs.MainChannels.{delay_frames, delay_len, p1_bits, p1_frames, p1_len, p2_bits, p2_len, p1'_len};
+ghost use Rattle.runs.specs.Chain.{fill_bad, frame_bad, frames_of, gathered, p1_coded, p1_of, p2_of, pids_bad, pids_of};
+ghost use Rattle.runs.specs.Paths.{delay_bad, oldest};
+ghost use Rattle.runs.specs.Lengths.{frame_len, matrix_len, reader_len, table_row};
 ghost use Rattle.runs.specs.Reading.{push as «push-of»};
-ghost use Rattle.recover.specs.Rooms.{Room, codedBytes, isOne, lateBad, p1Bytes, past as «past_of», pmBad};
+ghost use Rattle.recover.specs.Rooms.{Room, coded_bytes, is_one, late_bad, p1_bytes, past as «past_of», pm_bad};
 
 use coding::Rate;
 use modes::table_row;
@@ -27,7 +27,7 @@ fn decode_channel(
     frames: &mut [u8],
 ) -> usize
     requires { Buffers rate n count frames.old coded.now × (length scrambled.old ≡ length frames.old) }
-    ensures { (y : ℕ → ℕ) → ((i : ℕ) → y i < 2) → coded.now ≡ packed (length coded.now) y → (result ≡ lowest count (noFrame rate (8 * n) y)) × (frames.new ≡ packed (length frames.old) (unchannel rate (8 * n) y)) }
+    ensures { (y : ℕ → ℕ) → ((i : ℕ) → y i < 2) → coded.now ≡ packed (length coded.now) y → (result ≡ lowest count (no_frame rate (8 * n) y)) × (frames.new ≡ packed (length frames.old) (unchannel rate (8 * n) y)) }
 {
     let bad = coding::judge_channel(rate, n, count, coded, scrambled);
     scrambling::scramble_each(n, scrambled, frames);
@@ -36,7 +36,7 @@ fn decode_channel(
 
 // The P1 frames of an L1 frame; the bytes of each; the bytes of their coded bits.
 pub fn p1_frames(main: Main) -> usize
-    ensures { (result ≡ p1Frames main) × (result ≤ 8) }
+    ensures { (result ≡ p1_frames main) × (result ≤ 8) }
 {
     match main {
         Main::Plain => 1,
@@ -46,7 +46,7 @@ pub fn p1_frames(main: Main) -> usize
 }
 
 fn p1_bytes(main: Main) -> usize
-    ensures { result ≡ p1Bytes main }
+    ensures { result ≡ p1_bytes main }
 {
     match main {
         Main::Plain => 18272,
@@ -56,7 +56,7 @@ fn p1_bytes(main: Main) -> usize
 }
 
 fn coded_bytes(main: Main) -> usize
-    ensures { (result ≡ codedBytes main) × (result ≤ 45680) }
+    ensures { (result ≡ coded_bytes main) × (result ≤ 45680) }
 {
     match main {
         Main::Plain => 45680,
@@ -67,7 +67,7 @@ fn coded_bytes(main: Main) -> usize
 
 // 9.2: the L1 frames by which P1' is delayed.
 pub fn delay_frames(main: Main) -> u8
-    ensures { result ≡ delayFrames main }
+    ensures { result ≡ delay_frames main }
 {
     match main {
         Main::Plain => 0,
@@ -89,8 +89,8 @@ pub fn past(n: usize, r: usize, rest: usize) -> usize
 
 // The scrambled P1 frames whose coded bits are the first of y, and the lowest whose coded bits are no coding.
 fn judge_p1(main: Main, coded: &[u8], scrambled: &mut [u8]) -> usize
-    requires { (length coded.now ≡ 45680) × (length scrambled.old ≡ p1Len main) }
-    ensures { (y : ℕ → ℕ) → ((i : ℕ) → y i < 2) → coded.now ≡ packed 45680 y → (result ≡ lowest (p1Frames main) (noFrame TwoFifths (p1Bits main) y)) × (scrambled.new ≡ packed (p1Len main) (uncodedEach TwoFifths (p1Bits main) y)) }
+    requires { (length coded.now ≡ 45680) × (length scrambled.old ≡ p1_len main) }
+    ensures { (y : ℕ → ℕ) → ((i : ℕ) → y i < 2) → coded.now ≡ packed 45680 y → (result ≡ lowest (p1_frames main) (no_frame TwoFifths (p1_bits main) y)) × (scrambled.new ≡ packed (p1_len main) (uncoded_each TwoFifths (p1_bits main) y)) }
 {
     let n = p1_bytes(main);
     let count = p1_frames(main);
@@ -100,8 +100,8 @@ fn judge_p1(main: Main, coded: &[u8], scrambled: &mut [u8]) -> usize
 
 // The P2 frame whose coded bits stand behind those of P1, and 0 where they are no coding, or 1.
 fn decode_p2(main: Main, coded: &[u8], p2: &mut [u8]) -> usize
-    requires { (length coded.now ≡ 45680) × (length p2.old ≡ p2Len main) }
-    ensures { (y : ℕ → ℕ) → ((i : ℕ) → y i < 2) → coded.now ≡ packed 45680 y → (result ≡ lowest 1 (noFrame TwoFifths (p2Bits main) (λ i. y (p1Coded main + i)))) × (p2.new ≡ packed (p2Len main) (unchannel TwoFifths (p2Bits main) (λ i. y (p1Coded main + i)))) }
+    requires { (length coded.now ≡ 45680) × (length p2.old ≡ p2_len main) }
+    ensures { (y : ℕ → ℕ) → ((i : ℕ) → y i < 2) → coded.now ≡ packed 45680 y → (result ≡ lowest 1 (no_frame TwoFifths (p2_bits main) (λ i. y (p1_coded main + i)))) × (p2.new ≡ packed (p2_len main) (unchannel TwoFifths (p2_bits main) (λ i. y (p1_coded main + i)))) }
 {
     let n = p2.len();
     if n == 0 {
@@ -114,9 +114,9 @@ fn decode_p2(main: Main, coded: &[u8], p2: &mut [u8]) -> usize
 
 // Recovers the P1 frames of PM, still scrambled, and P2, and answers the lowest P1 frame, and then P2, whose coded bits are no coding (section 10.4.1 turned round).
 pub fn recover_main(main: Main, pm: &[u8], scrambled: &mut [u8], p2: &mut [u8]) -> usize
-    requires { (length pm.now ≡ 46080) × (length scrambled.old ≡ p1Len main) × (length p2.old ≡ p2Len main) }
-    ensures value { result ≡ lowest (p1Frames main + 1) (pmBad main pm.now) }
-    ensures scrambled_after { (scrambled.new ≡ p1Of main pm.now) × (p2.new ≡ p2Of main pm.now) }
+    requires { (length pm.now ≡ 46080) × (length scrambled.old ≡ p1_len main) × (length p2.old ≡ p2_len main) }
+    ensures value { result ≡ lowest (p1_frames main + 1) (pm_bad main pm.now) }
+    ensures scrambled_after { (scrambled.new ≡ p1_of main pm.now) × (p2.new ≡ p2_of main pm.now) }
 {
     let mut coded = [0u8; 45680];
     pm::gather_p1(pm, &mut coded);
@@ -127,8 +127,8 @@ pub fn recover_main(main: Main, pm: &[u8], scrambled: &mut [u8], p2: &mut [u8]) 
 
 // The lowest P1 frame whose second path has come, and is no coded frame or disagrees; 8 where there is none.
 pub fn first_late(main: Main, age: u8, second: &[u8], delay: &[u8]) -> usize
-    requires { (length second.now ≡ p1'Len main) × (length delay.now ≡ delayLen main) }
-    ensures { (s : List ℕ) → result ≡ lowest 8 (lateBad main age second.now (oldest main delay.now s)) }
+    requires { (length second.now ≡ p1'_len main) × (length delay.now ≡ delay_len main) }
+    ensures { (s : List ℕ) → result ≡ lowest 8 (late_bad main age second.now (oldest main delay.now s)) }
 {
     if delay.len() == 0 {
         return 8;
@@ -143,7 +143,7 @@ pub fn first_late(main: Main, age: u8, second: &[u8], delay: &[u8]) -> usize
 // Recovers the sixteen PIDS frames of PM, and answers the lowest whose coded bits are no coding, or 16.
 pub fn recover_pids(pm: &[u8], pids: &mut [u8]) -> usize
     requires { (length pm.now ≡ 46080) × (length pids.old ≡ 160) }
-    ensures { (result ≡ lowest 16 (pidsBad pm.now)) × (pids.new ≡ pidsOf pm.now) }
+    ensures { (result ≡ lowest 16 (pids_bad pm.now)) × (pids.new ≡ pids_of pm.now) }
 {
     let mut coded = [0u8; 400];
     pm::gather_pids(pm, &mut coded);
@@ -153,8 +153,8 @@ pub fn recover_pids(pm: &[u8], pids: &mut [u8]) -> usize
 
 // The coded bits of an extended channel that the mode uses, out of the last three matrices; `three` is for these.
 fn gather_px(kind: Kind, half: u8, memory: &[u8], px: &[u8], three: &mut [u8], coded: &mut [u8])
-    requires { (half < 2) × (tableRow kind < 2) × (length memory.now ≡ readerLen kind) × (length px.now ≡ matrixLen kind) × (length three.old ≡ readerLen kind) × (length coded.old ≡ matrixLen kind) }
-    ensures { coded.new ≡ packed (matrixLen kind) (gathered kind half («push-of» memory.now px.now)) }
+    requires { (half < 2) × (table_row kind < 2) × (length memory.now ≡ reader_len kind) × (length px.now ≡ matrix_len kind) × (length three.old ≡ reader_len kind) × (length coded.old ≡ matrix_len kind) }
+    ensures { coded.new ≡ packed (matrix_len kind) (gathered kind half («push-of» memory.now px.now)) }
 {
     bits::copy(memory, three);
     diversity::push(three, px);
@@ -172,8 +172,8 @@ fn decode_px(
     scrambled: &mut [u8],
     frames: &mut [u8],
 ) -> usize
-    requires { (half < 2) × (length memory.now ≡ readerLen kind) × (length px.now ≡ matrixLen kind) × Room kind three.old coded.old scrambled.old frames.old }
-    ensures { (result ≡ lowest 8 (frameBad kind half («push-of» memory.now px.now))) × (frames.new ≡ framesOf kind half («push-of» memory.now px.now)) }
+    requires { (half < 2) × (length memory.now ≡ reader_len kind) × (length px.now ≡ matrix_len kind) × Room kind three.old coded.old scrambled.old frames.old }
+    ensures { (result ≡ lowest 8 (frame_bad kind half («push-of» memory.now px.now))) × (frames.new ≡ frames_of kind half («push-of» memory.now px.now)) }
 {
     gather_px(kind, half, memory, px, three, coded);
     decode_channel(Rate::Half, frames.len() / 8, 8, coded, scrambled, frames)
@@ -181,8 +181,8 @@ fn decode_px(
 
 // The frames of a channel as MP2 has P3. The work arrays of each width stand in a function of their own, so that they share the stack.
 fn recover_narrow(kind: Kind, half: u8, memory: &[u8], px: &[u8], frames: &mut [u8]) -> usize
-    requires { (kind ≡ Narrow) × (half < 2) × (length memory.now ≡ readerLen kind) × (length px.now ≡ matrixLen kind) × (length frames.old ≡ frameLen kind) }
-    ensures { (result ≡ lowest 8 (frameBad kind half («push-of» memory.now px.now))) × (frames.new ≡ framesOf kind half («push-of» memory.now px.now)) }
+    requires { (kind ≡ Narrow) × (half < 2) × (length memory.now ≡ reader_len kind) × (length px.now ≡ matrix_len kind) × (length frames.old ≡ frame_len kind) }
+    ensures { (result ≡ lowest 8 (frame_bad kind half («push-of» memory.now px.now))) × (frames.new ≡ frames_of kind half («push-of» memory.now px.now)) }
 {
     let mut three = [0u8; 13824];
     let mut coded = [0u8; 4608];
@@ -201,8 +201,8 @@ fn recover_narrow(kind: Kind, half: u8, memory: &[u8], px: &[u8], frames: &mut [
 
 // The frames of a channel as MP3 and MP11 have P3 and P4.
 fn recover_wide(kind: Kind, half: u8, memory: &[u8], px: &[u8], frames: &mut [u8]) -> usize
-    requires { (kind ≡ Wide) × (half < 2) × (length memory.now ≡ readerLen kind) × (length px.now ≡ matrixLen kind) × (length frames.old ≡ frameLen kind) }
-    ensures { (result ≡ lowest 8 (frameBad kind half («push-of» memory.now px.now))) × (frames.new ≡ framesOf kind half («push-of» memory.now px.now)) }
+    requires { (kind ≡ Wide) × (half < 2) × (length memory.now ≡ reader_len kind) × (length px.now ≡ matrix_len kind) × (length frames.old ≡ frame_len kind) }
+    ensures { (result ≡ lowest 8 (frame_bad kind half («push-of» memory.now px.now))) × (frames.new ≡ frames_of kind half («push-of» memory.now px.now)) }
 {
     let mut three = [0u8; 27648];
     let mut coded = [0u8; 9216];
@@ -221,8 +221,8 @@ fn recover_wide(kind: Kind, half: u8, memory: &[u8], px: &[u8], frames: &mut [u8
 
 // Recovers the eight frames of an extended channel of the L1 frame two earlier, and answers the lowest whose coded bits are no coding, or 8.
 pub fn recover_px(kind: Kind, half: u8, memory: &[u8], px: &[u8], frames: &mut [u8]) -> usize
-    requires { (half < 2) × (length memory.now ≡ readerLen kind) × (length px.now ≡ matrixLen kind) × (length frames.old ≡ frameLen kind) }
-    ensures { (result ≡ lowest 8 (frameBad kind half («push-of» memory.now px.now))) × (frames.new ≡ framesOf kind half («push-of» memory.now px.now)) }
+    requires { (half < 2) × (length memory.now ≡ reader_len kind) × (length px.now ≡ matrix_len kind) × (length frames.old ≡ frame_len kind) }
+    ensures { (result ≡ lowest 8 (frame_bad kind half («push-of» memory.now px.now))) × (frames.new ≡ frames_of kind half («push-of» memory.now px.now)) }
 {
     match kind {
         Kind::Unused => 8,
@@ -233,8 +233,8 @@ pub fn recover_px(kind: Kind, half: u8, memory: &[u8], px: &[u8], frames: &mut [
 
 // The lowest cell of an extended channel's matrix that can show only the zero fill and is 1; as many as there are where there is none.
 pub fn first_fill(kind: Kind, age: u8, px: &[u8]) -> usize
-    requires { length px.now ≡ matrixLen kind }
-    ensures { result ≡ lowest (8 * matrixLen kind) (fillBad kind age px.now) }
+    requires { length px.now ≡ matrix_len kind }
+    ensures { result ≡ lowest (8 * matrix_len kind) (fill_bad kind age px.now) }
 {
     let row = table_row(kind);
     if row == 2 {
@@ -263,7 +263,7 @@ fn zero_bytes(x: &[u8]) -> usize
 // The lowest cell that is 1; as many as there are where there is none. Bytes of zeros are gone past at once.
 fn first_one(x: &[u8]) -> usize
     requires { length x.now ≤ 100000 }
-    ensures { result ≡ lowest (8 * length x.now) (isOne x.now) }
+    ensures { result ≡ lowest (8 * length x.now) (is_one x.now) }
 {
     let n = x.len() * 8;
     let mut c: usize = zero_bytes(x) * 8;
@@ -278,8 +278,8 @@ fn first_one(x: &[u8]) -> usize
 
 // The lowest cell of PX2 that can show only the delay's zeros and is 1; as many as there are where there is none.
 pub fn first_delayed(main: Main, age: u8, second: &[u8]) -> usize
-    requires { length second.now ≡ p1'Len main }
-    ensures { result ≡ lowest (8 * p1'Len main) (delayBad main age second.now) }
+    requires { length second.now ≡ p1'_len main }
+    ensures { result ≡ lowest (8 * p1'_len main) (delay_bad main age second.now) }
 {
     if age < delay_frames(main) {
         return first_one(second);

@@ -7,7 +7,7 @@ use native.Mathlib.Decide.{dec_lt, ℕ_discrete}
 use native.Mathlib.Omega.{arith}
 use lib.ListN.{get_or}
 use borrow.Author.Tests.{eq-eqb, ne_eqb, lt-ltb}
-use Rattle.trellis.specs.Cells.{Frame, codedBits, scrambledOf, differs, apart, distance}
+use Rattle.trellis.specs.Cells.{Frame, coded_bits, scrambled_of, differs, apart, distance}
 use Rattle.decoding.proofs.Reading.{ReadAlike, differs-unread}
 use Rattle.restoring.specs.Restored.{Fits}
 
@@ -48,20 +48,20 @@ zero-apart cells y (suc n) e i l r = go (ℕ_discrete i n) (zero-apart cells y n
     go (yes q) ih = term_fits (get_or cells i 0) (y i) (ap (λ (k : ℕ). differs (get_or cells k 0) (y k)) q ∙ omega arith) r
     go (no q) ih = ih (omega arith) r
 
-pub fits-zero : (cells frame : List ℕ) → Fits cells frame → distance cells (scrambledOf frame) ≡ 0
+pub fits-zero : (cells frame : List ℕ) → Fits cells frame → distance cells (scrambled_of frame) ≡ 0
 unfolding distance
-fits-zero cells frame f = apart-zero cells (codedBits (scrambledOf frame)) 200 f.each
+fits-zero cells frame f = apart-zero cells (coded_bits (scrambled_of frame)) 200 f.each
 
-pub zero-fits : (cells frame : List ℕ) → Frame frame → distance cells (scrambledOf frame) ≡ 0 → Fits cells frame
+pub zero-fits : (cells frame : List ℕ) → Frame frame → distance cells (scrambled_of frame) ≡ 0 → Fits cells frame
 unfolding distance
-zero-fits cells frame shape e = record { shape = shape; each = zero-apart cells (codedBits (scrambledOf frame)) 200 e }
+zero-fits cells frame shape e = record { shape = shape; each = zero-apart cells (coded_bits (scrambled_of frame)) 200 e }
 
 -- the marks of unread cells
 pub fits-alike : (cells others frame : List ℕ) → ReadAlike cells others → Fits cells frame → Fits others frame
 fits-alike cells others frame h f = record { shape = f.shape; each = λ n l r. go n l r (h n l) }
   where
     go : (n : ℕ) → n < 200 → get_or others n 0 < 2 → (get_or cells n 0 ≡ get_or others n 0) ⊎ ((2 ≤ get_or cells n 0) × (2 ≤ get_or others n 0))
-        → get_or others n 0 ≡ codedBits (scrambledOf frame) n
+        → get_or others n 0 ≡ coded_bits (scrambled_of frame) n
     go n l r (inl e) = sym e ∙ f.each n l (omega arith)
     go n l r (inr (a, b)) = absurd (omega arith)
 

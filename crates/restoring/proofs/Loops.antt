@@ -11,7 +11,7 @@ use lib.ListN.{get_or, set}
 use lib.Pow.{shl_exact}
 use lib.Seq.{get_or-set_other}
 use borrow.Author.Tests.{eq-eqb, ne_eqb}
-use Rattle.trellis.specs.Trellis.{next, outputsOf, Eight}
+use Rattle.trellis.specs.Trellis.{next, outputs_of, Eight}
 use Rattle.trellis.proofs.Outputs.{eight-cost}
 use Rattle.restoring.specs.Reaching.{has, free, ends, through, Reached, closed, NextClosed, passes, way, taken, gone, went, zeros, Fork}
 use Rattle.restoring.proofs.Reaching.{ends-zero, ends-suc}
@@ -26,7 +26,7 @@ free_all : (c s : ℕ) → c ≡ 0 → s ≡ free c s
 unfolding free
 free_all c s h = rw (eq-eqb c 0 h)
 
-module _ (cells costs : List ℕ) (j w y : ℕ) (q : y ≡ outputsOf w) (h : Eight cells j costs) where
+module _ (cells costs : List ℕ) (j w y : ℕ) (q : y ≡ outputs_of w) (h : Eight cells j costs) where
   pub beyond-none : (get_or costs y 0 ≡ 0 → ⊥) → 0 ≡ through cells j w
   beyond-none n = free-none _ _ (λ z. n (ap (λ (k : ℕ). get_or costs k 0) q ∙ eight-cost h w ∙ z))
 

@@ -10,7 +10,7 @@ use Rattle.bits.proofs.Numbers.{number-cong}
 use Rattle.runs.specs.declared.Answer.{Answer}
 use Rattle.runs.specs.declared.Answer.TheVariants.{Success, NoFrameFits, SeveralFit}
 use Rattle.scrambling.specs.Scrambler.{scrambled}
-use Rattle.trellis.specs.Cells.{scrambledOf}
+use Rattle.trellis.specs.Cells.{scrambled_of}
 use Rattle.trellis.specs.Paths.{start}
 use Rattle.trellis.proofs.Closing.{start-lt}
 use Rattle.trellis.proofs.Distances.{distance-cong}
@@ -31,24 +31,24 @@ frame_of w = packed 10 (scrambled (bit_at (packed 10 w)))
 -- frames with other bits are others
 apart : (v w : ℕ → ℕ) → ((i : ℕ) → v i < 2) → ((i : ℕ) → w i < 2) → (n : ℕ) → n < 80 → (v n ≡ w n → ⊥) → frame_of v ≡ frame_of w → ⊥
 apart v w hv hw n l d e =
-    d (sym (scrambled-again v hv (frame_of v) refl n l) ∙ ap (λ (f : List ℕ). scrambledOf f n) e ∙ scrambled-again w hw (frame_of w) refl n l)
+    d (sym (scrambled-again v hv (frame_of v) refl n l) ∙ ap (λ (f : List ℕ). scrambled_of f n) e ∙ scrambled-again w hw (frame_of w) refl n l)
 
-same_start : (w : ℕ → ℕ) → ((i : ℕ) → w i < 2) → start (scrambledOf (frame_of w)) ≡ start w
+same_start : (w : ℕ → ℕ) → ((i : ℕ) → w i < 2) → start (scrambled_of (frame_of w)) ≡ start w
 same_start w h = start-cong _ w (scrambled-again w h (frame_of w) refl)
 
 module _ (cells : List ℕ) where
   -- a frame that fits has a path that ends where it began
-  fit-closed : (f : List ℕ) → Fits cells f → closed cells (start (scrambledOf f)) ≡ true
-  fit-closed f fits = frame_closed cells (scrambledOf f) (frame-bits f) (fits-zero cells f fits)
+  fit-closed : (f : List ℕ) → Fits cells f → closed cells (start (scrambled_of f)) ≡ true
+  fit-closed f fits = frame_closed cells (scrambled_of f) (frame-bits f) (fits-zero cells f fits)
 
-  fit-start : (f : List ℕ) → start (scrambledOf f) < 64
-  fit-start f = start-lt (scrambledOf f) (frame-bits f)
+  fit-start : (f : List ℕ) → start (scrambled_of f) < 64
+  fit-start f = start-lt (scrambled_of f) (frame-bits f)
 
   pub none-fits : (before : List ℕ) (e : ℕ) → NextClosed cells 0 e → e ≡ 64 → None cells before before NoFrameFits
   none-fits before e h q =
       record {
         answer = refl;
-        nothing = λ f fits. true≢false (sym (fit-closed f fits) ∙ h.none (start (scrambledOf f)) (omega arith) (omega (arith, fit-start f)));
+        nothing = λ f fits. true≢false (sym (fit-closed f fits) ∙ h.none (start (scrambled_of f)) (omega arith) (omega (arith, fit-start f)));
         unchanged = refl;
       }
 
@@ -78,7 +78,7 @@ module _ (cells : List ℕ) where
               let be = path-bit cells e low ce zeros zero_bit in
               let bd = path-bit cells d l cd zeros zero_bit in
               let a : start (went cells e zeros) ≡ start (went cells d zeros) =
-              sym (same_start (went cells e zeros) be) ∙ ap (λ (f : List ℕ). start (scrambledOf f)) q ∙ same_start (went cells d zeros) bd in
+              sym (same_start (went cells e zeros) be) ∙ ap (λ (f : List ℕ). start (scrambled_of f)) q ∙ same_start (went cells d zeros) bd in
               omega (arith, k.above, path-start cells e low ce zeros zero_bit, path-start cells d l cd zeros zero_bit);
           unchanged = refl;
         }
@@ -113,14 +113,14 @@ module _ (cells : List ℕ) where
               frame_same f (frame_of (went cells e zeros)) g.shape fits.shape
               (number-cong 80 _ _
               (λ i l.
-              only-path cells (scrambledOf f) (frame-bits f) (fits-zero cells f g) e (starts f g) alone i l
+              only-path cells (scrambled_of f) (frame-bits f) (fits-zero cells f g) e (starts f g) alone i l
               ∙ sym (scrambled-again (went cells e zeros) hw _ refl i l)));
         }
       where
-        starts : (f : List ℕ) → Fits cells f → start (scrambledOf f) ≡ e
-        starts f g = go (dec_lt (start (scrambledOf f)) e) (ℕ_discrete (start (scrambledOf f)) e)
+        starts : (f : List ℕ) → Fits cells f → start (scrambled_of f) ≡ e
+        starts f g = go (dec_lt (start (scrambled_of f)) e) (ℕ_discrete (start (scrambled_of f)) e)
           where
-            go : Dec (start (scrambledOf f) < e) → Dec (start (scrambledOf f) ≡ e) → start (scrambledOf f) ≡ e
+            go : Dec (start (scrambled_of f) < e) → Dec (start (scrambled_of f) ≡ e) → start (scrambled_of f) ≡ e
             go (yes l) m = absurd (true≢false (sym (fit-closed f g) ∙ h.none _ (omega arith) l))
             go (no l) (yes m) = m
             go (no l) (no m) = absurd (true≢false (sym (fit-closed f g) ∙ k.none _ (omega arith) (omega (arith, fit-start f))))

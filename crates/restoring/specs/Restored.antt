@@ -4,13 +4,13 @@ use Rattle.std.specs.Prelude.{◌≡◌, ◌⊎◌, List, ℕ, ◌<◌, get_or}
 use Rattle.std.proofs.Math.Option.{none, some}
 use Rattle.runs.specs.declared.Answer.{Answer}
 use Rattle.runs.specs.declared.Answer.TheVariants.{Success, NoFrameFits, SeveralFit}
-use Rattle.trellis.specs.Cells.{Frame, scrambledOf, codedBits}
+use Rattle.trellis.specs.Cells.{Frame, scrambled_of, coded_bits}
 use Rattle.decoding.specs.Outcomes.{lengths}
 
 -- a frame that fits the cells: each one that was read, a byte below 2, is its coded bit
 pub record Fits (cells frame : List ℕ) : Type 0 where
   pub shape : Frame frame
-  pub each : (n : ℕ) → n < 200 → get_or cells n 0 < 2 → get_or cells n 0 ≡ codedBits (scrambledOf frame) n
+  pub each : (n : ℕ) → n < 200 → get_or cells n 0 < 2 → get_or cells n 0 ≡ coded_bits (scrambled_of frame) n
 
 -- exactly one frame fits: it is left in the buffer
 pub record One (cells after : List ℕ) (r : Answer) : Type 0 where

@@ -1,10 +1,10 @@
 // Document 01: one row of a matrix, as the part of the lent matrix that it is.
 ghost use Rattle.std.specs.Prelude.{◌≡◌};
-ghost use Rattle.rows.specs.Rows.{pmRow, pxRow};
+ghost use Rattle.rows.specs.Rows.{pm_row, px_row};
 
 // A row of PM: 90 bytes, or none where the row is out of range or the length is wrong.
 pub fn pm_row(row: usize, pm: &[u8]) -> &[u8]
-    ensures { result.now ≡ pmRow row pm.now }
+    ensures { result.now ≡ pm_row row pm.now }
 {
     if pm.len() != 46080 {
         return &pm[0..0];
@@ -19,7 +19,7 @@ pub fn pm_row(row: usize, pm: &[u8]) -> &[u8]
 
 // A row of the eight PX1 matrices (channel 3) or the eight PX2 matrices (channel 4) of MP11: 18 bytes, or none.
 pub fn px_row<'a>(channel: u8, row: usize, px1: &'a [u8], px2: &'a [u8]) -> &'a [u8]
-    ensures { result.now ≡ pxRow channel row px1.now px2.now }
+    ensures { result.now ≡ px_row channel row px1.now px2.now }
 {
     if px1.len() != 9216 {
         return &px1[0..0];

@@ -7,10 +7,10 @@ use lib.ListN.{get_or, length, take, drop, length-drop}
 use lib.Seq.{length-take-le}
 use Rattle.runs.specs.declared.Answer.{Answer}
 use Rattle.runs.specs.declared.State.{State}
-use Rattle.runs.specs.Answers.{number_of, onSuccess}
+use Rattle.runs.specs.Answers.{number_of, on_success}
 use Rattle.runs.specs.Causes.{size, wrong}
 use Rattle.runs.specs.Lent.{Frames, Lent, Memory, Signal}
-use Rattle.runs.specs.Sending.{refused, sendStep}
+use Rattle.runs.specs.Sending.{refused, send_step}
 use Rattle.runs.proofs.Answered.{not-success, success-is}
 use Rattle.calls.specs.Admitted.{admitted}
 use Rattle.calls.specs.Called.{frames, gave}
@@ -21,7 +21,7 @@ use Rattle.layout.proofs.Cut.{entry-is}
 use Rattle.layout.proofs.Framed.{frames-are}
 use Rattle.run_input.specs.declared.inputs.Ends.{Ends}
 use Rattle.run_input.specs.Ends.{End, EndsIn}
-use Rattle.run_input.specs.Inputs.{framesIn, inputStep, wholeAnswer, wholeSizes}
+use Rattle.run_input.specs.Inputs.{frames_in, input_step, whole_answer, whole_sizes}
 
 -- ---- the parts
 
@@ -33,7 +33,7 @@ module _ (s : State) (n3 n4 : ℕ) (input : List ℕ) (reserved : ℕ) (number :
     (r : Ends) (e : EndsIn s.mode n3 n4 (length input) r) where
   pub frames-cut : frames reserved (take (r.p1 - r.number) (drop r.number input)) (take (r.pids - r.p1) (drop r.p1 input))
       (take (r.p2 - r.pids) (drop r.pids input)) (take (r.p3 - r.p2) (drop r.p2 input)) (take (r.p4 - r.p3) (drop r.p3 input))
-      ≡ framesIn s.mode n3 n4 input
+      ≡ frames_in s.mode n3 n4 input
   frames-cut =
       frames-are s.mode 0 0 input (wanted s.mode 0 0) refl n3 n4 reserved _ _ _ _ _ _ number
       e.number.2 e.p1.2 e.pids.2 e.p2.2 e.p3.2 e.p4.2
@@ -47,8 +47,8 @@ module _ (s : State) (n3 n4 : ℕ) (input : List ℕ) (reserved : ℕ) (number :
       (wrong 0 (sizes
       ((r.p1 - r.number) ∷ (r.pids - r.p1) ∷ (r.p2 - r.pids) ∷ (r.p3 - r.p2) ∷ (r.p4 - r.p3) ∷ [])
       (get_or want 0 0 ∷ get_or want 1 0 ∷ get_or want 2 0 ∷ n3 ∷ n4 ∷ [])))
-      → a ≡ wholeAnswer n3 n4 s (framesIn s.mode n3 n4 input)
-  unfolding wholeAnswer wholeSizes sizes
+      → a ≡ whole_answer n3 n4 s (frames_in s.mode n3 n4 input)
+  unfolding whole_answer whole_sizes sizes
   whole_is a m3 m4 want w admits =
       admits
       ∙ (λ i. admitted s reserved (wrong 0
@@ -58,20 +58,20 @@ module _ (s : State) (n3 n4 : ℕ) (input : List ℕ) (reserved : ℕ) (number :
       ∷ size (part_length r.p2 r.p3 e.p3.1 i) n3
       ∷ size (part_length r.p3 r.p4 e.p4.1 i) n4
       ∷ [])))
-      ∙ ap (wholeAnswer n3 n4 s) frames-cut
+      ∙ ap (whole_answer n3 n4 s) frames-cut
 
 -- ---- the sending
 
 module _ (o : Outcome) (m m₀ : Memory) (s : State) (f g : Frames) (x y : Signal) where
-  pub sent-in : f ≡ g → gave o m (handed f x) ≡ sendStep s m₀ (handed f y) → gave o m (handed g x) ≡ sendStep s m₀ (handed g y)
-  sent-in e h = subst (λ (f : Frames). gave o m (handed f x) ≡ sendStep s m₀ (handed f y)) e h
+  pub sent-in : f ≡ g → gave o m (handed f x) ≡ send_step s m₀ (handed f y) → gave o m (handed g x) ≡ send_step s m₀ (handed g y)
+  sent-in e h = subst (λ (f : Frames). gave o m (handed f x) ≡ send_step s m₀ (handed f y)) e h
 
-module _ (n3 n4 : ℕ) (s : State) (m : Memory) (l : Lent) (a : Answer) (is : a ≡ wholeAnswer n3 n4 s l.frames) where
+module _ (n3 n4 : ℕ) (s : State) (m : Memory) (l : Lent) (a : Answer) (is : a ≡ whole_answer n3 n4 s l.frames) where
   -- what was cut off is refused, and everything is left as it was
-  pub cut_off : (number_of a ≡ 0 → ⊥) → refused s m l a ≡ inputStep n3 n4 s m l
-  unfolding inputStep
-  cut_off ne = ap (refused s m l) is ∙ sym (not-success (wholeAnswer n3 n4 s l.frames) _ _ (λ z. ne (ap number_of (is ∙ z))))
+  pub cut_off : (number_of a ≡ 0 → ⊥) → refused s m l a ≡ input_step n3 n4 s m l
+  unfolding input_step
+  cut_off ne = ap (refused s m l) is ∙ sym (not-success (whole_answer n3 n4 s l.frames) _ _ (λ z. ne (ap number_of (is ∙ z))))
 
-  pub whole : number_of a ≡ 0 → sendStep s m l ≡ inputStep n3 n4 s m l
-  unfolding inputStep onSuccess
+  pub whole : number_of a ≡ 0 → send_step s m l ≡ input_step n3 n4 s m l
+  unfolding input_step on_success
   whole z = rw (sym is ∙ success-is a z)

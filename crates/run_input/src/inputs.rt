@@ -1,11 +1,11 @@
 // An L1 frame to be sent from a program's input, in which its number and its transfer frames lie end to end.
 ghost use Rattle.std.specs.Prelude.{◌≡◌, ◌+◌, ◌≤◌, min, get_or};
-ghost use Rattle.runs.specs.MainChannels.{mainOf, p1Len, p2Len};
-ghost use Rattle.runs.specs.Lengths.{pidsLen};
-ghost use Rattle.runs.specs.Sending.{sendStep};
+ghost use Rattle.runs.specs.MainChannels.{main_of, p1_len, p2_len};
+ghost use Rattle.runs.specs.Lengths.{pids_len};
+ghost use Rattle.runs.specs.Sending.{send_step};
 ghost use Rattle.calls.specs.Called.{gave, memory, signal};
 ghost use Rattle.layout.specs.Inputs.{handed};
-ghost use Rattle.run_input.specs.Inputs.{framesIn, inputStep, wholeAnswer};
+ghost use Rattle.run_input.specs.Inputs.{frames_in, input_step, whole_answer};
 ghost use Rattle.run_input.specs.Ends.{EndsIn};
 
 use calls::Outcome;
@@ -24,7 +24,7 @@ fn capped(n: usize) -> usize
 
 // The bytes of an L1 frame's number and transfer frames, P1, PIDS, P2, P3 and P4, in this mode; of P3 and P4 there are n3 and n4.
 pub fn frames_length(mode: u8, n3: usize, n4: usize) -> usize
-    ensures { result ≡ 1 + p1Len (mainOf mode) + pidsLen + p2Len (mainOf mode) + min 4608 n3 + min 4608 n4 }
+    ensures { result ≡ 1 + p1_len (main_of mode) + pids_len + p2_len (main_of mode) + min 4608 n3 + min 4608 n4 }
 {
     let want = modes::sender_lengths(mode);
     let p3 = capped(n3);
@@ -88,8 +88,8 @@ pub fn send_frame(
     memory4: &mut [u8],
     delay: &mut [u8],
 ) -> Outcome
-    ensures { gave result (memory memory3.new memory4.new delay.new) (handed (framesIn state.mode n3 n4 input.now) (signal pm.new px1.new px2.new control.new))
-        ≡ sendStep state (memory memory3.old memory4.old delay.old) (handed (framesIn state.mode n3 n4 input.now) (signal pm.old px1.old px2.old control.old)) }
+    ensures { gave result (memory memory3.new memory4.new delay.new) (handed (frames_in state.mode n3 n4 input.now) (signal pm.new px1.new px2.new control.new))
+        ≡ send_step state (memory memory3.old memory4.old delay.old) (handed (frames_in state.mode n3 n4 input.now) (signal pm.old px1.old px2.old control.old)) }
 {
     let ends = ends_in(state.mode, n3, n4, input.len());
     let z = ends.number;
@@ -118,7 +118,7 @@ pub fn send_frame(
 
 // What a sending of an input looks at first: state, number, and whether the input's end has cut off any of the transfer frames.
 fn whole_answer(state: State, n3: usize, n4: usize, input: &[u8]) -> Answer
-    ensures { result ≡ wholeAnswer n3 n4 state (framesIn state.mode n3 n4 input.now) }
+    ensures { result ≡ whole_answer n3 n4 state (frames_in state.mode n3 n4 input.now) }
 {
     let want = modes::sender_lengths(state.mode);
     let ends = ends_in(state.mode, n3, n4, input.len());
@@ -147,8 +147,8 @@ pub fn send_input(
     memory4: &mut [u8],
     delay: &mut [u8],
 ) -> Outcome
-    ensures { gave result (memory memory3.new memory4.new delay.new) (handed (framesIn state.mode n3 n4 input.now) (signal pm.new px1.new px2.new control.new))
-        ≡ inputStep n3 n4 state (memory memory3.old memory4.old delay.old) (handed (framesIn state.mode n3 n4 input.now) (signal pm.old px1.old px2.old control.old)) }
+    ensures { gave result (memory memory3.new memory4.new delay.new) (handed (frames_in state.mode n3 n4 input.now) (signal pm.new px1.new px2.new control.new))
+        ≡ input_step n3 n4 state (memory memory3.old memory4.old delay.old) (handed (frames_in state.mode n3 n4 input.now) (signal pm.old px1.old px2.old control.old)) }
 {
     let answer = whole_answer(state, n3, n4, input);
     if causes::number(answer) != 0 {

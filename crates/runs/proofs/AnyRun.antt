@@ -12,33 +12,33 @@ use borrow.Author.Tests.{eqb-true, eqb-false}
 use Rattle.control.specs.Departs.{number_in}
 use Rattle.runs.specs.declared.Answer.TheVariants.{Success}
 use Rattle.runs.specs.declared.State.{State}
-use Rattle.runs.specs.Lengths.{readerLen}
+use Rattle.runs.specs.Lengths.{reader_len}
 use Rattle.runs.specs.Answers.{number_of}
 use Rattle.runs.specs.Lent.{Lent, Memory, Result, Signal}
-use Rattle.runs.specs.Starting.{Started, stateAt, zeros}
+use Rattle.runs.specs.Starting.{Started, state_at, zeros}
 use Rattle.runs.specs.Reading.{pushed, read_step, received}
 use Rattle.runs.specs.Runs.{Call, ReaderRun, calls, readings, succeeded}
-use Rattle.runs.specs.WholeRuns.{noCall}
+use Rattle.runs.specs.WholeRuns.{no_call}
 use Rattle.runs.specs.Relied.{accepted}
 use Rattle.runs.proofs.Answered.{success-is}
 use Rattle.runs.proofs.Lists.{cons-both}
-use Rattle.runs.proofs.Memory.{read-refused, readMemory}
+use Rattle.runs.proofs.Memory.{read-refused, read_memory}
 use Rattle.runs.proofs.States.{fresh_at, next-at, start-ok}
 use Rattle.runs.proofs.TableReading.{read_table}
 
 -- the reading of L1 frame t, where the L1 frames are S 0, S 1, .., and the number before it is `number`
 pub record Read (mode : ℕ) (S : ℕ → Signal) (t : ℕ) (c : Call) : Type 0 where
   pub number : ℕ
-  pub success : (read_step (stateAt mode number t) (readMemory mode S t) c.lent).answer ≡ Success
-  pub result-is : c.result ≡ received (stateAt mode number t) (readMemory mode S t) c.lent
+  pub success : (read_step (state_at mode number t) (read_memory mode S t) c.lent).answer ≡ Success
+  pub result-is : c.result ≡ received (state_at mode number t) (read_memory mode S t) c.lent
 
 module _ (mode : ℕ) (S : ℕ → Signal) where
   -- the calls that succeeded, from L1 frame T on
   abbrev from : ℕ → ℕ → List Lent → List Call
-  from z T ls = succeeded (calls read_step (stateAt mode z T) (readMemory mode S T) ls)
+  from z T ls = succeeded (calls read_step (state_at mode z T) (read_memory mode S T) ls)
 
   abbrev step : ℕ → ℕ → Lent → Result
-  step z T l = read_step (stateAt mode z T) (readMemory mode S T) l
+  step z T l = read_step (state_at mode z T) (read_memory mode S T) l
 
   abbrev rest : Result → List Lent → List Call
   rest r ls = succeeded (calls read_step r.state r.memory ls)
@@ -55,22 +55,22 @@ module _ (mode : ℕ) (S : ℕ → Signal) where
 
   -- one that is refused changes nothing
   refused-on : (z T : ℕ) (l : Lent) (ls : List Lent) → number_of (step z T l).answer ≢ 0 → rest (step z T l) ls ≡ from z T ls
-  refused-on z T l ls ne = ap (λ (r : Result). rest r ls) (read-refused (stateAt mode z T) (readMemory mode S T) l ne)
+  refused-on z T l ls ne = ap (λ (r : Result). rest r ls) (read-refused (state_at mode z T) (read_memory mode S T) l ne)
 
-  done_on : (z T : ℕ) (l : Lent) → (step z T l).answer ≡ Success → step z T l ≡ received (stateAt mode z T) (readMemory mode S T) l
-  done_on z T l e = (read_table (stateAt mode z T) (readMemory mode S T) l).done e
+  done_on : (z T : ℕ) (l : Lent) → (step z T l).answer ≡ Success → step z T l ≡ received (state_at mode z T) (read_memory mode S T) l
+  done_on z T l e = (read_table (state_at mode z T) (read_memory mode S T) l).done e
 
   accepted-on : (z T : ℕ) (l : Lent) (ls : List Lent) → (step z T l).answer ≡ Success → l.signal ≡ S T
       → rest (step z T l) ls ≡ from (number_in mode l.signal.control) (suc T) ls
-  unfolding readMemory received
+  unfolding read_memory received
   accepted-on z T l ls e q =
       ap (λ (r : Result). rest r ls) (done_on z T l e)
       ∙ ap₂ (λ (s : State) (m : Memory). succeeded (calls read_step s m ls)) (next-at mode z _ T)
-      (ap (λ (x : Signal). pushed mode (readMemory mode S T) x.matrices) q)
+      (ap (λ (x : Signal). pushed mode (read_memory mode S T) x.matrices) q)
 
   abbrev Each : ℕ → List Call → Type 0
   Each T gs =
-      ((i : ℕ) → i < length gs → (get_or gs i noCall).lent.signal ≡ S (T + i)) → (i : ℕ) → i < length gs → Read mode S (T + i) (get_or gs i noCall)
+      ((i : ℕ) → i < length gs → (get_or gs i no_call).lent.signal ≡ S (T + i)) → (i : ℕ) → i < length gs → Read mode S (T + i) (get_or gs i no_call)
 
   abbrev Claim : List Lent → Type 0
   Claim ls = (z T : ℕ) (gs : List Call) → gs ≡ from z T ls → Each T gs
@@ -100,14 +100,14 @@ module _ (mode : ℕ) (S : ℕ → Signal) where
   any-run (l ∷ ls) z T gs e h i b = by_number l ls (any-run ls) z T (eqb (number_of (step z T l).answer) 0) refl gs (e ∙ one_more z T l ls) h i b
 
 -- the L1 frames that a run accepted
-unfoldable pub signalsRead : (mode : ℕ) → ReaderRun mode → ℕ → Signal
-signalsRead mode b t = (get_or (accepted mode b) t noCall).lent.signal
+unfoldable pub signals_read : (mode : ℕ) → ReaderRun mode → ℕ → Signal
+signals_read mode b t = (get_or (accepted mode b) t no_call).lent.signal
 
-pub read_at : (mode : ℕ) (b : ReaderRun mode) (t : ℕ) → t < length (accepted mode b) → Read mode (signalsRead mode b) t (get_or (accepted mode b) t noCall)
-unfolding readings accepted signalsRead readMemory
+pub read_at : (mode : ℕ) (b : ReaderRun mode) (t : ℕ) → t < length (accepted mode b) → Read mode (signals_read mode b) t (get_or (accepted mode b) t no_call)
+unfolding readings accepted signals_read read_memory
 read_at mode b t h =
-    subst (λ (i : ℕ). Read mode (signalsRead mode b) i (get_or (accepted mode b) t noCall)) (zero-add t)
-    (any-run mode (signalsRead mode b) b.lents 0 0 (accepted mode b)
-    (ap (λ (s : Started). succeeded (calls read_step s.state s.memory b.lents)) (start-ok readerLen mode b.upon b.started).1
-    ∙ ap (λ (s : State). succeeded (calls read_step s (zeros readerLen mode) b.lents)) (sym (fresh_at mode)))
-    (λ i l. ap (signalsRead mode b) (sym (zero-add i))) t h)
+    subst (λ (i : ℕ). Read mode (signals_read mode b) i (get_or (accepted mode b) t no_call)) (zero-add t)
+    (any-run mode (signals_read mode b) b.lents 0 0 (accepted mode b)
+    (ap (λ (s : Started). succeeded (calls read_step s.state s.memory b.lents)) (start-ok reader_len mode b.upon b.started).1
+    ∙ ap (λ (s : State). succeeded (calls read_step s (zeros reader_len mode) b.lents)) (sym (fresh_at mode)))
+    (λ i l. ap (signals_read mode b) (sym (zero-add i))) t h)

@@ -8,28 +8,28 @@ use lib.Dec.{T, eqb, eqb→eq}
 use lib.Arith.{digits_lt}
 use Rattle.bits.specs.Bits.{bit_at}
 use Rattle.bits.specs.Tests.{all}
-use Rattle.bits.proofs.Packed.{bit_at_lt, bitAt-packed}
+use Rattle.bits.proofs.Packed.{bit_at_lt, bit_at-packed}
 use Rattle.bits.proofs.Tests.{all-at}
-use Rattle.scrambling.specs.Scrambler.{scrambledEach}
+use Rattle.scrambling.specs.Scrambler.{scrambled_each}
 use Rattle.scrambling.proofs.Laws.{scrambled-bit}
-use Rattle.scrambling.proofs.Frames.{scrambledEach-bit, scrambledEach-same}
+use Rattle.scrambling.proofs.Frames.{scrambled_each-bit, scrambled_each-same}
 use Rattle.coding.specs.declared.Rate.{Rate}
 use Rattle.coding.specs.declared.Rate.TheVariants.{TwoFifths, Half}
 use Rattle.coding.specs.Coder.{coded, rate12}
-use Rattle.coding.specs.Rates.{codedLength}
-use Rattle.coding.specs.Buffers.{Long, codedEach, uncodedEach}
-use Rattle.coding.specs.Channel.{channel, noFrame, part, unchannel}
+use Rattle.coding.specs.Rates.{coded_length}
+use Rattle.coding.specs.Buffers.{Long, coded_each, uncoded_each}
+use Rattle.coding.specs.Channel.{channel, no_frame, part, unchannel}
 use Rattle.coding.proofs.Channel.{length-pos}
-use Rattle.coding.proofs.Passes.{channel-each, codedEach-same, uncodedEach-bit, unchannel-each}
+use Rattle.coding.proofs.Passes.{channel-each, coded_each-same, uncoded_each-bit, unchannel-each}
 use Rattle.coding.proofs.Paths.{each_twice, then-whole}
 use Rattle.runs.specs.declared.Kind.{Kind}
 use Rattle.runs.specs.declared.Kind.TheVariants.{Unused, Narrow, Wide}
 use Rattle.runs.specs.declared.Main.{Main}
 use Rattle.runs.specs.declared.Main.TheVariants.{Plain, Mp5, Mp6}
-use Rattle.runs.specs.MainChannels.{p1Frames, p1Bits, p2Bits, p1'Bits, p1Len, p1'Len}
-use Rattle.runs.specs.Lengths.{matrixLen, pidsLen}
-use Rattle.runs.specs.Chain.{Buffer, p1Coded, p1Cells, p2Cells, pidsCells, p1Of, p2Of, pidsOf, p1Bad, p2Bad, pidsBad, codedOf, frameBad, framesOf, gathered}
-use Rattle.runs.specs.Paths.{agree, p1'Bad, p1'Cells, scrambledOf}
+use Rattle.runs.specs.MainChannels.{p1_frames, p1_bits, p2_bits, p1'_bits, p1_len, p1'_len}
+use Rattle.runs.specs.Lengths.{matrix_len, pids_len}
+use Rattle.runs.specs.Chain.{Buffer, p1_coded, p1_cells, p2_cells, pids_cells, p1_of, p2_of, pids_of, p1_bad, p2_bad, pids_bad, coded_of, frame_bad, frames_of, gathered}
+use Rattle.runs.specs.Paths.{agree, p1'_bad, p1'_cells, scrambled_of}
 use Rattle.runs.proofs.PM.{p1-long, p1-size, pids-long}
 use Rattle.runs.proofs.Rows.{long}
 
@@ -37,7 +37,7 @@ use Rattle.runs.proofs.Rows.{long}
 
 module _ (rate : Rate) (n : ℕ) (l : Long n) where
   abbrev L : ℕ
-  L = codedLength rate n
+  L = coded_length rate n
 
   pos : 0 < n
   pos = omega (arith, l.enough)
@@ -49,9 +49,9 @@ module _ (rate : Rate) (n : ℕ) (l : Long n) where
   part_of K m h = (div-lt_iff_lt-mul L-pos).1 h
 
   -- of one frame after the other
-  whole_each : (y s : ℕ → ℕ) (K : ℕ) → ((f : ℕ) → f < K → noFrame rate n y f ≡ false)
-      → ((i : ℕ) → i < K * n → uncodedEach rate n y i ≡ s i) → (m : ℕ) → m < K * L → y m ≡ codedEach rate n s m
-  unfolding codedEach
+  whole_each : (y s : ℕ → ℕ) (K : ℕ) → ((f : ℕ) → f < K → no_frame rate n y f ≡ false)
+      → ((i : ℕ) → i < K * n → uncoded_each rate n y i ≡ s i) → (m : ℕ) → m < K * L → y m ≡ coded_each rate n s m
+  unfolding coded_each
   whole_each y s K good same m h =
       ap y (sym (div-add-mod' m L))
       ∙ then-whole rate n l s y (m / L) (good (m / L) (part_of K m h)) (λ i j. same (m / L * n + i) (inside i j)) (m % L) (mod-lt m L-pos)
@@ -60,18 +60,18 @@ module _ (rate : Rate) (n : ℕ) (l : Long n) where
       inside i j = digits_lt (part_of K m h) j
 
   -- frames of which s are the scrambled ones
-  channel-of : (s w : ℕ → ℕ) (K : ℕ) → ((i : ℕ) → i < K * n → scrambledEach n w i ≡ s i) → (m : ℕ) → m < K * L → codedEach rate n s m ≡ channel rate n w m
+  channel-of : (s w : ℕ → ℕ) (K : ℕ) → ((i : ℕ) → i < K * n → scrambled_each n w i ≡ s i) → (m : ℕ) → m < K * L → coded_each rate n s m ≡ channel rate n w m
   channel-of s w K same m h =
-      sym (codedEach-same rate n K (scrambledEach n w) s pos same m (part_of K m h)) ∙ channel-each rate n w m pos
+      sym (coded_each-same rate n K (scrambled_each n w) s pos same m (part_of K m h)) ∙ channel-each rate n w m pos
 
   -- and of a buffer of what is decoded
-  whole-channel : (y w : ℕ → ℕ) (K : ℕ) → ((f : ℕ) → f < K → noFrame rate n y f ≡ false) → ((i : ℕ) → i < K * n → w i ≡ unchannel rate n y i)
+  whole-channel : (y w : ℕ → ℕ) (K : ℕ) → ((f : ℕ) → f < K → no_frame rate n y f ≡ false) → ((i : ℕ) → i < K * n → w i ≡ unchannel rate n y i)
       → (m : ℕ) → m < K * L → y m ≡ channel rate n w m
   whole-channel y w K good same m h =
-      whole_each y (uncodedEach rate n y) K good (λ i j. refl) m h
-      ∙ channel-of (uncodedEach rate n y) w K
+      whole_each y (uncoded_each rate n y) K good (λ i j. refl) m h
+      ∙ channel-of (uncoded_each rate n y) w K
       (λ i j.
-      scrambledEach-same n w _ i (same i j ∙ sym (unchannel-each rate n y i)) ∙ each_twice n (uncodedEach rate n y) i (uncodedEach-bit rate n y i))
+      scrambled_each-same n w _ i (same i j ∙ sym (unchannel-each rate n y i)) ∙ each_twice n (uncoded_each rate n y) i (uncoded_each-bit rate n y i))
       m h
 
 unchannel-bit : (rate : Rate) (n : ℕ) (y : ℕ → ℕ) (i : ℕ) → unchannel rate n y i < 2
@@ -81,24 +81,24 @@ unchannel-bit rate n y i = scrambled-bit _ _
 -- ---- P1
 
 -- the frames written, scrambled again, are those that PM brought
-again : (k : Main) (s : Buffer) (i : ℕ) → i < 8 * p1Len k → scrambledEach (p1Bits k) (bit_at (scrambledOf k s)) i ≡ bit_at s i
-unfolding scrambledOf
+again : (k : Main) (s : Buffer) (i : ℕ) → i < 8 * p1_len k → scrambled_each (p1_bits k) (bit_at (scrambled_of k s)) i ≡ bit_at s i
+unfolding scrambled_of
 again k s i h =
-    scrambledEach-same (p1Bits k) _ _ i (bitAt-packed (p1Len k) _ (λ j _. scrambledEach-bit (p1Bits k) (bit_at s) j) i h)
-    ∙ each_twice (p1Bits k) (bit_at s) i (bit_at_lt s i)
+    scrambled_each-same (p1_bits k) _ _ i (bit_at-packed (p1_len k) _ (λ j _. scrambled_each-bit (p1_bits k) (bit_at s) j) i h)
+    ∙ each_twice (p1_bits k) (bit_at s) i (bit_at_lt s i)
 
-p1-of-bit : (k : Main) (pm : Buffer) (i : ℕ) → i < 8 * p1Len k → uncodedEach TwoFifths (p1Bits k) (p1Cells pm) i ≡ bit_at (p1Of k pm) i
-unfolding p1Of
-p1-of-bit k pm i h = sym (bitAt-packed (p1Len k) _ (λ j _. uncodedEach-bit TwoFifths (p1Bits k) (p1Cells pm) j) i h)
+p1-of-bit : (k : Main) (pm : Buffer) (i : ℕ) → i < 8 * p1_len k → uncoded_each TwoFifths (p1_bits k) (p1_cells pm) i ≡ bit_at (p1_of k pm) i
+unfolding p1_of
+p1-of-bit k pm i h = sym (bit_at-packed (p1_len k) _ (λ j _. uncoded_each-bit TwoFifths (p1_bits k) (p1_cells pm) j) i h)
 
-pub first-codes : (k : Main) (pm : Buffer) → ((f : ℕ) → f < p1Frames k → p1Bad k pm f ≡ false) → (i : ℕ) → i < p1Coded k
-    → p1Cells pm i ≡ channel TwoFifths (p1Bits k) (bit_at (scrambledOf k (p1Of k pm))) i
-unfolding p1Bad
+pub first-codes : (k : Main) (pm : Buffer) → ((f : ℕ) → f < p1_frames k → p1_bad k pm f ≡ false) → (i : ℕ) → i < p1_coded k
+    → p1_cells pm i ≡ channel TwoFifths (p1_bits k) (bit_at (scrambled_of k (p1_of k pm))) i
+unfolding p1_bad
 first-codes k pm good i h =
-    whole_each TwoFifths (p1Bits k) (p1-long k) (p1Cells pm) (bit_at (p1Of k pm)) (p1Frames k) good
+    whole_each TwoFifths (p1_bits k) (p1-long k) (p1_cells pm) (bit_at (p1_of k pm)) (p1_frames k) good
     (λ j b. p1-of-bit k pm j (omega (arith, p1-size k))) i h
-    ∙ channel-of TwoFifths (p1Bits k) (p1-long k) (bit_at (p1Of k pm)) (bit_at (scrambledOf k (p1Of k pm))) (p1Frames k)
-    (λ j b. again k (p1Of k pm) j (omega (arith, p1-size k))) i h
+    ∙ channel-of TwoFifths (p1_bits k) (p1-long k) (bit_at (p1_of k pm)) (bit_at (scrambled_of k (p1_of k pm))) (p1_frames k)
+    (λ j b. again k (p1_of k pm) j (omega (arith, p1-size k))) i h
 
 holds : (b : Bool) → b ≡ true → T b
 holds true e = tt
@@ -112,67 +112,67 @@ or-false false false e = absurd (true≢false e)
 
 module _ (n : ℕ) (l : Long n) (s : Buffer) (y : ℕ → ℕ) where
   abbrev is : ℕ → ℕ → Bool
-  is f i = eqb (part n f (uncodedEach Half n y) i) (part n f (bit_at s) i)
+  is f i = eqb (part n f (uncoded_each Half n y) i) (part n f (bit_at s) i)
 
-  second-frame : (f : ℕ) → (noFrame Half n y f || not (all n (is f))) ≡ false
-      → (m : ℕ) → m < codedLength Half n → part (codedLength Half n) f y m ≡ coded rate12 n (part n f (bit_at s)) m
+  second-frame : (f : ℕ) → (no_frame Half n y f || not (all n (is f))) ≡ false
+      → (m : ℕ) → m < coded_length Half n → part (coded_length Half n) f y m ≡ coded rate12 n (part n f (bit_at s)) m
   second-frame f good =
-      let (whole, same) = or-false (noFrame Half n y f) (all n (is f)) good in
+      let (whole, same) = or-false (no_frame Half n y f) (all n (is f)) good in
       then-whole Half n l (bit_at s) y f whole (λ i j. eqb→eq _ _ (all-at n (is f) (holds (all n (is f)) same) i j))
 
-  second : ((f : ℕ) → f < 8 → (noFrame Half n y f || not (all n (is f))) ≡ false)
-      → (m : ℕ) → m < 8 * codedLength Half n → y m ≡ codedEach Half n (bit_at s) m
-  unfolding codedEach
+  second : ((f : ℕ) → f < 8 → (no_frame Half n y f || not (all n (is f))) ≡ false)
+      → (m : ℕ) → m < 8 * coded_length Half n → y m ≡ coded_each Half n (bit_at s) m
+  unfolding coded_each
   second good m h =
-      let f = m / codedLength Half n in
-      ap y (sym (div-add-mod' m (codedLength Half n)))
-      ∙ second-frame f (good f (part_of Half n l 8 m h)) (m % codedLength Half n) (mod-lt m (L-pos Half n l))
+      let f = m / coded_length Half n in
+      ap y (sym (div-add-mod' m (coded_length Half n)))
+      ∙ second-frame f (good f (part_of Half n l 8 m h)) (m % coded_length Half n) (mod-lt m (L-pos Half n l))
 
-pub second-codes : (k : Main) (x s : Buffer) → ((f : ℕ) → f < p1Frames k → p1'Bad k x s f ≡ false) → (i : ℕ) → i < 8 * p1'Len k
-    → p1'Cells k x i ≡ channel Half (p1'Bits k) (bit_at (scrambledOf k s)) i
-unfolding p1'Bad agree
+pub second-codes : (k : Main) (x s : Buffer) → ((f : ℕ) → f < p1_frames k → p1'_bad k x s f ≡ false) → (i : ℕ) → i < 8 * p1'_len k
+    → p1'_cells k x i ≡ channel Half (p1'_bits k) (bit_at (scrambled_of k s)) i
+unfolding p1'_bad agree
 second-codes Plain x s good i h = absurd (not-suc-le-zero h)
 second-codes Mp5 x s good i h =
     let l : Long 4608 = long 4608 (omega arith) refl in
-    second 4608 l s (p1'Cells Mp5 x) good i h ∙ channel-of Half 4608 l (bit_at s) (bit_at (scrambledOf Mp5 s)) 8 (λ j b. again Mp5 s j b) i h
+    second 4608 l s (p1'_cells Mp5 x) good i h ∙ channel-of Half 4608 l (bit_at s) (bit_at (scrambled_of Mp5 s)) 8 (λ j b. again Mp5 s j b) i h
 second-codes Mp6 x s good i h =
     let l : Long 9216 = long 9216 (omega arith) refl in
-    second 9216 l s (p1'Cells Mp6 x) good i h ∙ channel-of Half 9216 l (bit_at s) (bit_at (scrambledOf Mp6 s)) 8 (λ j b. again Mp6 s j b) i h
+    second 9216 l s (p1'_cells Mp6 x) good i h ∙ channel-of Half 9216 l (bit_at s) (bit_at (scrambled_of Mp6 s)) 8 (λ j b. again Mp6 s j b) i h
 
 -- ---- PIDS and P2
 
-pub pids-codes : (pm : Buffer) → ((f : ℕ) → f < 16 → pidsBad pm f ≡ false) → (i : ℕ) → i < 16 * codedLength TwoFifths 80
-    → pidsCells pm i ≡ channel TwoFifths 80 (bit_at (pidsOf pm)) i
-unfolding pidsBad pidsOf pidsLen
+pub pids-codes : (pm : Buffer) → ((f : ℕ) → f < 16 → pids_bad pm f ≡ false) → (i : ℕ) → i < 16 * coded_length TwoFifths 80
+    → pids_cells pm i ≡ channel TwoFifths 80 (bit_at (pids_of pm)) i
+unfolding pids_bad pids_of pids_len
 pids-codes pm good =
-    whole-channel TwoFifths 80 pids-long (pidsCells pm) _ 16 good (λ i h. bitAt-packed 160 _ (λ j _. unchannel-bit TwoFifths 80 (pidsCells pm) j) i h)
+    whole-channel TwoFifths 80 pids-long (pids_cells pm) _ 16 good (λ i h. bit_at-packed 160 _ (λ j _. unchannel-bit TwoFifths 80 (pids_cells pm) j) i h)
 
-pub p2-codes : (k : Main) (pm : Buffer) → p2Bad k pm 0 ≡ false → (i : ℕ) → i < codedLength TwoFifths (p2Bits k)
-    → p2Cells k pm i ≡ channel TwoFifths (p2Bits k) (bit_at (p2Of k pm)) i
-unfolding p2Bad p2Of
+pub p2-codes : (k : Main) (pm : Buffer) → p2_bad k pm 0 ≡ false → (i : ℕ) → i < coded_length TwoFifths (p2_bits k)
+    → p2_cells k pm i ≡ channel TwoFifths (p2_bits k) (bit_at (p2_of k pm)) i
+unfolding p2_bad p2_of
 p2-codes Plain pm good i h = absurd (not-suc-le-zero h)
 p2-codes Mp5 pm good i h =
-    whole-channel TwoFifths 109312 (long 109312 (omega arith) refl) (p2Cells Mp5 pm) _ 1 (only good)
-    (λ i h. bitAt-packed 13664 _ (λ j _. unchannel-bit TwoFifths 109312 (p2Cells Mp5 pm) j) i h) i h
+    whole-channel TwoFifths 109312 (long 109312 (omega arith) refl) (p2_cells Mp5 pm) _ 1 (only good)
+    (λ i h. bit_at-packed 13664 _ (λ j _. unchannel-bit TwoFifths 109312 (p2_cells Mp5 pm) j) i h) i h
   where
-    only : noFrame TwoFifths 109312 (p2Cells Mp5 pm) 0 ≡ false → (f : ℕ) → f < 1 → noFrame TwoFifths 109312 (p2Cells Mp5 pm) f ≡ false
+    only : no_frame TwoFifths 109312 (p2_cells Mp5 pm) 0 ≡ false → (f : ℕ) → f < 1 → no_frame TwoFifths 109312 (p2_cells Mp5 pm) f ≡ false
     only e f h = let z : f ≡ 0 = omega arith in rw z e
 p2-codes Mp6 pm good i h =
-    whole-channel TwoFifths 72448 (long 72448 (omega arith) refl) (p2Cells Mp6 pm) _ 1 (only good)
-    (λ i h. bitAt-packed 9056 _ (λ j _. unchannel-bit TwoFifths 72448 (p2Cells Mp6 pm) j) i h) i h
+    whole-channel TwoFifths 72448 (long 72448 (omega arith) refl) (p2_cells Mp6 pm) _ 1 (only good)
+    (λ i h. bit_at-packed 9056 _ (λ j _. unchannel-bit TwoFifths 72448 (p2_cells Mp6 pm) j) i h) i h
   where
-    only : noFrame TwoFifths 72448 (p2Cells Mp6 pm) 0 ≡ false → (f : ℕ) → f < 1 → noFrame TwoFifths 72448 (p2Cells Mp6 pm) f ≡ false
+    only : no_frame TwoFifths 72448 (p2_cells Mp6 pm) 0 ≡ false → (f : ℕ) → f < 1 → no_frame TwoFifths 72448 (p2_cells Mp6 pm) f ≡ false
     only e f h = let z : f ≡ 0 = omega arith in rw z e
 
 -- ---- P3 and P4
 
-pub extended-codes : (k : Kind) (half : ℕ) (x : Buffer) → ((f : ℕ) → f < 8 → frameBad k half x f ≡ false) → (i : ℕ) → i < 8 * matrixLen k
-    → gathered k half x i ≡ codedOf k (framesOf k half x) i
-unfolding frameBad framesOf codedOf
+pub extended-codes : (k : Kind) (half : ℕ) (x : Buffer) → ((f : ℕ) → f < 8 → frame_bad k half x f ≡ false) → (i : ℕ) → i < 8 * matrix_len k
+    → gathered k half x i ≡ coded_of k (frames_of k half x) i
+unfolding frame_bad frames_of coded_of
 extended-codes Unused half x good i h = absurd (not-suc-le-zero h)
 extended-codes Narrow half x good i h =
     whole-channel Half 2304 (long 2304 (omega arith) refl) (gathered Narrow half x) _ 8 good
-    (λ j b. bitAt-packed 2304 _ (λ m _. unchannel-bit Half 2304 (gathered Narrow half x) m) j b) i h
+    (λ j b. bit_at-packed 2304 _ (λ m _. unchannel-bit Half 2304 (gathered Narrow half x) m) j b) i h
 extended-codes Wide half x good i h =
     whole-channel Half 4608 (long 4608 (omega arith) refl) (gathered Wide half x) _ 8 good
-    (λ j b. bitAt-packed 4608 _ (λ m _. unchannel-bit Half 4608 (gathered Wide half x) m) j b) i h
+    (λ j b. bit_at-packed 4608 _ (λ m _. unchannel-bit Half 4608 (gathered Wide half x) m) j b) i h

@@ -13,22 +13,22 @@ use lib.Seq.{get_or-take, get_or-drop}
 use Rattle.bits.specs.Bits.{Bytes, bit_at}
 use Rattle.bits.specs.Once.{EachOnce, Below}
 use Rattle.bits.specs.Tests.{same}
-use Rattle.bits.proofs.Packed.{packed-of, packed-bitAt}
-use Rattle.bits.proofs.Parts.{bitAt-part}
+use Rattle.bits.proofs.Packed.{packed-of, packed-bit_at}
+use Rattle.bits.proofs.Parts.{bit_at-part}
 use Rattle.bits.proofs.Tests.{same-eq, same_true}
 use Rattle.coding.specs.declared.Rate.TheVariants.{Half}
 use Rattle.coding.specs.Coder.{coded, rate12}
-use Rattle.coding.specs.Rates.{codedLength}
+use Rattle.coding.specs.Rates.{coded_length}
 use Rattle.coding.specs.Channel.{part}
-use Rattle.coding.specs.Buffers.{codedEach}
-use Rattle.interleaving.specs.PX2.{partitions, runs, order, frameBits, place}
+use Rattle.coding.specs.Buffers.{coded_each}
+use Rattle.interleaving.specs.PX2.{partitions, runs, order, frame_bits, place}
 use Rattle.interleaving.specs.EquationsI as I
-use Rattle.interleaving.proofs.OncePX2.{one-each-once, sourceIn}
+use Rattle.interleaving.proofs.OncePX2.{one-each-once, source_in}
 use Rattle.runs.specs.declared.Main.{Main}
 use Rattle.runs.specs.declared.Main.TheVariants.{Plain, Mp5, Mp6}
-use Rattle.runs.specs.MainChannels.{p1'Bits, p1'Row, p1'Len}
+use Rattle.runs.specs.MainChannels.{p1'_bits, p1'_row, p1'_len}
 use Rattle.runs.specs.Chain.{Buffer}
-use Rattle.runs.specs.Paths.{p1'Of, p1'Bad}
+use Rattle.runs.specs.Paths.{p1'_of, p1'_bad}
 use Rattle.runs.specs.TableReading.{SamePath}
 use Rattle.runs.proofs.PX2.{p1'-at, p1'-length, p1'-bytes}
 use Rattle.runs.proofs.Refusals.{p1'-refused}
@@ -55,14 +55,14 @@ module _ (n f : ℕ) where
   piece-bit : (x : Buffer) (i : ℕ) → i < 8 * n → bit_at (piece n f x) i ≡ bit_at x (f * (8 * n) + i)
   piece-bit x i h =
       let e : 8 * (f * n) + i ≡ f * (8 * n) + i = omega (arith, mul_left_comm f 8 n) in
-      bitAt-part x (f * n) n i h ∙ ap (bit_at x) e
+      bit_at-part x (f * n) n i h ∙ ap (bit_at x) e
 
   pieces-same : (x y : Buffer) → Bytes x → Bytes y → f * n + n ≤ length x → f * n + n ≤ length y
       → ((i : ℕ) → i < 8 * n → bit_at x (f * (8 * n) + i) ≡ bit_at y (f * (8 * n) + i)) → piece n f x ≡ piece n f y
   pieces-same x y bx by lx ly e =
       packed-of n (piece n f x) (bit_at (piece n f y)) (piece-length x lx) (piece_bytes x bx)
       (λ i h. piece-bit x i h ∙ e i h ∙ sym (piece-bit y i h))
-      ∙ packed-bitAt n (piece n f y) (piece-length y ly) (piece_bytes y by)
+      ∙ packed-bit_at n (piece n f y) (piece-length y ly) (piece_bytes y by)
 
 -- ---- one matrix of 8 * n cells, each met once: its bits agree at the cells exactly where its bytes are the same
 
@@ -86,34 +86,34 @@ module _ (n f : ℕ) (pl sr : ℕ → ℕ) (o : EachOnce (Below (8 * n)) (8 * n)
 -- ---- P1'
 
 -- the cell of bit m of frame f
-place_in : (row f m : ℕ) → m < frameBits row
-    → place row (f * frameBits row + m) ≡ f * frameBits row + I.place (partitions row) 2 36 (runs row) (order row) m
+place_in : (row f m : ℕ) → m < frame_bits row
+    → place row (f * frame_bits row + m) ≡ f * frame_bits row + I.place (partitions row) 2 36 (runs row) (order row) m
 unfolding place
 place_in row f m h = rw (digits_div f h, digits_mod f h)
 
 -- and bit m of its coding
-pub coded_in : (b f m : ℕ) (s : ℕ → ℕ) → m < codedLength Half b → codedEach Half b s (f * codedLength Half b + m) ≡ coded rate12 b (part b f s) m
-unfolding codedEach
+pub coded_in : (b f m : ℕ) (s : ℕ → ℕ) → m < coded_length Half b → coded_each Half b s (f * coded_length Half b + m) ≡ coded rate12 b (part b f s) m
+unfolding coded_each
 coded_in b f m s h = rw (digits_div f h, digits_mod f h)
 
-module _ (k : Main) (n : ℕ) (used : p1'Row k < 2) (bits : frameBits (p1'Row k) ≡ 8 * n) (code : codedLength Half (p1'Bits k) ≡ 8 * n) (len : p1'Len k ≡ 8 * n)
-    (x s : Buffer) (bx : Bytes x) (lx : length x ≡ p1'Len k) (f : ℕ) (lf : f < 8) where
+module _ (k : Main) (n : ℕ) (used : p1'_row k < 2) (bits : frame_bits (p1'_row k) ≡ 8 * n) (code : coded_length Half (p1'_bits k) ≡ 8 * n) (len : p1'_len k ≡ 8 * n)
+    (x s : Buffer) (bx : Bytes x) (lx : length x ≡ p1'_len k) (f : ℕ) (lf : f < 8) where
   pl : ℕ → ℕ
-  pl = I.place (partitions (p1'Row k)) 2 36 (runs (p1'Row k)) (order (p1'Row k))
+  pl = I.place (partitions (p1'_row k)) 2 36 (runs (p1'_row k)) (order (p1'_row k))
 
-  once : EachOnce (Below (8 * n)) (8 * n) pl (sourceIn (p1'Row k))
+  once : EachOnce (Below (8 * n)) (8 * n) pl (source_in (p1'_row k))
   unfolding pl
-  once = rw bits at (one-each-once (p1'Row k) used)
+  once = rw bits at (one-each-once (p1'_row k) used)
 
-  cell_in : (m : ℕ) → m < 8 * n → place (p1'Row k) (f * (8 * n) + m) ≡ f * (8 * n) + pl m
+  cell_in : (m : ℕ) → m < 8 * n → place (p1'_row k) (f * (8 * n) + m) ≡ f * (8 * n) + pl m
   unfolding pl
-  cell_in m h = rw bits at (place_in (p1'Row k) f m (omega arith))
+  cell_in m h = rw bits at (place_in (p1'_row k) f m (omega arith))
 
-  wanted : (m : ℕ) → m < 8 * n → bit_at (p1'Of k s) (f * (8 * n) + pl m) ≡ coded rate12 (p1'Bits k) (part (p1'Bits k) f (bit_at s)) m
+  wanted : (m : ℕ) → m < 8 * n → bit_at (p1'_of k s) (f * (8 * n) + pl m) ≡ coded rate12 (p1'_bits k) (part (p1'_bits k) f (bit_at s)) m
   wanted m h =
-      ap (bit_at (p1'Of k s)) (sym (cell_in m h))
+      ap (bit_at (p1'_of k s)) (sym (cell_in m h))
       ∙ p1'-at k s (f * (8 * n) + m) (omega (arith, digits_lt lf h))
-      ∙ (rw code at (coded_in (p1'Bits k) f m (bit_at s) (omega arith)))
+      ∙ (rw code at (coded_in (p1'_bits k) f m (bit_at s) (omega arith)))
 
   room : f * n + n ≤ 8 * n
   room = let l : f + 1 ≤ 8 = omega arith in omega (arith, mul-le-mul_right n l)
@@ -121,15 +121,15 @@ module _ (k : Main) (n : ℕ) (used : p1'Row k < 2) (bits : frameBits (p1'Row k)
   long-x : f * n + n ≤ length x
   long-x = omega (arith, room)
 
-  long-y : f * n + n ≤ length (p1'Of k s)
+  long-y : f * n + n ≤ length (p1'_of k s)
   long-y = omega (arith, room, p1'-length k s)
 
-  same-path : SamePath k x s f ↔ (piece n f x ≡ piece n f (p1'Of k s))
+  same-path : SamePath k x s f ↔ (piece n f x ≡ piece n f (p1'_of k s))
   unfolding AtCells
   same-path = (
-    (λ w. from-cells n f pl _ once x (p1'Of k s) bx (p1'-bytes k s) long-x long-y
+    (λ w. from-cells n f pl _ once x (p1'_of k s) bx (p1'-bytes k s) long-x long-y
         (λ m h. ap (bit_at x) (sym (cell_in m h)) ∙ (rw code at w) m h ∙ sym (wanted m h))),
-    (λ e. rw code (λ m h. ap (bit_at x) (cell_in m h) ∙ to-cells n f pl _ once x (p1'Of k s) e m h ∙ wanted m h)),
+    (λ e. rw code (λ m h. ap (bit_at x) (cell_in m h) ∙ to-cells n f pl _ once x (p1'_of k s) e m h ∙ wanted m h)),
   )
 
 -- a test and its opposite
@@ -140,9 +140,9 @@ opposite false true P (h, g) to from = refl
 opposite false false P (h, g) to from = absurd (true≢false (sym (g (λ p. true≢false (sym (from p))))))
 
 module _ (x s : Buffer) (bx : Bytes x) (f : ℕ) where
-  pub compared : (k : Main) → length x ≡ p1'Len k → f < 8
-      → p1'Bad k x s f ≡ not (same (piece (p1'Len k / 8) f x) (piece (p1'Len k / 8) f (p1'Of k s)))
-  unfolding same frameBits
+  pub compared : (k : Main) → length x ≡ p1'_len k → f < 8
+      → p1'_bad k x s f ≡ not (same (piece (p1'_len k / 8) f x) (piece (p1'_len k / 8) f (p1'_of k s)))
+  unfolding same frame_bits
   compared Plain lx lf = opposite _ _ (SamePath Plain x s f) (p1'-refused Plain x s f) (λ e m h. absurd (not-suc-le-zero h)) (λ p. refl)
   compared Mp5 lx lf =
       let w = same-path Mp5 1152 (omega arith) refl refl refl x s bx lx f lf in

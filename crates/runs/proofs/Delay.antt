@@ -11,7 +11,7 @@ use lib.ListN.{length, take, drop, replicate, length-replicate, length-append, l
 use lib.Seq.{take_at, drop_at}
 use borrow.Author.Tests.{lt-ltb, le-ltb}
 use Rattle.runs.specs.declared.Main.{Main}
-use Rattle.runs.specs.MainChannels.{delayFrames, delayLen, p1Len}
+use Rattle.runs.specs.MainChannels.{delay_frames, delay_len, p1_len}
 use Rattle.runs.specs.Chain.{Buffer}
 use Rattle.runs.specs.Paths.{oldest, waiting}
 
@@ -40,58 +40,58 @@ row-zeros n (suc d) t G h =
     suc-mul' : (d n : ℕ) → suc d * n ≡ n + d * n
     suc-mul' d n = omega arith
 
-pub waiting-length : (k : Main) (m s : Buffer) → length m ≡ delayLen k → length s ≡ p1Len k → length (waiting k m s) ≡ delayLen k
+pub waiting-length : (k : Main) (m s : Buffer) → length m ≡ delay_len k → length s ≡ p1_len k → length (waiting k m s) ≡ delay_len k
 unfolding waiting
 waiting-length k m s hm hs = simp (length-drop, length-append) (omega arith)
 
-module _ (k : Main) (s : ℕ → Buffer) (fits : (t : ℕ) → length (s t) ≡ p1Len k) where
+module _ (k : Main) (s : ℕ → Buffer) (fits : (t : ℕ) → length (s t) ≡ p1_len k) where
   -- what goes on with L1 frame t: zeros, and then the frames of the L1 frame that many earlier
-  unfoldable pub goesOn : ℕ → Buffer
-  goesOn t = cond (ltb t (delayFrames k)) (replicate (p1Len k) 0) (s (t - delayFrames k))
+  unfoldable pub goes_on : ℕ → Buffer
+  goes_on t = cond (ltb t (delay_frames k)) (replicate (p1_len k) 0) (s (t - delay_frames k))
 
-  pub goes-zero : (t : ℕ) → t < delayFrames k → goesOn t ≡ replicate (p1Len k) 0
-  unfolding goesOn
-  goes-zero t h = rw (lt-ltb t (delayFrames k) h)
+  pub goes-zero : (t : ℕ) → t < delay_frames k → goes_on t ≡ replicate (p1_len k) 0
+  unfolding goes_on
+  goes-zero t h = rw (lt-ltb t (delay_frames k) h)
 
-  pub goes-frame : (t : ℕ) → goesOn (t + delayFrames k) ≡ s t
-  unfolding goesOn
+  pub goes-frame : (t : ℕ) → goes_on (t + delay_frames k) ≡ s t
+  unfolding goes_on
   goes-frame t =
-      let e : t + delayFrames k - delayFrames k ≡ t = omega arith in
-      rw (le-ltb (t + delayFrames k) (delayFrames k) (omega arith), e)
+      let e : t + delay_frames k - delay_frames k ≡ t = omega arith in
+      rw (le-ltb (t + delay_frames k) (delay_frames k) (omega arith), e)
 
-  pub goes-length : (t : ℕ) → length (goesOn t) ≡ p1Len k
-  unfolding goesOn
-  goes-length t = go (ltb t (delayFrames k))
+  pub goes-length : (t : ℕ) → length (goes_on t) ≡ p1_len k
+  unfolding goes_on
+  goes-length t = go (ltb t (delay_frames k))
     where
-      go : (b : Bool) → length (cond b (replicate (p1Len k) 0) (s (t - delayFrames k))) ≡ p1Len k
+      go : (b : Bool) → length (cond b (replicate (p1_len k) 0) (s (t - delay_frames k))) ≡ p1_len k
       go true = length-replicate _ 0
       go false = fits _
 
   -- the memory before L1 frame t
   unfoldable pub held : ℕ → Buffer
-  held zero = replicate (delayLen k) 0
+  held zero = replicate (delay_len k) 0
   held (suc t) = waiting k (held t) (s t)
 
-  pub held_fits : (t : ℕ) → length (held t) ≡ delayLen k
+  pub held_fits : (t : ℕ) → length (held t) ≡ delay_len k
   unfolding held
   held_fits zero = length-replicate _ 0
   held_fits (suc t) = waiting-length k (held t) (s t) (held_fits t) (fits t)
 
-  queue : (t : ℕ) → in_row goesOn t (delayFrames k) ++ s t ≡ goesOn t ++ in_row goesOn (suc t) (delayFrames k)
+  queue : (t : ℕ) → in_row goes_on t (delay_frames k) ++ s t ≡ goes_on t ++ in_row goes_on (suc t) (delay_frames k)
   unfolding in_row
-  queue t = ap (λ (x : Buffer). in_row goesOn t (delayFrames k) ++ x) (sym (goes-frame t)) ∙ row_more goesOn (delayFrames k) t
+  queue t = ap (λ (x : Buffer). in_row goes_on t (delay_frames k) ++ x) (sym (goes-frame t)) ∙ row_more goes_on (delay_frames k) t
 
-  pub held-is : (t : ℕ) → held t ≡ in_row goesOn t (delayFrames k)
+  pub held-is : (t : ℕ) → held t ≡ in_row goes_on t (delay_frames k)
   unfolding held waiting
-  held-is zero = sym (row-zeros (p1Len k) (delayFrames k) 0 goesOn (λ j l. goes-zero j (omega arith)))
+  held-is zero = sym (row-zeros (p1_len k) (delay_frames k) 0 goes_on (λ j l. goes-zero j (omega arith)))
   held-is (suc t) =
-      ap (λ (m : Buffer). drop (p1Len k) (m ++ s t)) (held-is t)
-      ∙ ap (drop (p1Len k)) (queue t)
-      ∙ drop_at (goesOn t) _ (p1Len k) (goes-length t)
+      ap (λ (m : Buffer). drop (p1_len k) (m ++ s t)) (held-is t)
+      ∙ ap (drop (p1_len k)) (queue t)
+      ∙ drop_at (goes_on t) _ (p1_len k) (goes-length t)
 
-  pub oldest-is : (t : ℕ) → oldest k (held t) (s t) ≡ goesOn t
+  pub oldest-is : (t : ℕ) → oldest k (held t) (s t) ≡ goes_on t
   unfolding oldest
   oldest-is t =
-      ap (λ (m : Buffer). take (p1Len k) (m ++ s t)) (held-is t)
-      ∙ ap (take (p1Len k)) (queue t)
-      ∙ take_at (goesOn t) _ (p1Len k) (goes-length t)
+      ap (λ (m : Buffer). take (p1_len k) (m ++ s t)) (held-is t)
+      ∙ ap (take (p1_len k)) (queue t)
+      ∙ take_at (goes_on t) _ (p1_len k) (goes-length t)

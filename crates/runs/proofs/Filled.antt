@@ -6,9 +6,9 @@ use native.Mathlib.Omega.{arith}
 use lib.ListN.{length, get_or, replicate, length-replicate}
 use Rattle.bits.specs.Bits.{Bytes}
 use Rattle.runs.specs.declared.Extended.TheVariants.{P3, P4}
-use Rattle.runs.specs.Lengths.{kind_of, frameLen}
+use Rattle.runs.specs.Lengths.{kind_of, frame_len}
 use Rattle.runs.specs.Chain.{Buffer}
-use Rattle.runs.specs.Lent.{Frames, Lent, ByteFrames, orZeros, filled, meant}
+use Rattle.runs.specs.Lent.{Frames, Lent, ByteFrames, or_zeros, filled, meant}
 use Rattle.runs.specs.Runs.{Fitting}
 
 zeros-at : (n j : ℕ) → ◌≡◌ {A = ℕ} (get_or (replicate n 0) j 0) 0
@@ -16,7 +16,7 @@ zeros-at zero j = refl
 zeros-at (suc n) zero = refl
 zeros-at (suc n) (suc j) = zeros-at n j
 
-pub or-zeros-bytes : (n : ℕ) (b : Buffer) → Bytes b → Bytes (orZeros n b)
+pub or-zeros-bytes : (n : ℕ) (b : Buffer) → Bytes b → Bytes (or_zeros n b)
 or-zeros-bytes n [] h j = omega (arith, zeros-at n j)
 or-zeros-bytes n (x ∷ b) h j = h j
 
@@ -33,16 +33,16 @@ filled-bytes mode f h =
       ];
     }
 
-pub or-zeros-none : (n : ℕ) (b : Buffer) → length b ≡ 0 → orZeros n b ≡ replicate n 0
+pub or-zeros-none : (n : ℕ) (b : Buffer) → length b ≡ 0 → or_zeros n b ≡ replicate n 0
 or-zeros-none n [] h = refl
 or-zeros-none n (x ∷ b) h = absurd (omega arith)
 
-pub or-zeros-some : (n : ℕ) (b : Buffer) → (length b ≡ 0 → ⊥) → orZeros n b ≡ b
+pub or-zeros-some : (n : ℕ) (b : Buffer) → (length b ≡ 0 → ⊥) → or_zeros n b ≡ b
 or-zeros-some n [] h = absurd (h refl)
 or-zeros-some n (x ∷ b) h = refl
 
 -- data mean themselves, and so do zeros handed in full
-pub or-zeros-right : (n : ℕ) (b : Buffer) → length b ≡ n → orZeros n b ≡ b
+pub or-zeros-right : (n : ℕ) (b : Buffer) → length b ≡ n → or_zeros n b ≡ b
 or-zeros-right n [] h = ap (λ (k : ℕ). replicate {A = ℕ} k 0) (sym h)
 or-zeros-right n (x ∷ b) h = refl
 
@@ -59,7 +59,7 @@ filled-right mode f r =
       p4 = or-zeros-right _ f.p4 (r.extended-right P4) i;
     }
 
-or-zeros-twice : (n : ℕ) (b : Buffer) → orZeros n (orZeros n b) ≡ orZeros n b
+or-zeros-twice : (n : ℕ) (b : Buffer) → or_zeros n (or_zeros n b) ≡ or_zeros n b
 or-zeros-twice n [] = or-zeros-right n (replicate n 0) (length-replicate {A = ℕ} n 0)
 or-zeros-twice n (x ∷ b) = refl
 
@@ -75,8 +75,8 @@ meant-twice mode l =
         p1 = f.p1;
         pids = f.pids;
         p2 = f.p2;
-        p3 = or-zeros-twice (frameLen (kind_of mode P3)) f.p3 i;
-        p4 = or-zeros-twice (frameLen (kind_of mode P4)) f.p4 i;
+        p3 = or-zeros-twice (frame_len (kind_of mode P3)) f.p3 i;
+        p4 = or-zeros-twice (frame_len (kind_of mode P4)) f.p4 i;
       };
       signal = l.signal;
     }

@@ -18,14 +18,14 @@ use Rattle.runs.specs.declared.Kind.{Kind}
 use Rattle.runs.specs.declared.State.{State}
 use Rattle.runs.specs.Answers.{place_of}
 use Rattle.runs.specs.Causes.{Size, size, at, first, judge, when, wrong}
-use Rattle.runs.specs.MainChannels.{mainOf}
-use Rattle.runs.specs.Chain.{pidsBad}
-use Rattle.runs.specs.Lengths.{kind_of, readerLen, senderLen}
+use Rattle.runs.specs.MainChannels.{main_of}
+use Rattle.runs.specs.Chain.{pids_bad}
+use Rattle.runs.specs.Lengths.{kind_of, reader_len, sender_len}
 use Rattle.runs.specs.Lent.{Lent, Matrices, Memory, Result, meant}
-use Rattle.runs.specs.Judged.{countedFirst, fillPlace, framePlace, mainPlace}
-use Rattle.runs.specs.Reading.{pushed, readAnswer, read_step, received}
-use Rattle.runs.specs.Sending.{lentSizes, sendAnswer, sendStep, sent}
-use Rattle.runs.specs.Starting.{Started, memorySizes, start, startAnswer, started, valid}
+use Rattle.runs.specs.Judged.{counted_first, fill_place, frame_place, main_place}
+use Rattle.runs.specs.Reading.{pushed, read_answer, read_step, received}
+use Rattle.runs.specs.Sending.{lent_sizes, send_answer, send_step, sent}
+use Rattle.runs.specs.Starting.{Started, memory_sizes, start, start_answer, started, valid}
 use Rattle.runs.proofs.Answered.{on_both}
 use Rattle.runs.proofs.Bounds.{counted-le, matrix-le, p1-frames-le, second-le}
 
@@ -83,18 +83,18 @@ small-counted b n bad h l = go (ltb (lowest n bad) n) refl
     go true e = met (FillNotZero (b + lowest n bad)) (omega (arith, ltb-true (lowest n bad) n e))
     go false e = not-met
 
-small-fill : (s : State) (x : Matrices) → Small (at (λ c. FillNotZero (countedFirst (mainOf s.mode) + c)) (fillPlace s x))
-unfolding fillPlace
+small-fill : (s : State) (x : Matrices) → Small (at (λ c. FillNotZero (counted_first (main_of s.mode) + c)) (fill_place s x))
+unfolding fill_place
 small-fill s x =
-    small-counted _ _ _ (counted-le (mainOf s.mode))
-    (omega (arith, matrix-le (kind_of s.mode P3), matrix-le (kind_of s.mode P4), second-le (mainOf s.mode)))
+    small-counted _ _ _ (counted-le (main_of s.mode))
+    (omega (arith, matrix-le (kind_of s.mode P3), matrix-le (kind_of s.mode P4), second-le (main_of s.mode)))
 
-below-main : (s : State) (m : Memory) (x : Matrices) → Below (mainPlace s m x)
-unfolding mainPlace
-below-main s m x = below-first _ _ (omega (arith, p1-frames-le (mainOf s.mode)))
+below-main : (s : State) (m : Memory) (x : Matrices) → Below (main_place s m x)
+unfolding main_place
+below-main s m x = below-first _ _ (omega (arith, p1-frames-le (main_of s.mode)))
 
-below-frame : (s : State) (after : Memory) → Below (framePlace s after)
-unfolding framePlace
+below-frame : (s : State) (after : Memory) → Below (frame_place s after)
+unfolding frame_place
 below-frame s after = below-first 16 _ (omega arith)
 
 -- ---- the steps: a success has place 0, a refusal that of its answer
@@ -103,29 +103,29 @@ pub small-lengths : (sizes : List Size) → length sizes < 2 ^ 24 → Small (at 
 small-lengths sizes h = small_at WrongLength (λ k. refl) (below-wrong 0 sizes (omega arith))
 
 pub start-place : (len : Kind → ℕ) (mode : ℕ) (m : Memory) → place_of (start len mode m).answer < 2 ^ 24
-unfolding start startAnswer memorySizes
+unfolding start start_answer memory_sizes
 start-place len mode m =
     on_both (λ (g : Started). place_of g.answer < 2 ^ 24) _ (started len mode) _ (omega arith)
     (judged (and (small-when (not (covered mode)) ModeNotCovered refl)
-    (and (small-lengths (memorySizes len mode m) (omega arith)) end)))
+    (and (small-lengths (memory_sizes len mode m) (omega arith)) end)))
 
-pub send-place : (s : State) (m : Memory) (l : Lent) → place_of (sendStep s m l).answer < 2 ^ 24
-unfolding sendStep sendAnswer sent lentSizes memorySizes
+pub send-place : (s : State) (m : Memory) (l : Lent) → place_of (send_step s m l).answer < 2 ^ 24
+unfolding send_step send_answer sent lent_sizes memory_sizes
 send-place s m l =
     on_both (λ (g : Result). place_of g.answer < 2 ^ 24) _ (sent s m l) _ (omega arith)
     (judged (and (small-when (not (valid s)) StateNotValid refl)
     (and (small-when (not (ltb l.frames.reserved 8)) ReservedTooHigh refl)
-    (and (small-lengths (lentSizes s.mode (meant s.mode l) ++ memorySizes senderLen s.mode m) (omega arith)) end))))
+    (and (small-lengths (lent_sizes s.mode (meant s.mode l) ++ memory_sizes sender_len s.mode m) (omega arith)) end))))
 
 pub read-place : (s : State) (m : Memory) (l : Lent) → place_of (read_step s m l).answer < 2 ^ 24
-unfolding read_step readAnswer received lentSizes memorySizes
+unfolding read_step read_answer received lent_sizes memory_sizes
 read-place s m l =
     let x = l.signal.matrices in
     on_both (λ (g : Result). place_of g.answer < 2 ^ 24) _ (received s m l) _ (omega arith)
     (judged (and (small-when (not (valid s)) StateNotValid refl)
-    (and (small-lengths (lentSizes s.mode l ++ memorySizes readerLen s.mode m) (omega arith))
+    (and (small-lengths (lent_sizes s.mode l ++ memory_sizes reader_len s.mode m) (omega arith))
     (and (small_at WrongControl (λ k. refl) (below-first 16 (strays s.mode l.signal.control) (omega arith)))
     (and (small_at MainNotCoded (λ k. refl) (below-main s m x))
-    (and (small_at PidsNotCoded (λ k. refl) (below-first 16 (pidsBad x.pm) (omega arith)))
+    (and (small_at PidsNotCoded (λ k. refl) (below-first 16 (pids_bad x.pm) (omega arith)))
     (and (small-fill s x)
     (and (small_at ExtendedNotCoded (λ k. refl) (below-cond (ltb s.age 2) nowhere (below-frame s (pushed s.mode m x)))) end))))))))

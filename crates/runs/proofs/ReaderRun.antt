@@ -13,16 +13,16 @@ use Rattle.control.proofs.Covered.{covered-lt}
 use Rattle.control.proofs.Numbers.{number-sent}
 use Rattle.runs.specs.declared.State.{State}
 use Rattle.runs.specs.Answers.{number_of}
-use Rattle.runs.specs.Lent.{Frames, Signal, Lent, Result, signalOf}
-use Rattle.runs.specs.Starting.{stateAt, next}
+use Rattle.runs.specs.Lent.{Frames, Signal, Lent, Result, signal_of}
+use Rattle.runs.specs.Starting.{state_at, next}
 use Rattle.runs.specs.Reading.{read_step, received}
 use Rattle.runs.specs.Runs.{Call, calls, Fitting}
-use Rattle.runs.specs.Defined.{defined, numberBefore, table}
+use Rattle.runs.specs.Defined.{defined, number_before, table}
 use Rattle.runs.specs.Handed.{Given, Handed, done, other, given}
-use Rattle.runs.specs.WholeRuns.{Returned, noCall}
+use Rattle.runs.specs.WholeRuns.{Returned, no_call}
 use Rattle.runs.proofs.Lists.{cons-both}
 use Rattle.runs.proofs.States.{next-at}
-use Rattle.runs.proofs.Memory.{read-refused, readMemory}
+use Rattle.runs.proofs.Memory.{read-refused, read_memory}
 use Rattle.runs.proofs.Reader.{read-given, read-gives}
 
 module _ (mode : ℕ) (cov : covered mode ≡ true) (F : ℕ → Frames) (n : ℕ)
@@ -31,11 +31,11 @@ module _ (mode : ℕ) (cov : covered mode ≡ true) (F : ℕ → Frames) (n : �
   S t = defined mode F t
 
   abbrev state : ℕ → State
-  state t = stateAt mode (numberBefore F t) t
+  state t = state_at mode (number_before F t) t
 
   pub record Got (T k : ℕ) (gs : List Call) : Type 0 where
     pub as_many : length gs ≡ k
-    pub each : (i : ℕ) → i < k → Returned mode F (T + i) (get_or gs i noCall).lent.frames (get_or gs i noCall).result
+    pub each : (i : ℕ) → i < k → Returned mode F (T + i) (get_or gs i no_call).lent.frames (get_or gs i no_call).result
 
   got-cons : (T k : ℕ) (g : Call) (gs : List Call) → Returned mode F T g.lent.frames g.result → Got (suc T) k gs → Got T (suc k) (g ∷ gs)
   got-cons T k g gs r ih =
@@ -49,43 +49,43 @@ module _ (mode : ℕ) (cov : covered mode ≡ true) (F : ℕ → Frames) (n : �
 
   -- the number read is the one sent
   state-next : (T : ℕ) → T < n → next (number_in mode (S T).control) (state T) ≡ state (suc T)
-  unfolding defined signalOf numberBefore
+  unfolding defined signal_of number_before
   state-next T h =
-      next-at mode (numberBefore F T) _ T
-      ∙ ap (λ (z : ℕ). stateAt mode z (suc T)) (number-sent mode (F T).reserved (covered-lt mode cov) (right T h).reserved-right)
+      next-at mode (number_before F T) _ T
+      ∙ ap (λ (z : ℕ). state_at mode z (suc T)) (number-sent mode (F T).reserved (covered-lt mode cov) (right T h).reserved-right)
 
   other_step : (T : ℕ) (l : Lent) (ls : List Lent) (c : Call) (cs : List Call)
-      → c ∷ cs ≡ calls read_step (state T) (readMemory mode S T) (l ∷ ls) → number_of c.result.answer ≢ 0
-      → cs ≡ calls read_step (state T) (readMemory mode S T) ls
+      → c ∷ cs ≡ calls read_step (state T) (read_memory mode S T) (l ∷ ls) → number_of c.result.answer ≢ 0
+      → cs ≡ calls read_step (state T) (read_memory mode S T) ls
   unfolding calls
   other_step T l ls c cs e ne =
       let (e₁, e₂) = cons-both c _ cs _ e in
-      let same = read-refused (state T) (readMemory mode S T) l (λ z. ne (ap (λ (x : Call). number_of x.result.answer) e₁ ∙ z)) in
+      let same = read-refused (state T) (read_memory mode S T) l (λ z. ne (ap (λ (x : Call). number_of x.result.answer) e₁ ∙ z)) in
       e₂ ∙ ap (λ (r : Result). calls read_step r.state r.memory ls) same
 
   given-step : (T : ℕ) → T < n → (x : Signal) → x ≡ S T → (l : Lent) (ls : List Lent) (c : Call) (cs : List Call)
-      → c ∷ cs ≡ calls read_step (state T) (readMemory mode S T) (l ∷ ls) → Given mode x c.lent
-      → Returned mode F T c.lent.frames c.result × (cs ≡ calls read_step (state (suc T)) (readMemory mode S (suc T)) ls)
-  unfolding calls received readMemory
+      → c ∷ cs ≡ calls read_step (state T) (read_memory mode S T) (l ∷ ls) → Given mode x c.lent
+      → Returned mode F T c.lent.frames c.result × (cs ≡ calls read_step (state (suc T)) (read_memory mode S (suc T)) ls)
+  unfolding calls received read_memory
   given-step T h x q l ls c cs e g = (
     rw (ap (λ (y : Call). y.result) e₁ ∙ done-is, ap (λ (y : Call). y.lent.frames) e₁) (read-gives mode cov F n right T h l.frames),
     (cons-both c _ cs _ e).1 ∙ ap (λ (r : Result). calls read_step r.state r.memory ls) done-is
-        ∙ ap (λ (r : State). calls read_step r (readMemory mode S (suc T)) ls) (state-next T h),
+        ∙ ap (λ (r : State). calls read_step r (read_memory mode S (suc T)) ls) (state-next T h),
   )
     where
-      e₁ : c ≡ record { lent = l; result = read_step (state T) (readMemory mode S T) l }
+      e₁ : c ≡ record { lent = l; result = read_step (state T) (read_memory mode S T) l }
       e₁ = (cons-both c _ cs _ e).0
 
       mine : Given mode (S T) l
       mine = subst (λ (y : Signal). Given mode y l) q (subst (λ (y : Call). Given mode x y.lent) e₁ g)
 
-      done-is : read_step (state T) (readMemory mode S T) l
-          ≡ received (state T) (readMemory mode S T) (record { frames = l.frames; signal = S T })
+      done-is : read_step (state T) (read_memory mode S T) l
+          ≡ received (state T) (read_memory mode S T) (record { frames = l.frames; signal = S T })
       done-is = read-given mode cov F n right T h l mine
 
   pub read-run : {xs : List Signal} {cs gs : List Call} → Handed mode xs cs gs
       → (k T : ℕ) → T + k ≡ n → xs ≡ table T k S
-      → (ls : List Lent) → cs ≡ calls read_step (state T) (readMemory mode S T) ls → Got T k gs
+      → (ls : List Lent) → cs ≡ calls read_step (state T) (read_memory mode S T) ls → Got T k gs
   unfolding table calls
   read-run done zero T e q ls c = record { as_many = refl; each = λ i h. absurd (not-suc-le-zero h) }
   read-run done (suc k) T e q ls c = absurd (cons-ne-nil _ _ (sym q))

@@ -7,47 +7,47 @@ use native.Mathlib.Nat.{mod-lt, div-add-mod', mul-le-mul_right, div-lt_iff_lt-mu
 use native.Mathlib.Omega.{arith}
 use lib.ListN.{length, length-append}
 use Rattle.bits.specs.Bits.{bit_at}
-use Rattle.bits.proofs.Parts.{bitAt-front, bitAt-behind}
+use Rattle.bits.proofs.Parts.{bit_at-front, bit_at-behind}
 use Rattle.coding.specs.declared.Rate.TheVariants.{Half}
 use Rattle.coding.specs.Buffers.{Long}
-use Rattle.coding.specs.Channel.{channel, unchannel, noFrame}
+use Rattle.coding.specs.Channel.{channel, unchannel, no_frame}
 use Rattle.coding.proofs.Channel.{unchannel-is, frame-there, frame-passes, empty-passes}
-use Rattle.interleaving.specs.PX.{codedBytes, codedBits, place}
+use Rattle.interleaving.specs.PX.{coded_bytes, coded_bits, place}
 use Rattle.interleaving.specs.FinderPX.{source}
 use Rattle.interleaving.proofs.OncePX.{px-each-once}
 use Rattle.runs.specs.declared.Kind.{Kind}
 use Rattle.runs.specs.declared.Kind.TheVariants.{Unused, Narrow, Wide}
-use Rattle.runs.specs.Lengths.{frameBits, tableRow, frameLen, matrixLen, senderLen}
-use Rattle.runs.specs.Chain.{Buffer, pxOf, mem_of}
+use Rattle.runs.specs.Lengths.{frame_bits, table_row, frame_len, matrix_len, sender_len}
+use Rattle.runs.specs.Chain.{Buffer, px_of, mem_of}
 
 -- ---- lengths
 
 -- the coded bits of an L1 frame: as many as its matrices have cells, and half as many as the internal matrix has
 abbrev pub bits_of : Kind → ℕ
-bits_of k = codedBits (tableRow k)
+bits_of k = coded_bits (table_row k)
 
-pub matrix-bits : (k : Kind) → bits_of k ≡ 8 * matrixLen k
-unfolding codedBytes
+pub matrix-bits : (k : Kind) → bits_of k ≡ 8 * matrix_len k
+unfolding coded_bytes
 matrix-bits Unused = refl
 matrix-bits Narrow = refl
 matrix-bits Wide = refl
 
-pub memory-bits : (k : Kind) → 2 * bits_of k ≡ 8 * senderLen k
-unfolding codedBytes
+pub memory-bits : (k : Kind) → 2 * bits_of k ≡ 8 * sender_len k
+unfolding coded_bytes
 memory-bits Unused = refl
 memory-bits Narrow = refl
 memory-bits Wide = refl
 
 -- ---- the place map
 
-pub inside : (k : Kind) (i : ℕ) → i < 2 * bits_of k → place (tableRow k) i < 2 * bits_of k
-unfolding codedBytes
+pub inside : (k : Kind) (i : ℕ) → i < 2 * bits_of k → place (table_row k) i < 2 * bits_of k
+unfolding coded_bytes
 inside Unused i h = absurd (not-suc-le-zero h)
 inside Narrow i h = (px-each-once 0 (omega arith)).there i h
 inside Wide i h = (px-each-once 1 (omega arith)).there i h
 
-pub undo : (k : Kind) (i : ℕ) → i < 2 * bits_of k → source (tableRow k) (place (tableRow k) i) ≡ i
-unfolding codedBytes
+pub undo : (k : Kind) (i : ℕ) → i < 2 * bits_of k → source (table_row k) (place (table_row k) i) ≡ i
+unfolding coded_bytes
 undo Unused i h = absurd (not-suc-le-zero h)
 undo Narrow i h = (px-each-once 0 (omega arith)).there_back i h
 undo Wide i h = (px-each-once 1 (omega arith)).there_back i h
@@ -57,16 +57,16 @@ undo Wide i h = (px-each-once 1 (omega arith)).there_back i h
 pub long : (n : ℕ) → 12 ≤ n → n % 2 ≡ 0 → Long n
 long n h e = record { enough = h; even = e }
 
-pub decoded : (k : Kind) (f y : ℕ → ℕ) → ((i : ℕ) → f i < 2) → ((j : ℕ) → j < bits_of k → y j ≡ channel Half (frameBits k) f j)
-    → (n : ℕ) → n < 8 * frameLen k → unchannel Half (frameBits k) y n ≡ f n
-unfolding codedBytes
+pub decoded : (k : Kind) (f y : ℕ → ℕ) → ((i : ℕ) → f i < 2) → ((j : ℕ) → j < bits_of k → y j ≡ channel Half (frame_bits k) f j)
+    → (n : ℕ) → n < 8 * frame_len k → unchannel Half (frame_bits k) y n ≡ f n
+unfolding coded_bytes
 decoded Unused f y b same n h = absurd (not-suc-le-zero h)
 decoded Narrow f y b same n h = unchannel-is Half 2304 (long 2304 (omega arith) refl) f y 8 b same n h
 decoded Wide f y b same n h = unchannel-is Half 4608 (long 4608 (omega arith) refl) f y 8 b same n h
 
-pub none-bad : (k : Kind) (f y : ℕ → ℕ) → ((i : ℕ) → f i < 2) → ((j : ℕ) → j < bits_of k → y j ≡ channel Half (frameBits k) f j)
-    → (n : ℕ) → n < 8 → noFrame Half (frameBits k) y n ≡ false
-unfolding codedBytes
+pub none-bad : (k : Kind) (f y : ℕ → ℕ) → ((i : ℕ) → f i < 2) → ((j : ℕ) → j < bits_of k → y j ≡ channel Half (frame_bits k) f j)
+    → (n : ℕ) → n < 8 → no_frame Half (frame_bits k) y n ≡ false
+unfolding coded_bytes
 none-bad Unused f y b same n h = empty-passes Half y n
 none-bad Narrow f y b same n h =
     let l = long 2304 (omega arith) refl in frame-passes Half 2304 l y n (frame-there Half 2304 l f y 8 b same n h)
@@ -88,13 +88,13 @@ three-bits H L e x lens p h =
     go : (q r : ℕ) → q < 3 → r < H → p ≡ q * H + r → bit_at (x 0 ++ x 1 ++ x 2) p ≡ bit_at (x q) r
     go zero r l k d =
         let z : p ≡ r = omega arith in
-        bitAt-front (x 0 ++ x 1) (x 2) p (omega (arith, two)) ∙ bitAt-front (x 0) (x 1) p (omega (arith, lens 0)) ∙ ap (bit_at (x 0)) z
+        bit_at-front (x 0 ++ x 1) (x 2) p (omega (arith, two)) ∙ bit_at-front (x 0) (x 1) p (omega (arith, lens 0)) ∙ ap (bit_at (x 0)) z
     go (suc zero) r l k d =
         let z : p ≡ 8 * length (x 0) + r = omega (arith, lens 0) in
-        bitAt-front (x 0 ++ x 1) (x 2) p (omega (arith, two)) ∙ ap (bit_at (x 0 ++ x 1)) z ∙ bitAt-behind (x 0) (x 1) r
+        bit_at-front (x 0 ++ x 1) (x 2) p (omega (arith, two)) ∙ ap (bit_at (x 0 ++ x 1)) z ∙ bit_at-behind (x 0) (x 1) r
     go (suc (suc zero)) r l k d =
         let z : p ≡ 8 * length (x 0 ++ x 1) + r = omega (arith, two) in
-        ap (bit_at (x 0 ++ x 1 ++ x 2)) z ∙ bitAt-behind (x 0 ++ x 1) (x 2) r
+        ap (bit_at (x 0 ++ x 1 ++ x 2)) z ∙ bit_at-behind (x 0 ++ x 1) (x 2) r
     go (suc (suc (suc q))) r l k d = absurd (omega arith)
 
 pub in-half : (H t j : ℕ) → j < H → t % 2 * H + j < 2 * H
@@ -111,4 +111,4 @@ unfoldable pub window : Kind → ℕ → Buffer → Buffer → Buffer → Buffer
 window k t m a b c =
     let m₁ = mem_of k (t % 2) m a in
     let m₂ = mem_of k (suc t % 2) m₁ b in
-    pxOf k (t % 2) m a ++ pxOf k (suc t % 2) m₁ b ++ pxOf k (suc (suc t) % 2) m₂ c
+    px_of k (t % 2) m a ++ px_of k (suc t % 2) m₁ b ++ px_of k (suc (suc t) % 2) m₂ c

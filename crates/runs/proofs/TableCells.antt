@@ -13,13 +13,13 @@ use Rattle.runs.specs.declared.Answer.TheVariants.{FillNotZero}
 use Rattle.runs.specs.declared.State.{State}
 use Rattle.runs.specs.declared.Extended.TheVariants.{P3, P4}
 use Rattle.runs.specs.declared.Kind.{Kind}
-use Rattle.runs.specs.MainChannels.{mainOf, p1'Len}
-use Rattle.runs.specs.Lengths.{kind_of, matrixLen}
-use Rattle.runs.specs.Chain.{Buffer, fillBad, frameBad}
-use Rattle.runs.specs.Paths.{delayBad}
+use Rattle.runs.specs.MainChannels.{main_of, p1'_len}
+use Rattle.runs.specs.Lengths.{kind_of, matrix_len}
+use Rattle.runs.specs.Chain.{Buffer, fill_bad, frame_bad}
+use Rattle.runs.specs.Paths.{delay_bad}
 use Rattle.runs.specs.Causes.{at}
-use Rattle.runs.specs.Lent.{Matrices, Memory, matrixOf, p1'In}
-use Rattle.runs.specs.Judged.{countedFirst, fillPlace, framePlace}
+use Rattle.runs.specs.Lent.{Matrices, Memory, matrix_of, p1'_in}
+use Rattle.runs.specs.Judged.{counted_first, fill_place, frame_place}
 use Rattle.runs.specs.Reading.{pushed}
 use Rattle.runs.specs.TableReading.{FillWrong, FrameWrong, OnlyFill, in-px1, in-px2, in-p1', no-p3, no-p4}
 use Rattle.runs.proofs.Refusals.{delay-refused, fill-refused, frame_refused}
@@ -38,73 +38,73 @@ beside-true n f g k = go (ltb k n) refl
 -- ---- 7
 
 module _ (k : Kind) (age : ℕ) (x : Buffer) (c : ℕ) where
-  fill-to : fillBad k age x c ≡ true → OnlyFill k age c × (bit_at x c ≡ 1)
+  fill-to : fill_bad k age x c ≡ true → OnlyFill k age c × (bit_at x c ≡ 1)
   fill-to e =
       let (h, n, b) = (fill-refused k age x c).0 e in
       (record { early = h; unwritten = λ i l q. n i (omega arith) (sym q) }, b)
 
-  fill-from : OnlyFill k age c → bit_at x c ≡ 1 → fillBad k age x c ≡ true
+  fill-from : OnlyFill k age c → bit_at x c ≡ 1 → fill_bad k age x c ≡ true
   fill-from o b = (fill-refused k age x c).1 (o.early, (λ i l q. o.unwritten i (omega arith) (sym q)), b)
 
 module _ (s : State) (x : Matrices) where
   abbrev b : ℕ
-  b = countedFirst (mainOf s.mode)
+  b = counted_first (main_of s.mode)
 
   abbrev n3 : ℕ
-  n3 = 8 * matrixLen (kind_of s.mode P3)
+  n3 = 8 * matrix_len (kind_of s.mode P3)
 
   abbrev n4 : ℕ
-  n4 = 8 * matrixLen (kind_of s.mode P4)
+  n4 = 8 * matrix_len (kind_of s.mode P4)
 
   abbrev n5 : ℕ
-  n5 = 8 * p1'Len (mainOf s.mode)
+  n5 = 8 * p1'_len (main_of s.mode)
 
   bad3 : ℕ → Bool
-  bad3 = fillBad (kind_of s.mode P3) s.age (matrixOf s.mode x P3)
+  bad3 = fill_bad (kind_of s.mode P3) s.age (matrix_of s.mode x P3)
 
   bad4 : ℕ → Bool
-  bad4 = fillBad (kind_of s.mode P4) s.age (matrixOf s.mode x P4)
+  bad4 = fill_bad (kind_of s.mode P4) s.age (matrix_of s.mode x P4)
 
   bad5 : ℕ → Bool
-  bad5 = delayBad (mainOf s.mode) s.age (p1'In s.mode x)
+  bad5 = delay_bad (main_of s.mode) s.age (p1'_in s.mode x)
 
   bads : ℕ → Bool
   bads = beside n3 bad3 (beside n4 bad4 bad5)
 
-  fill-at : Decides (λ c. FillWrong s x (b + c)) (fillPlace s x)
-  unfolding fillPlace bads bad3 bad4 bad5
+  fill-at : Decides (λ c. FillWrong s x (b + c)) (fill_place s x)
+  unfolding fill_place bads bad3 bad4 bad5
   fill-at = first-decides (n3 + (n4 + n5)) bads (λ c. FillWrong s x (b + c)) to from
     where
       to-rest : (c j : ℕ) → c < n3 + (n4 + n5) → c ≡ n3 + j → beside n4 bad4 bad5 j ≡ true → FillWrong s x (b + c)
       to-rest c j h q e =
           elim (beside-true n4 bad4 bad5 j e) [
-            | inl w ↦ let (o, v) = fill-to (kind_of s.mode P4) s.age (matrixOf s.mode x P4) j w.1 in in-px2 j (ap (λ (z : ℕ). b + z) q) w.0 o v
+            | inl w ↦ let (o, v) = fill-to (kind_of s.mode P4) s.age (matrix_of s.mode x P4) j w.1 in in-px2 j (ap (λ (z : ℕ). b + z) q) w.0 o v
             | inr w ↦
                 let i : ℕ = w.0 in
                 let r : j ≡ n4 + i = w.1 in
-                let (a, v) = (delay-refused (mainOf s.mode) s.age (p1'In s.mode x) i).0 w.2 in
+                let (a, v) = (delay-refused (main_of s.mode) s.age (p1'_in s.mode x) i).0 w.2 in
                 in-p1' i (ap (λ (z : ℕ). b + z) (q ∙ ap (λ (z : ℕ). n3 + z) r)) (omega arith) a v
           ]
 
       to : (c : ℕ) → c < n3 + (n4 + n5) → bads c ≡ true → FillWrong s x (b + c)
       to c h e =
           elim (beside-true n3 bad3 (beside n4 bad4 bad5) c e) [
-            | inl w ↦ let (o, v) = fill-to (kind_of s.mode P3) s.age (matrixOf s.mode x P3) c w.1 in in-px1 c refl w.0 o v
+            | inl w ↦ let (o, v) = fill-to (kind_of s.mode P3) s.age (matrix_of s.mode x P3) c w.1 in in-px1 c refl w.0 o v
             | inr w ↦ to-rest c w.0 h w.1 w.2
           ]
 
       from : (c : ℕ) → FillWrong s x (b + c) → (c < n3 + (n4 + n5)) × (bads c ≡ true)
       from c (in-px1 j q l o v) =
           let z : j ≡ c = omega arith in
-          (omega arith, subst (λ (i : ℕ). bads i ≡ true) z (in-first n3 bad3 (beside n4 bad4 bad5) j l ∙ fill-from (kind_of s.mode P3) s.age (matrixOf s.mode x P3) j o v))
+          (omega arith, subst (λ (i : ℕ). bads i ≡ true) z (in-first n3 bad3 (beside n4 bad4 bad5) j l ∙ fill-from (kind_of s.mode P3) s.age (matrix_of s.mode x P3) j o v))
       from c (in-px2 j q l o v) =
           let z : n3 + j ≡ c = omega arith in
-          (omega arith, subst (λ (i : ℕ). bads i ≡ true) z (in-second n3 bad3 (beside n4 bad4 bad5) j ∙ in-first n4 bad4 bad5 j l ∙ fill-from (kind_of s.mode P4) s.age (matrixOf s.mode x P4) j o v))
+          (omega arith, subst (λ (i : ℕ). bads i ≡ true) z (in-second n3 bad3 (beside n4 bad4 bad5) j ∙ in-first n4 bad4 bad5 j l ∙ fill-from (kind_of s.mode P4) s.age (matrix_of s.mode x P4) j o v))
       from c (in-p1' j q l a v) =
           let z : n3 + (n4 + j) ≡ c = omega arith in (
             omega arith,
             subst (λ (i : ℕ). bads i ≡ true) z
-                (in-second n3 bad3 (beside n4 bad4 bad5) (n4 + j) ∙ in-second n4 bad4 bad5 j ∙ (delay-refused (mainOf s.mode) s.age (p1'In s.mode x) j).1 (a, v)),
+                (in-second n3 bad3 (beside n4 bad4 bad5) (n4 + j) ∙ in-second n4 bad4 bad5 j ∙ (delay-refused (main_of s.mode) s.age (p1'_in s.mode x) j).1 (a, v)),
           )
 
   -- counted on from the cells of PM
@@ -126,7 +126,7 @@ module _ (s : State) (x : Matrices) where
       let h : c ≤ i = l i (subst (FillWrong s x) q w) in
       omega arith)
 
-  pub fill-decides : Decides (FillWrong s x) (counted (fillPlace s x))
+  pub fill-decides : Decides (FillWrong s x) (counted (fill_place s x))
   fill-decides = count-on fill-at
 
   pub at-counted : (o : Option ℕ) → at (λ c. FillNotZero (b + c)) o ≡ at FillNotZero (counted o)
@@ -141,17 +141,17 @@ module _ (s : State) (m : Memory) (x : Matrices) where
   after = pushed s.mode m x
 
   no3 : ℕ → Bool
-  no3 = frameBad (kind_of s.mode P3) s.half after.for3
+  no3 = frame_bad (kind_of s.mode P3) s.half after.for3
 
   no4 : ℕ → Bool
-  no4 = frameBad (kind_of s.mode P4) s.half after.for4
+  no4 = frame_bad (kind_of s.mode P4) s.half after.for4
 
   aged-two : {f : ℕ} → FrameWrong s m x f → 2 ≤ s.age
   aged-two (no-p3 a h n) = a
   aged-two (no-p4 a g q h n) = a
 
-  frames-decide : 2 ≤ s.age → Decides (FrameWrong s m x) (framePlace s after)
-  unfolding framePlace no3 no4
+  frames-decide : 2 ≤ s.age → Decides (FrameWrong s m x) (frame_place s after)
+  unfolding frame_place no3 no4
   frames-decide a = first-decides 16 (beside 8 no3 no4) (FrameWrong s m x) to from
     where
       to : (f : ℕ) → f < 16 → beside 8 no3 no4 f ≡ true → FrameWrong s m x f
@@ -168,9 +168,9 @@ module _ (s : State) (m : Memory) (x : Matrices) where
       from f (no-p4 a g q h n) =
           (omega arith, ap (beside 8 no3 no4) q ∙ in-second 8 no3 no4 g ∙ (frame_refused (kind_of s.mode P4) s.half after.for4 g).1 n)
 
-  pub extended-decides : Decides (FrameWrong s m x) (cond (ltb s.age 2) none (framePlace s after))
+  pub extended-decides : Decides (FrameWrong s m x) (cond (ltb s.age 2) none (frame_place s after))
   extended-decides = go (ltb s.age 2) refl
     where
-      go : (t : Bool) → ltb s.age 2 ≡ t → Decides (FrameWrong s m x) (cond t none (framePlace s after))
+      go : (t : Bool) → ltb s.age 2 ≡ t → Decides (FrameWrong s m x) (cond t none (frame_place s after))
       go true e = nowhere (λ f w. let h = aged-two w in let l : s.age < 2 = ltb-true s.age 2 e in omega arith)
       go false e = frames-decide (ltb-false s.age 2 e)

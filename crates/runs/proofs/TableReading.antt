@@ -9,14 +9,14 @@ use Rattle.control.proofs.Covered.{covered-lt}
 use Rattle.runs.specs.declared.Answer.{Answer}
 use Rattle.runs.specs.declared.Answer.TheVariants.{Success, StateNotValid, WrongLength, WrongControl, MainNotCoded, PidsNotCoded, FillNotZero, ExtendedNotCoded}
 use Rattle.runs.specs.declared.State.{State}
-use Rattle.runs.specs.Lengths.{readerLen}
+use Rattle.runs.specs.Lengths.{reader_len}
 use Rattle.runs.specs.Answers.{number_of}
 use Rattle.runs.specs.Causes.{at, judge, when}
 use Rattle.runs.specs.Lent.{Lent, Matrices, Memory, Result}
 use Rattle.runs.specs.Starting.{valid}
 use Rattle.runs.specs.Sending.{refused}
-use Rattle.runs.specs.Judged.{fillPlace}
-use Rattle.runs.specs.Reading.{readAnswer, read_step, received, unnumbered}
+use Rattle.runs.specs.Judged.{fill_place}
+use Rattle.runs.specs.Reading.{read_answer, read_step, received, unnumbered}
 use Rattle.runs.specs.Table.{Follows}
 use Rattle.runs.specs.TableStates.{Exact, LengthWrong, Valid}
 use Rattle.runs.specs.TableReading.{ControlWrong, FillWrong, FrameWrong, MainWrong, PidsWrong, ReadMet, ReadTable, Tables, read-2, read-3, read-4, read-5, read-6, read-7, read-8}
@@ -32,7 +32,7 @@ module _ (s : State) (m : Memory) (l : Lent) where
   x = l.signal.matrices
 
   read-each : (P : Answer → Type 0) → (¬ Valid s → P StateNotValid)
-      → ((k : ℕ) → LengthWrong Exact readerLen s.mode m l k → P (WrongLength k))
+      → ((k : ℕ) → LengthWrong Exact reader_len s.mode m l k → P (WrongLength k))
       → ((b : ℕ) → ControlWrong s.mode l.signal.control b → P (WrongControl b))
       → ((f : ℕ) → MainWrong s m x f → P (MainNotCoded f))
       → ((f : ℕ) → PidsWrong x f → P (PidsNotCoded f))
@@ -52,8 +52,8 @@ module _ (s : State) (m : Memory) (l : Lent) where
       when (not true) StateNotValid ∷ at WrongLength o₃ ∷ at WrongControl o₄ ∷ at MainNotCoded o₅ ∷ at PidsNotCoded o₆ ∷ at FillNotZero o₇ ∷ at ExtendedNotCoded o₈ ∷ []
 
   -- a state that is not valid
-  not_valid : valid s ≡ false → Outcome (ReadMet s m l) (readAnswer s m l)
-  unfolding readAnswer judge
+  not_valid : valid s ≡ false → Outcome (ReadMet s m l) (read_answer s m l)
+  unfolding read_answer judge
   not_valid e =
       rw e
       (winning StateNotValid (read-2 (false-not (valid s) (valid-of s) e))
@@ -62,7 +62,7 @@ module _ (s : State) (m : Memory) (l : Lent) where
 
   -- a valid one: the first row that is met
   read-outcome : Valid s → {o₃ o₄ o₅ o₆ o₇ o₈ : Option ℕ}
-      → Decides (LengthWrong Exact readerLen s.mode m l) o₃ → Decides (ControlWrong s.mode l.signal.control) o₄
+      → Decides (LengthWrong Exact reader_len s.mode m l) o₃ → Decides (ControlWrong s.mode l.signal.control) o₄
       → Decides (MainWrong s m x) o₅ → Decides (PidsWrong x) o₆ → Decides (FillWrong s x) o₇ → Decides (FrameWrong s m x) o₈
       → Outcome (ReadMet s m l) (judge (read-causes o₃ o₄ o₅ o₆ o₇ o₈))
   unfolding judge read-causes
@@ -86,33 +86,33 @@ module _ (s : State) (m : Memory) (l : Lent) where
       (read-each (NoSooner (ExtendedNotCoded k)) (λ h. absurd (h v)) (λ k h. absurd (n3 k h)) (λ k h. absurd (n4 k h)) (λ k h. absurd (n5 k h)) (λ k h. absurd (n6 k h)) (λ k h. absurd (n7 k h)) (λ i h. (omega arith, λ q. least i h)))
   read-outcome v (nowhere n3) (nowhere n4) (nowhere n5) (nowhere n6) (nowhere n7) (nowhere n8) = none-met (read-each (λ a. ⊥) (λ h. h v) n3 n4 n5 n6 n7 n8)
 
-  read-judged : (b : Bool) → valid s ≡ b → Outcome (ReadMet s m l) (readAnswer s m l)
-  unfolding readAnswer read-causes
+  read-judged : (b : Bool) → valid s ≡ b → Outcome (ReadMet s m l) (read_answer s m l)
+  unfolding read_answer read-causes
   read-judged false e = not_valid e
   read-judged true e =
       let v = valid-is s e in
-      rw (e, at-counted s x (fillPlace s x))
+      rw (e, at-counted s x (fill_place s x))
       (read-outcome v (read-lengths s.mode m l) (control-decides s.mode l.signal.control (covered-lt s.mode (covered_of v.mode-covered)))
       (main-decides s m x) (pids-decides x) (fill-decides s x) (extended-decides s m x))
 
-  read-follows : Follows (ReadMet s m l) (readAnswer s m l)
+  read-follows : Follows (ReadMet s m l) (read_answer s m l)
   read-follows =
       follows
       (λ h. read-each (λ a. a ≡ Success → ⊥) (λ w e. zero_one (ap number_of e)) (λ k w e. zero_one (ap number_of e)) (λ k w e. zero_one (ap number_of e))
       (λ k w e. zero_one (ap number_of e)) (λ k w e. zero_one (ap number_of e)) (λ k w e. zero_one (ap number_of e)) (λ k w e. zero_one (ap number_of e)) Success h refl)
       (read-judged (valid s) refl)
 
-  pub read_answer : (read_step s m l).answer ≡ readAnswer s m l
+  pub read_answer : (read_step s m l).answer ≡ read_answer s m l
   unfolding read_step received
-  read_answer = answer-out (λ (r : Result). r.answer) (readAnswer s m l) (received s m l) _ refl refl
+  read_answer = answer-out (λ (r : Result). r.answer) (read_answer s m l) (received s m l) _ refl refl
 
   pub read_table : ReadTable s m l
   unfolding read_step
   read_table =
       record {
         answers = subst (Follows (ReadMet s m l)) (sym read_answer) read-follows;
-        done = λ e. success-done (readAnswer s m l) _ _ (sym read_answer ∙ e);
-        left = λ n. not-success (readAnswer s m l) _ _ (λ e. n (read_answer ∙ e)) ∙ ap (refused s m (unnumbered l)) (sym read_answer);
+        done = λ e. success-done (read_answer s m l) _ _ (sym read_answer ∙ e);
+        left = λ n. not-success (read_answer s m l) _ _ (λ e. n (read_answer ∙ e)) ∙ ap (refused s m (unnumbered l)) (sym read_answer);
       }
 
 pub tables : Tables

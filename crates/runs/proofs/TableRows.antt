@@ -22,15 +22,15 @@ use Rattle.coding.proofs.Channel.{empty-frame, no-frame}
 use Rattle.runs.specs.declared.State.{State}
 use Rattle.runs.specs.declared.Main.{Main}
 use Rattle.runs.specs.declared.Main.TheVariants.{Plain, Mp5, Mp6}
-use Rattle.runs.specs.MainChannels.{mainOf, p1Frames, p1'Bits, delayFrames}
-use Rattle.runs.specs.Lengths.{readerLen}
-use Rattle.runs.specs.Chain.{Buffer, p1Bad, pidsBad}
-use Rattle.runs.specs.Paths.{p1'Bad, p1'Cells}
+use Rattle.runs.specs.MainChannels.{main_of, p1_frames, p1'_bits, delay_frames}
+use Rattle.runs.specs.Lengths.{reader_len}
+use Rattle.runs.specs.Chain.{Buffer, p1_bad, pids_bad}
+use Rattle.runs.specs.Paths.{p1'_bad, p1'_cells}
 use Rattle.runs.specs.Causes.{first, wrong}
-use Rattle.runs.specs.Lent.{Lent, Matrices, Memory, p1'In}
-use Rattle.runs.specs.Starting.{memorySizes}
-use Rattle.runs.specs.Sending.{lentSizes}
-use Rattle.runs.specs.Judged.{due, mainBad, mainPlace}
+use Rattle.runs.specs.Lent.{Lent, Matrices, Memory, p1'_in}
+use Rattle.runs.specs.Starting.{memory_sizes}
+use Rattle.runs.specs.Sending.{lent_sizes}
+use Rattle.runs.specs.Judged.{due, main_bad, main_place}
 use Rattle.runs.specs.TableStates.{Exact, LengthWrong}
 use Rattle.runs.specs.TableReading.{ControlWrong, MainWrong, PidsWrong, no_block, other-number, no-p1, no-second-path, paths-disagree, no-p2}
 use Rattle.runs.proofs.Rows.{long}
@@ -58,9 +58,9 @@ not-true false e = refl
 -- ---- 3
 
 pub read-lengths : (mode : ℕ) (m : Memory) (l : Lent)
-    → Decides (LengthWrong Exact readerLen mode m l) (wrong 0 (lentSizes mode l ++ memorySizes readerLen mode m))
-unfolding lentSizes memorySizes
-read-lengths mode m l = sizes-decide Exact readerLen mode m l _ _ ((λ e. e), (λ e. e)) ((λ e. e), (λ e. e))
+    → Decides (LengthWrong Exact reader_len mode m l) (wrong 0 (lent_sizes mode l ++ memory_sizes reader_len mode m))
+unfolding lent_sizes memory_sizes
+read-lengths mode m l = sizes-decide Exact reader_len mode m l _ _ ((λ e. e), (λ e. e)) ((λ e. e), (λ e. e))
 
 -- ---- 4
 
@@ -129,56 +129,56 @@ module _ (mode : ℕ) (control : Buffer) (hm : mode < 64) where
 
 -- ---- 5
 
-second-refused : (k : Main) (x s : Buffer) (f : ℕ) → ¬ IsFrame Half (p1'Bits k) (p1'Cells k x) f → p1'Bad k x s f ≡ true
-unfolding p1'Bad
-second-refused Plain x s f n = absurd (n (empty-frame Half (p1'Cells Plain x) f))
-second-refused Mp5 x s f n = or_left _ _ ((no-frame Half 4608 (long 4608 (omega arith) refl) (p1'Cells Mp5 x) f).1 n)
-second-refused Mp6 x s f n = or_left _ _ ((no-frame Half 9216 (long 9216 (omega arith) refl) (p1'Cells Mp6 x) f).1 n)
+second-refused : (k : Main) (x s : Buffer) (f : ℕ) → ¬ IsFrame Half (p1'_bits k) (p1'_cells k x) f → p1'_bad k x s f ≡ true
+unfolding p1'_bad
+second-refused Plain x s f n = absurd (n (empty-frame Half (p1'_cells Plain x) f))
+second-refused Mp5 x s f n = or_left _ _ ((no-frame Half 4608 (long 4608 (omega arith) refl) (p1'_cells Mp5 x) f).1 n)
+second-refused Mp6 x s f n = or_left _ _ ((no-frame Half 9216 (long 9216 (omega arith) refl) (p1'_cells Mp6 x) f).1 n)
 
 module _ (s : State) (m : Memory) (x : Matrices) where
   abbrev k : Main
-  k = mainOf s.mode
+  k = main_of s.mode
 
   abbrev disagrees : ℕ → Bool
-  disagrees f = p1'Bad k (p1'In s.mode x) (due s.mode m x) f
+  disagrees f = p1'_bad k (p1'_in s.mode x) (due s.mode m x) f
 
   abbrev late : ℕ → Bool
-  late f = not (ltb s.age (delayFrames k)) && disagrees f
+  late f = not (ltb s.age (delay_frames k)) && disagrees f
 
-  late-bad : (f : ℕ) → delayFrames k ≤ s.age → disagrees f ≡ true → late f ≡ true
-  late-bad f h e = rw (le-ltb s.age (delayFrames k) h, e)
+  late-bad : (f : ℕ) → delay_frames k ≤ s.age → disagrees f ≡ true → late f ≡ true
+  late-bad f h e = rw (le-ltb s.age (delay_frames k) h, e)
 
-  pub main-decides : Decides (MainWrong s m x) (mainPlace s m x)
-  unfolding mainPlace
-  main-decides = first-decides (p1Frames k + 1) (mainBad s m x) (MainWrong s m x) to from
+  pub main-decides : Decides (MainWrong s m x) (main_place s m x)
+  unfolding main_place
+  main-decides = first-decides (p1_frames k + 1) (main_bad s m x) (MainWrong s m x) to from
     where
-      to-p1 : (f : ℕ) → f < p1Frames k → mainBad s m x f ≡ true → MainWrong s m x f
+      to-p1 : (f : ℕ) → f < p1_frames k → main_bad s m x f ≡ true → MainWrong s m x f
       to-p1 f l e =
-          elim (either_true (p1Bad k x.pm f) (late f) (sym (main-p1 s m x f l) ∙ e)) [
+          elim (either_true (p1_bad k x.pm f) (late f) (sym (main-p1 s m x f l) ∙ e)) [
             | inl a ↦ no-p1 l ((p1-refused k x.pm f).0 a)
             | inr r ↦
-                let (a, b) = and-true (not (ltb s.age (delayFrames k))) (disagrees f) r in
-                paths-disagree l (ltb-false s.age (delayFrames k) (not-true (ltb s.age (delayFrames k)) a)) ((p1'-refused k (p1'In s.mode x) (due s.mode m x) f).0 b)
+                let (a, b) = and-true (not (ltb s.age (delay_frames k))) (disagrees f) r in
+                paths-disagree l (ltb-false s.age (delay_frames k) (not-true (ltb s.age (delay_frames k)) a)) ((p1'-refused k (p1'_in s.mode x) (due s.mode m x) f).0 b)
           ]
 
-      to : (f : ℕ) → f < p1Frames k + 1 → mainBad s m x f ≡ true → MainWrong s m x f
+      to : (f : ℕ) → f < p1_frames k + 1 → main_bad s m x f ≡ true → MainWrong s m x f
       to f h e =
-          elim (dec_lt f (p1Frames k)) [
+          elim (dec_lt f (p1_frames k)) [
             | yes l ↦ to-p1 f l e
             | no l ↦
-                let q : f ≡ p1Frames k = omega arith in
-                no-p2 q ((p2-refused k x.pm 0).0 (sym (main-p2 s m x) ∙ ap (mainBad s m x) (sym q) ∙ e))
+                let q : f ≡ p1_frames k = omega arith in
+                no-p2 q ((p2-refused k x.pm 0).0 (sym (main-p2 s m x) ∙ ap (main_bad s m x) (sym q) ∙ e))
           ]
 
-      from : (f : ℕ) → MainWrong s m x f → (f < p1Frames k + 1) × (mainBad s m x f ≡ true)
-      from f (no-p1 l n) = (omega arith, main-p1 s m x f l ∙ or_left (p1Bad k x.pm f) (late f) ((p1-refused k x.pm f).1 n))
-      from f (no-second-path l h n) = (omega arith, main-p1 s m x f l ∙ or_right (p1Bad k x.pm f) (late f) (late-bad f h (second-refused k (p1'In s.mode x) (due s.mode m x) f n)))
-      from f (paths-disagree l h n) = (omega arith, main-p1 s m x f l ∙ or_right (p1Bad k x.pm f) (late f) (late-bad f h ((p1'-refused k (p1'In s.mode x) (due s.mode m x) f).1 n)))
-      from f (no-p2 q n) = (omega arith, ap (mainBad s m x) q ∙ main-p2 s m x ∙ (p2-refused k x.pm 0).1 n)
+      from : (f : ℕ) → MainWrong s m x f → (f < p1_frames k + 1) × (main_bad s m x f ≡ true)
+      from f (no-p1 l n) = (omega arith, main-p1 s m x f l ∙ or_left (p1_bad k x.pm f) (late f) ((p1-refused k x.pm f).1 n))
+      from f (no-second-path l h n) = (omega arith, main-p1 s m x f l ∙ or_right (p1_bad k x.pm f) (late f) (late-bad f h (second-refused k (p1'_in s.mode x) (due s.mode m x) f n)))
+      from f (paths-disagree l h n) = (omega arith, main-p1 s m x f l ∙ or_right (p1_bad k x.pm f) (late f) (late-bad f h ((p1'-refused k (p1'_in s.mode x) (due s.mode m x) f).1 n)))
+      from f (no-p2 q n) = (omega arith, ap (main_bad s m x) q ∙ main-p2 s m x ∙ (p2-refused k x.pm 0).1 n)
 
 -- ---- 6
 
-pub pids-decides : (x : Matrices) → Decides (PidsWrong x) (first 16 (pidsBad x.pm))
+pub pids-decides : (x : Matrices) → Decides (PidsWrong x) (first 16 (pids_bad x.pm))
 pids-decides x =
-    first-decides 16 (pidsBad x.pm) (PidsWrong x) (λ f h e. record { inside = h; no-pids = (pids-refused x.pm f).0 e })
+    first-decides 16 (pids_bad x.pm) (PidsWrong x) (λ f h e. record { inside = h; no-pids = (pids-refused x.pm f).0 e })
     (λ f w. (w.inside, (pids-refused x.pm f).1 w.no-pids))

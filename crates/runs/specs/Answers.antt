@@ -48,24 +48,24 @@ place_of WrongVersion = 0
 place_of WrongEnd = 0
 
 -- the one thing on success, the other on each refusal
-unfoldable pub onSuccess : {A : Type 0} → Answer → A → A → A
-onSuccess Success done refused = done
-onSuccess ModeNotCovered done refused = refused
-onSuccess StateNotValid done refused = refused
-onSuccess (WrongLength place) done refused = refused
-onSuccess (WrongControl block) done refused = refused
-onSuccess (MainNotCoded frame) done refused = refused
-onSuccess (PidsNotCoded frame) done refused = refused
-onSuccess (FillNotZero cell) done refused = refused
-onSuccess (ExtendedNotCoded frame) done refused = refused
-onSuccess ReservedTooHigh done refused = refused
-onSuccess SharesTooMany done refused = refused
-onSuccess SymbolTooHigh done refused = refused
-onSuccess (ScaleNotUsable place) done refused = refused
-onSuccess (MixedControl block) done refused = refused
-onSuccess NoFrameFits done refused = refused
-onSuccess SeveralFit done refused = refused
-onSuccess WrongBudget done refused = refused
-onSuccess WrongMark done refused = refused
-onSuccess WrongVersion done refused = refused
-onSuccess WrongEnd done refused = refused
+unfoldable pub on_success : {A : Type 0} → Answer → A → A → A
+on_success Success done refused = done
+on_success ModeNotCovered done refused = refused
+on_success StateNotValid done refused = refused
+on_success (WrongLength place) done refused = refused
+on_success (WrongControl block) done refused = refused
+on_success (MainNotCoded frame) done refused = refused
+on_success (PidsNotCoded frame) done refused = refused
+on_success (FillNotZero cell) done refused = refused
+on_success (ExtendedNotCoded frame) done refused = refused
+on_success ReservedTooHigh done refused = refused
+on_success SharesTooMany done refused = refused
+on_success SymbolTooHigh done refused = refused
+on_success (ScaleNotUsable place) done refused = refused
+on_success (MixedControl block) done refused = refused
+on_success NoFrameFits done refused = refused
+on_success SeveralFit done refused = refused
+on_success WrongBudget done refused = refused
+on_success WrongMark done refused = refused
+on_success WrongVersion done refused = refused
+on_success WrongEnd done refused = refused

@@ -4,13 +4,13 @@ use Rattle.std.proofs.Math.Option.{none}
 use Rattle.runs.specs.Answers.{number_of}
 use Rattle.runs.specs.Causes.{wrong}
 use Rattle.runs.specs.Lent.{Signal, Lent}
-use Rattle.runs.specs.Sending.{lentSizes}
+use Rattle.runs.specs.Sending.{lent_sizes}
 use Rattle.runs.specs.Runs.{Call}
 
 -- a call is handed the L1 frame x, with every length right
 pub record Given (mode : ℕ) (x : Signal) (l : Lent) : Type 0 where
   pub same : l.signal ≡ x
-  pub lengths : wrong 0 (lentSizes mode l) ≡ none
+  pub lengths : wrong 0 (lent_sizes mode l) ≡ none
 
 -- the L1 frames xs are handed to the calls cs in order, and each other call is refused; gs are the calls that were handed one
 pub data Handed (mode : ℕ) : List Signal → List Call → List Call → Type 0 where

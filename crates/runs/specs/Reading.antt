@@ -6,16 +6,16 @@ use Rattle.runs.specs.declared.Answer.{Answer}
 use Rattle.runs.specs.declared.Answer.TheVariants.{Success, StateNotValid, WrongLength, WrongControl, MainNotCoded, PidsNotCoded, FillNotZero, ExtendedNotCoded}
 use Rattle.runs.specs.declared.State.{State}
 use Rattle.runs.specs.declared.Extended.TheVariants.{P3, P4}
-use Rattle.runs.specs.MainChannels.{mainOf, delayFrames}
-use Rattle.runs.specs.Lengths.{kind_of, readerLen}
-use Rattle.runs.specs.Chain.{Buffer, p1Of, p2Of, pidsOf, pidsBad, framesOf}
-use Rattle.runs.specs.Paths.{scrambledOf, waiting}
-use Rattle.runs.specs.Answers.{onSuccess}
+use Rattle.runs.specs.MainChannels.{main_of, delay_frames}
+use Rattle.runs.specs.Lengths.{kind_of, reader_len}
+use Rattle.runs.specs.Chain.{Buffer, p1_of, p2_of, pids_of, pids_bad, frames_of}
+use Rattle.runs.specs.Paths.{scrambled_of, waiting}
+use Rattle.runs.specs.Answers.{on_success}
 use Rattle.runs.specs.Causes.{at, first, judge, when, wrong}
-use Rattle.runs.specs.Lent.{Lent, Matrices, Memory, Result, matrixOf}
-use Rattle.runs.specs.Judged.{due, mainPlace, fillPlace, countedFirst, framePlace}
-use Rattle.runs.specs.Starting.{memorySizes, next, valid}
-use Rattle.runs.specs.Sending.{lentSizes, refused}
+use Rattle.runs.specs.Lent.{Lent, Matrices, Memory, Result, matrix_of}
+use Rattle.runs.specs.Judged.{due, main_place, fill_place, counted_first, frame_place}
+use Rattle.runs.specs.Starting.{memory_sizes, next, valid}
+use Rattle.runs.specs.Sending.{lent_sizes, refused}
 
 -- the last three matrices, after one more
 unfoldable pub push : Buffer → Buffer → Buffer
@@ -24,11 +24,11 @@ push m x = drop (length x) m ++ x
 -- the memory after one more L1 frame: the scrambled P1 frames that wait are those that PM brought
 unfoldable pub pushed : ℕ → Memory → Matrices → Memory
 pushed mode m x =
-    let k = mainOf mode in
+    let k = main_of mode in
     record {
-      for3 = push m.for3 (matrixOf mode x P3);
-      for4 = push m.for4 (matrixOf mode x P4);
-      delayed = waiting k m.delayed (p1Of k x.pm);
+      for3 = push m.for3 (matrix_of mode x P3);
+      for4 = push m.for4 (matrix_of mode x P4);
+      delayed = waiting k m.delayed (p1_of k x.pm);
     }
 
 -- the buffers lent, with the number 0
@@ -41,17 +41,17 @@ unnumbered l =
     }
 
 -- reading meets 2 to 8: 8 from age 2 on, when all bits of that L1 frame have arrived
-unfoldable pub readAnswer : State → Memory → Lent → Answer
-readAnswer s m l =
+unfoldable pub read_answer : State → Memory → Lent → Answer
+read_answer s m l =
     let x = l.signal.matrices in
     judge
     (when (not (valid s)) StateNotValid
-    ∷ at WrongLength (wrong 0 (lentSizes s.mode l ++ memorySizes readerLen s.mode m))
+    ∷ at WrongLength (wrong 0 (lent_sizes s.mode l ++ memory_sizes reader_len s.mode m))
     ∷ at WrongControl (first 16 (strays s.mode l.signal.control))
-    ∷ at MainNotCoded (mainPlace s m x)
-    ∷ at PidsNotCoded (first 16 (pidsBad x.pm))
-    ∷ at (λ c. FillNotZero (countedFirst (mainOf s.mode) + c)) (fillPlace s x)
-    ∷ at ExtendedNotCoded (cond (ltb s.age 2) none (framePlace s (pushed s.mode m x)))
+    ∷ at MainNotCoded (main_place s m x)
+    ∷ at PidsNotCoded (first 16 (pids_bad x.pm))
+    ∷ at (λ c. FillNotZero (counted_first (main_of s.mode) + c)) (fill_place s x)
+    ∷ at ExtendedNotCoded (cond (ltb s.age 2) none (frame_place s (pushed s.mode m x)))
     ∷ [])
 
 -- a success returns the number, which the state holds then, PIDS and P2; once their second path has come, P1 frames, in MP5 and MP6 those of the L1 frame three earlier; and from age 2 on the P3
@@ -59,7 +59,7 @@ readAnswer s m l =
 unfoldable pub received : State → Memory → Lent → Result
 received s m l =
     let x = l.signal.matrices in
-    let k = mainOf s.mode in
+    let k = main_of s.mode in
     let after = pushed s.mode m x in
     let z = number_in s.mode l.signal.control in
     record {
@@ -69,11 +69,11 @@ received s m l =
       lent = record {
         frames = record {
           reserved = z;
-          p1 = cond (ltb s.age (delayFrames k)) l.frames.p1 (scrambledOf k (due s.mode m x));
-          pids = pidsOf x.pm;
-          p2 = p2Of k x.pm;
-          p3 = cond (ltb s.age 2) l.frames.p3 (framesOf (kind_of s.mode P3) s.half after.for3);
-          p4 = cond (ltb s.age 2) l.frames.p4 (framesOf (kind_of s.mode P4) s.half after.for4);
+          p1 = cond (ltb s.age (delay_frames k)) l.frames.p1 (scrambled_of k (due s.mode m x));
+          pids = pids_of x.pm;
+          p2 = p2_of k x.pm;
+          p3 = cond (ltb s.age 2) l.frames.p3 (frames_of (kind_of s.mode P3) s.half after.for3);
+          p4 = cond (ltb s.age 2) l.frames.p4 (frames_of (kind_of s.mode P4) s.half after.for4);
         };
         signal = l.signal;
       };
@@ -81,4 +81,4 @@ received s m l =
 
 -- a refusal returns the number 0, and leaves everything as it was
 unfoldable pub read_step : State → Memory → Lent → Result
-read_step s m l = onSuccess (readAnswer s m l) (received s m l) (refused s m (unnumbered l) (readAnswer s m l))
+read_step s m l = on_success (read_answer s m l) (received s m l) (refused s m (unnumbered l) (read_answer s m l))

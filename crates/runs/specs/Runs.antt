@@ -2,12 +2,12 @@
 use Rattle.std.specs.Prelude.{ℕ, ◌<◌, ◌≡◌, cond, List, [], ◌∷◌, map, length, get_or, eqb}
 use Rattle.runs.specs.declared.State.{State}
 use Rattle.runs.specs.declared.Extended.{Extended}
-use Rattle.runs.specs.MainChannels.{mainOf, p1Len, p2Len}
-use Rattle.runs.specs.Lengths.{kind_of, frameLen, senderLen, readerLen, pidsLen}
+use Rattle.runs.specs.MainChannels.{main_of, p1_len, p2_len}
+use Rattle.runs.specs.Lengths.{kind_of, frame_len, sender_len, reader_len, pids_len}
 use Rattle.runs.specs.Chain.{Buffer}
 use Rattle.runs.specs.Answers.{number_of}
 use Rattle.runs.specs.Lent.{Frames, Matrices, Signal, Lent, Memory, Result, frame_of, filled, ByteFrames}
-use Rattle.runs.specs.Sending.{sendStep}
+use Rattle.runs.specs.Sending.{send_step}
 use Rattle.runs.specs.Starting.{start}
 use Rattle.runs.specs.Reading.{read_step}
 
@@ -35,61 +35,61 @@ Every P (x ∷ xs) = P x × Every P xs
 -- frames of the right lengths, and a number up to 7
 pub record Fitting (mode : ℕ) (f : Frames) : Type 0 where
   pub reserved-right : f.reserved < 8
-  pub p1-right : length f.p1 ≡ p1Len (mainOf mode)
-  pub pids-right : length f.pids ≡ pidsLen
-  pub p2-right : length f.p2 ≡ p2Len (mainOf mode)
-  pub extended-right : (e : Extended) → length (frame_of f e) ≡ frameLen (kind_of mode e)
+  pub p1-right : length f.p1 ≡ p1_len (main_of mode)
+  pub pids-right : length f.pids ≡ pids_len
+  pub p2-right : length f.p2 ≡ p2_len (main_of mode)
+  pub extended-right : (e : Extended) → length (frame_of f e) ≡ frame_len (kind_of mode e)
   pub bytes : ByteFrames f
 
 -- a run of a side in a mode: one successful start upon some memory, and any list of calls
 pub record SenderRun (mode : ℕ) : Type 0 where
   pub upon : Memory
-  pub started : number_of (start senderLen mode upon).answer ≡ 0
+  pub started : number_of (start sender_len mode upon).answer ≡ 0
   pub lents : List Lent
   pub bytes : Every (λ (l : Lent). ByteFrames l.frames) lents
 
 pub record ReaderRun (mode : ℕ) : Type 0 where
   pub upon : Memory
-  pub started : number_of (start readerLen mode upon).answer ≡ 0
+  pub started : number_of (start reader_len mode upon).answer ≡ 0
   pub lents : List Lent
 
 -- the calls of a run
 unfoldable pub sendings : (mode : ℕ) → SenderRun mode → List Call
 sendings mode a =
-    calls sendStep (start senderLen mode a.upon).state (start senderLen mode a.upon).memory a.lents
+    calls send_step (start sender_len mode a.upon).state (start sender_len mode a.upon).memory a.lents
 
 unfoldable pub readings : (mode : ℕ) → ReaderRun mode → List Call
 readings mode b =
-    calls read_step (start readerLen mode b.upon).state (start readerLen mode b.upon).memory b.lents
+    calls read_step (start reader_len mode b.upon).state (start reader_len mode b.upon).memory b.lents
 
 -- the numbers and the frames meant by what was handed to the successful sendings (S-5), and the matrices and control sequences that they wrote
-unfoldable pub framesSent : (mode : ℕ) → SenderRun mode → List Frames
-framesSent mode a = map (λ (c : Call). filled mode c.lent.frames) (succeeded (sendings mode a))
+unfoldable pub frames_sent : (mode : ℕ) → SenderRun mode → List Frames
+frames_sent mode a = map (λ (c : Call). filled mode c.lent.frames) (succeeded (sendings mode a))
 
-unfoldable pub signalsSent : (mode : ℕ) → SenderRun mode → List Signal
-signalsSent mode a = map (λ (c : Call). c.result.lent.signal) (succeeded (sendings mode a))
+unfoldable pub signals_sent : (mode : ℕ) → SenderRun mode → List Signal
+signals_sent mode a = map (λ (c : Call). c.result.lent.signal) (succeeded (sendings mode a))
 
-abbrev pub noFrames : Frames
-noFrames = record { reserved = 0; p1 = []; pids = []; p2 = []; p3 = []; p4 = [] }
+abbrev pub no_frames : Frames
+no_frames = record { reserved = 0; p1 = []; pids = []; p2 = []; p3 = []; p4 = [] }
 
-abbrev pub noSignal : Signal
-noSignal = record { matrices = record { pm = []; px1 = []; px2 = [] }; control = [] }
+abbrev pub no_signal : Signal
+no_signal = record { matrices = record { pm = []; px1 = []; px2 = [] }; control = [] }
 
 -- the run's length, L1 frame t of it, and that frame's matrices and control sequences
 unfoldable pub count : (mode : ℕ) → SenderRun mode → ℕ
-count mode a = length (framesSent mode a)
+count mode a = length (frames_sent mode a)
 
 unfoldable pub frame_at : (mode : ℕ) → SenderRun mode → ℕ → Frames
-frame_at mode a t = get_or (framesSent mode a) t noFrames
+frame_at mode a t = get_or (frames_sent mode a) t no_frames
 
-unfoldable pub matricesAt : (mode : ℕ) → SenderRun mode → ℕ → Matrices
-matricesAt mode a t = (get_or (signalsSent mode a) t noSignal).matrices
+unfoldable pub matrices_at : (mode : ℕ) → SenderRun mode → ℕ → Matrices
+matrices_at mode a t = (get_or (signals_sent mode a) t no_signal).matrices
 
-unfoldable pub controlAt : (mode : ℕ) → SenderRun mode → ℕ → Buffer
-controlAt mode a t = (get_or (signalsSent mode a) t noSignal).control
+unfoldable pub control_at : (mode : ℕ) → SenderRun mode → ℕ → Buffer
+control_at mode a t = (get_or (signals_sent mode a) t no_signal).control
 
 -- the memory after t L1 frames: as the start left it, and then as each successful sending did
-unfoldable pub memoryAfter : (mode : ℕ) → SenderRun mode → ℕ → Memory
-memoryAfter mode a t =
-    get_or ((start senderLen mode a.upon).memory ∷ map (λ (c : Call). c.result.memory) (succeeded (sendings mode a))) t
+unfoldable pub memory_after : (mode : ℕ) → SenderRun mode → ℕ → Memory
+memory_after mode a t =
+    get_or ((start sender_len mode a.upon).memory ∷ map (λ (c : Call). c.result.memory) (succeeded (sendings mode a))) t
     (record { for3 = []; for4 = []; delayed = [] })

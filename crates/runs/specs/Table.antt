@@ -5,11 +5,11 @@ use Rattle.runs.specs.declared.Answer.{Answer}
 use Rattle.runs.specs.declared.Answer.TheVariants.{Success, ModeNotCovered, StateNotValid, WrongLength, ReservedTooHigh}
 use Rattle.runs.specs.declared.State.{State}
 use Rattle.runs.specs.declared.Kind.{Kind}
-use Rattle.runs.specs.Lengths.{senderLen}
+use Rattle.runs.specs.Lengths.{sender_len}
 use Rattle.runs.specs.Answers.{number_of, place_of}
 use Rattle.runs.specs.Lent.{Lent, Memory}
 use Rattle.runs.specs.Starting.{fresh, start, started}
-use Rattle.runs.specs.Sending.{refused, sendStep, sent}
+use Rattle.runs.specs.Sending.{refused, send_step, sent}
 use Rattle.runs.specs.TableStates.{Covered, LengthWrong, MemoryWrong, OrNothing, Valid}
 
 -- ---- the order
@@ -29,7 +29,7 @@ pub record Follows (Met : Answer → Type 0) (answer : Answer) : Type 0 where
   pub refuses : (a : Answer) → a ≢ Success → answer ≡ a ↔ Wins Met a
   pub succeeds : answer ≡ Success ↔ ((a : Answer) → Met a → ⊥)
 
--- ---- a start, of a sender with the lengths `senderLen`, of a reader with `readerLen`
+-- ---- a start, of a sender with the lengths `sender_len`, of a reader with `reader_len`
 
 pub data StartMet (len : Kind → ℕ) (mode : ℕ) (m : Memory) : Answer → Type 0 where
   start-1 : ¬ Covered mode → StartMet len mode m ModeNotCovered
@@ -47,10 +47,10 @@ pub record StartTable (len : Kind → ℕ) (mode : ℕ) (m : Memory) : Type 0 wh
 pub data SendMet (s : State) (m : Memory) (l : Lent) : Answer → Type 0 where
   send-2 : ¬ Valid s → SendMet s m l StateNotValid
   send-9 : 7 < l.frames.reserved → SendMet s m l ReservedTooHigh
-  send-3 : (k : ℕ) → LengthWrong OrNothing senderLen s.mode m l k → SendMet s m l (WrongLength k)
+  send-3 : (k : ℕ) → LengthWrong OrNothing sender_len s.mode m l k → SendMet s m l (WrongLength k)
 
 pub record SendTable (s : State) (m : Memory) (l : Lent) : Type 0 where
-  pub answers : Follows (SendMet s m l) (sendStep s m l).answer
-  pub done : (sendStep s m l).answer ≡ Success → sendStep s m l ≡ sent s m l
+  pub answers : Follows (SendMet s m l) (send_step s m l).answer
+  pub done : (send_step s m l).answer ≡ Success → send_step s m l ≡ sent s m l
   -- refused, state and all buffers are left as they were
-  pub left : (sendStep s m l).answer ≢ Success → sendStep s m l ≡ refused s m l (sendStep s m l).answer
+  pub left : (send_step s m l).answer ≢ Success → send_step s m l ≡ refused s m l (send_step s m l).answer

@@ -5,7 +5,7 @@ use Rattle.control.specs.Control.{block_of}
 use Rattle.control.specs.Departs.{block_at}
 use Rattle.coding.specs.declared.Rate.TheVariants.{TwoFifths, Half}
 use Rattle.coding.specs.Coder.{coded, rate12}
-use Rattle.coding.specs.Rates.{codedLength}
+use Rattle.coding.specs.Rates.{coded_length}
 use Rattle.coding.specs.Channel.{Agree, IsFrame, part}
 use Rattle.interleaving.specs.PX.{place, step_of}
 use Rattle.runs.specs.declared.Answer.{Answer}
@@ -14,12 +14,12 @@ use Rattle.runs.specs.declared.State.{State}
 use Rattle.runs.specs.declared.Extended.TheVariants.{P3, P4}
 use Rattle.runs.specs.declared.Kind.{Kind}
 use Rattle.runs.specs.declared.Main.{Main}
-use Rattle.runs.specs.MainChannels.{mainOf, p1Frames, p1Bits, p2Bits, p1'Bits, delayFrames, p1'Len}
-use Rattle.runs.specs.Lengths.{kind_of, frameBits, tableRow, matrixLen, readerLen}
-use Rattle.runs.specs.Chain.{Buffer, p1Cells, p2Cells, pidsCells, gathered}
-use Rattle.runs.specs.Paths.{p1'Cells}
-use Rattle.runs.specs.Lent.{Lent, Matrices, Memory, matrixOf, p1'In}
-use Rattle.runs.specs.Judged.{due, countedFirst}
+use Rattle.runs.specs.MainChannels.{main_of, p1_frames, p1_bits, p2_bits, p1'_bits, delay_frames, p1'_len}
+use Rattle.runs.specs.Lengths.{kind_of, frame_bits, table_row, matrix_len, reader_len}
+use Rattle.runs.specs.Chain.{Buffer, p1_cells, p2_cells, pids_cells, gathered}
+use Rattle.runs.specs.Paths.{p1'_cells}
+use Rattle.runs.specs.Lent.{Lent, Matrices, Memory, matrix_of, p1'_in}
+use Rattle.runs.specs.Judged.{due, counted_first}
 use Rattle.runs.specs.Sending.{refused}
 use Rattle.runs.specs.Reading.{pushed, read_step, received, unnumbered}
 use Rattle.runs.specs.Table.{Follows, SendTable, StartTable}
@@ -34,50 +34,50 @@ pub data ControlWrong (mode : ℕ) (control : Buffer) (b : ℕ) : Type 0 where
 -- the cells of P1' frame f in the matrices x are the coding of P1 frame f of the scrambled frames s
 abbrev pub SamePath : Main → Buffer → Buffer → ℕ → Type 0
 SamePath k x s f =
-    Agree (codedLength Half (p1'Bits k)) (part (codedLength Half (p1'Bits k)) f (p1'Cells k x)) (coded rate12 (p1'Bits k) (part (p1'Bits k) f (bit_at s)))
+    Agree (coded_length Half (p1'_bits k)) (part (coded_length Half (p1'_bits k)) f (p1'_cells k x)) (coded rate12 (p1'_bits k) (part (p1'_bits k) f (bit_at s)))
 
 -- 5: the P1 cells of frame f in PM are no coded frame: there is none whose coding they are. In MP5 and MP6 (S-9), once the second path has come, its cells of frame f
 -- are no coded frame either, or are not the coding of the frame that the first path brought; and then those of P2, counted after the P1 frames
 pub data MainWrong (s : State) (m : Memory) (x : Matrices) (f : ℕ) : Type 0 where
-  no-p1 : f < p1Frames (mainOf s.mode) → ¬ IsFrame TwoFifths (p1Bits (mainOf s.mode)) (p1Cells x.pm) f → MainWrong s m x f
-  no-second-path : f < p1Frames (mainOf s.mode) → delayFrames (mainOf s.mode) ≤ s.age
-      → ¬ IsFrame Half (p1'Bits (mainOf s.mode)) (p1'Cells (mainOf s.mode) (p1'In s.mode x)) f → MainWrong s m x f
-  paths-disagree : f < p1Frames (mainOf s.mode) → delayFrames (mainOf s.mode) ≤ s.age
-      → ¬ SamePath (mainOf s.mode) (p1'In s.mode x) (due s.mode m x) f → MainWrong s m x f
-  no-p2 : f ≡ p1Frames (mainOf s.mode) → ¬ IsFrame TwoFifths (p2Bits (mainOf s.mode)) (p2Cells (mainOf s.mode) x.pm) 0
+  no-p1 : f < p1_frames (main_of s.mode) → ¬ IsFrame TwoFifths (p1_bits (main_of s.mode)) (p1_cells x.pm) f → MainWrong s m x f
+  no-second-path : f < p1_frames (main_of s.mode) → delay_frames (main_of s.mode) ≤ s.age
+      → ¬ IsFrame Half (p1'_bits (main_of s.mode)) (p1'_cells (main_of s.mode) (p1'_in s.mode x)) f → MainWrong s m x f
+  paths-disagree : f < p1_frames (main_of s.mode) → delay_frames (main_of s.mode) ≤ s.age
+      → ¬ SamePath (main_of s.mode) (p1'_in s.mode x) (due s.mode m x) f → MainWrong s m x f
+  no-p2 : f ≡ p1_frames (main_of s.mode) → ¬ IsFrame TwoFifths (p2_bits (main_of s.mode)) (p2_cells (main_of s.mode) x.pm) 0
       → MainWrong s m x f
 
 -- 6: the cells of PIDS frame f are no coded frame
 pub record PidsWrong (x : Matrices) (f : ℕ) : Type 0 where
   pub inside : f < 16
-  pub no-pids : ¬ IsFrame TwoFifths 80 (pidsCells x.pm) f
+  pub no-pids : ¬ IsFrame TwoFifths 80 (pids_cells x.pm) f
 
 -- at age 0 or 1 bit j of an L1 frame's matrices of a channel can show only the zero fill: the step that reads it reads the cell of its own number, and no step from the start
 -- up to that one has written there
 pub record OnlyFill (k : Kind) (age j : ℕ) : Type 0 where
   pub early : age < 2
-  pub unwritten : (i : ℕ) → i ≤ step_of (tableRow k) age j → place (tableRow k) i ≢ step_of (tableRow k) age j
+  pub unwritten : (i : ℕ) → i ≤ step_of (table_row k) age j → place (table_row k) i ≢ step_of (table_row k) age j
 
 -- 7: cell c can show only the zero fill and is 1, counted through PX1 and then PX2; in MP5 and MP6 through PM first, and then there are the cells of P1', which at ages 0 to
 -- 2 can show only the delay's zeros
 pub data FillWrong (s : State) (x : Matrices) (c : ℕ) : Type 0 where
-  in-px1 : (j : ℕ) → c ≡ countedFirst (mainOf s.mode) + j
-      → j < 8 * matrixLen (kind_of s.mode P3) → OnlyFill (kind_of s.mode P3) s.age j → bit_at (matrixOf s.mode x P3) j ≡ 1 → FillWrong s x c
-  in-px2 : (j : ℕ) → c ≡ countedFirst (mainOf s.mode) + (8 * matrixLen (kind_of s.mode P3) + j)
-      → j < 8 * matrixLen (kind_of s.mode P4) → OnlyFill (kind_of s.mode P4) s.age j → bit_at (matrixOf s.mode x P4) j ≡ 1 → FillWrong s x c
-  in-p1' : (j : ℕ) → c ≡ countedFirst (mainOf s.mode) + (8 * matrixLen (kind_of s.mode P3) + (8 * matrixLen (kind_of s.mode P4) + j))
-      → j < 8 * p1'Len (mainOf s.mode) → s.age < delayFrames (mainOf s.mode) → bit_at (p1'In s.mode x) j ≡ 1 → FillWrong s x c
+  in-px1 : (j : ℕ) → c ≡ counted_first (main_of s.mode) + j
+      → j < 8 * matrix_len (kind_of s.mode P3) → OnlyFill (kind_of s.mode P3) s.age j → bit_at (matrix_of s.mode x P3) j ≡ 1 → FillWrong s x c
+  in-px2 : (j : ℕ) → c ≡ counted_first (main_of s.mode) + (8 * matrix_len (kind_of s.mode P3) + j)
+      → j < 8 * matrix_len (kind_of s.mode P4) → OnlyFill (kind_of s.mode P4) s.age j → bit_at (matrix_of s.mode x P4) j ≡ 1 → FillWrong s x c
+  in-p1' : (j : ℕ) → c ≡ counted_first (main_of s.mode) + (8 * matrix_len (kind_of s.mode P3) + (8 * matrix_len (kind_of s.mode P4) + j))
+      → j < 8 * p1'_len (main_of s.mode) → s.age < delay_frames (main_of s.mode) → bit_at (p1'_in s.mode x) j ≡ 1 → FillWrong s x c
 
 -- 8: from age 2 on, the cells of P3 frame f, 0 to 7, or of P4 frame f − 8, in the last three L1 frames' matrices, are no coded frame: those of the L1 frame two earlier
 pub data FrameWrong (s : State) (m : Memory) (x : Matrices) (f : ℕ) : Type 0 where
   no-p3 : 2 ≤ s.age → f < 8
-      → ¬ IsFrame Half (frameBits (kind_of s.mode P3)) (gathered (kind_of s.mode P3) s.half (pushed s.mode m x).for3) f → FrameWrong s m x f
+      → ¬ IsFrame Half (frame_bits (kind_of s.mode P3)) (gathered (kind_of s.mode P3) s.half (pushed s.mode m x).for3) f → FrameWrong s m x f
   no-p4 : 2 ≤ s.age → (g : ℕ) → f ≡ 8 + g → g < 8
-      → ¬ IsFrame Half (frameBits (kind_of s.mode P4)) (gathered (kind_of s.mode P4) s.half (pushed s.mode m x).for4) g → FrameWrong s m x f
+      → ¬ IsFrame Half (frame_bits (kind_of s.mode P4)) (gathered (kind_of s.mode P4) s.half (pushed s.mode m x).for4) g → FrameWrong s m x f
 
 pub data ReadMet (s : State) (m : Memory) (l : Lent) : Answer → Type 0 where
   read-2 : ¬ Valid s → ReadMet s m l StateNotValid
-  read-3 : (k : ℕ) → LengthWrong Exact readerLen s.mode m l k → ReadMet s m l (WrongLength k)
+  read-3 : (k : ℕ) → LengthWrong Exact reader_len s.mode m l k → ReadMet s m l (WrongLength k)
   read-4 : (b : ℕ) → ControlWrong s.mode l.signal.control b → ReadMet s m l (WrongControl b)
   read-5 : (f : ℕ) → MainWrong s m l.signal.matrices f → ReadMet s m l (MainNotCoded f)
   read-6 : (f : ℕ) → PidsWrong l.signal.matrices f → ReadMet s m l (PidsNotCoded f)

@@ -2,8 +2,8 @@
 use Rattle.std.proofs.Common.{◌≡◌, ℕ, suc, ◌+◌, ◌-◌, ◌*◌, ◌^◌, ◌<◌, ◌≤◌, Bool, true, false, ◌&&◌, leb, List, [], ◌∷◌, length, get_or, drop, sym, refl, ap, ◌∙◌, subst, true≢false, mul-le-mul_right, mul_assoc, add-mul, pow-suc, add-one, arith, length-drop, drop_of_length-le, drop-cons, le-leb, leb-true}
 use native.Mathlib.Nat.{pow-le-pow_right}
 use borrow.Author.Tests.{lt-leb}
-use Rattle.text.specs.Numbers.{digitsAlone, isDigit, is_number, value}
-use Rattle.scales.specs.Scales.{isShort}
+use Rattle.text.specs.Numbers.{digits_alone, is_digit, is_number, value}
+use Rattle.scales.specs.Scales.{is_short}
 
 pub both : (a b : Bool) → (a && b) ≡ true → (a ≡ true) × (b ≡ true)
 both true b h = (refl, h)
@@ -20,51 +20,51 @@ and-true false = refl
 -- ---- a byte is below the digits, above them or one of them
 
 module _ (b : ℕ) where
-  under-digits : b < 48 → isDigit b ≡ false
-  unfolding isDigit
+  under-digits : b < 48 → is_digit b ≡ false
+  unfolding is_digit
   under-digits h = rw (lt-leb 48 b h)
 
-  over-digits : 57 < b → isDigit b ≡ false
-  unfolding isDigit
+  over-digits : 57 < b → is_digit b ≡ false
+  unfolding is_digit
   over-digits h = rw (lt-leb b 57 h) (and-false (leb 48 b))
 
-  a-digit : 48 ≤ b → b ≤ 57 → isDigit b ≡ true
-  unfolding isDigit
+  a-digit : 48 ≤ b → b ≤ 57 → is_digit b ≡ true
+  unfolding is_digit
   a-digit h l = rw (le-leb 48 b h, le-leb b 57 l)
 
-  digit-bounds : isDigit b ≡ true → (48 ≤ b) × (b ≤ 57)
-  unfolding isDigit
+  digit-bounds : is_digit b ≡ true → (48 ≤ b) × (b ≤ 57)
+  unfolding is_digit
   digit-bounds h = (leb-true 48 b (both (leb 48 b) (leb b 57) h).0, leb-true b 57 (both (leb 48 b) (leb b 57) h).1)
 
 -- ---- a number of at most so many digits
 
 module _ (most : ℕ) where
-  pub short_none : (text : List ℕ) → length text ≡ 0 → false ≡ isShort most text
-  unfolding isShort is_number
+  pub short_none : (text : List ℕ) → length text ≡ 0 → false ≡ is_short most text
+  unfolding is_short is_number
   short_none [] e = refl
   short_none (b ∷ text) e = absurd (omega arith)
 
-  pub short-long : (text : List ℕ) → most < length text → false ≡ isShort most text
-  unfolding isShort
+  pub short-long : (text : List ℕ) → most < length text → false ≡ is_short most text
+  unfolding is_short
   short-long text h = sym (ap (λ (t : Bool). is_number text && t) (lt-leb (length text) most h) ∙ and-false (is_number text))
 
-  some : (text : List ℕ) → (length text ≡ 0 → ⊥) → is_number text ≡ digitsAlone text
+  some : (text : List ℕ) → (length text ≡ 0 → ⊥) → is_number text ≡ digits_alone text
   unfolding is_number
   some [] e = absurd (e refl)
   some (b ∷ text) e = refl
 
-  pub short-start : (text : List ℕ) → (length text ≡ 0 → ⊥) → length text ≤ most → isShort most text ≡ digitsAlone text
-  unfolding isShort
+  pub short-start : (text : List ℕ) → (length text ≡ 0 → ⊥) → length text ≤ most → is_short most text ≡ digits_alone text
+  unfolding is_short
   short-start text e h =
       ap (λ (t : Bool). is_number text && t) (le-leb (length text) most h) ∙ and-true (is_number text) ∙ some text e
 
-  alone : (text : List ℕ) → is_number text ≡ true → digitsAlone text ≡ true
+  alone : (text : List ℕ) → is_number text ≡ true → digits_alone text ≡ true
   unfolding is_number
   alone [] h = absurd (true≢false (sym h))
   alone (b ∷ text) h = h
 
-  pub short-digits : (text : List ℕ) → isShort most text ≡ true → (digitsAlone text ≡ true) × (length text ≤ most)
-  unfolding isShort
+  pub short-digits : (text : List ℕ) → is_short most text ≡ true → (digits_alone text ≡ true) × (length text ≤ most)
+  unfolding is_short
   short-digits text h =
       let t = both (is_number text) (leb (length text) most) h in
       (alone text t.0, leb-true (length text) most t.1)
@@ -72,32 +72,32 @@ module _ (most : ℕ) where
 -- ---- the digits from place i on
 
 module _ (text : List ℕ) (i : ℕ) where
-  digits-opened : i < length text → digitsAlone (drop i text) ≡ (isDigit (get_or text i 0) && digitsAlone (drop (i + 1) text))
-  unfolding digitsAlone
+  digits-opened : i < length text → digits_alone (drop i text) ≡ (is_digit (get_or text i 0) && digits_alone (drop (i + 1) text))
+  unfolding digits_alone
   digits-opened h =
-      ap digitsAlone (drop-cons text i 0 h) ∙ ap (λ (k : ℕ). isDigit (get_or text i 0) && digitsAlone (drop k text)) (sym (add-one i))
+      ap digits_alone (drop-cons text i 0 h) ∙ ap (λ (k : ℕ). is_digit (get_or text i 0) && digits_alone (drop k text)) (sym (add-one i))
 
-  pub digit-under : i < length text → get_or text i 0 < 48 → false ≡ digitsAlone (drop i text)
-  digit-under h l = sym (digits-opened h ∙ ap (λ (t : Bool). t && digitsAlone (drop (i + 1) text)) (under-digits (get_or text i 0) l))
+  pub digit-under : i < length text → get_or text i 0 < 48 → false ≡ digits_alone (drop i text)
+  digit-under h l = sym (digits-opened h ∙ ap (λ (t : Bool). t && digits_alone (drop (i + 1) text)) (under-digits (get_or text i 0) l))
 
-  pub digit-over : i < length text → 57 < get_or text i 0 → false ≡ digitsAlone (drop i text)
-  digit-over h l = sym (digits-opened h ∙ ap (λ (t : Bool). t && digitsAlone (drop (i + 1) text)) (over-digits (get_or text i 0) l))
+  pub digit-over : i < length text → 57 < get_or text i 0 → false ≡ digits_alone (drop i text)
+  digit-over h l = sym (digits-opened h ∙ ap (λ (t : Bool). t && digits_alone (drop (i + 1) text)) (over-digits (get_or text i 0) l))
 
-  pub digit-next : i < length text → 48 ≤ get_or text i 0 → get_or text i 0 ≤ 57 → digitsAlone (drop i text) ≡ digitsAlone (drop (i + 1) text)
-  digit-next h l m = digits-opened h ∙ ap (λ (t : Bool). t && digitsAlone (drop (i + 1) text)) (a-digit (get_or text i 0) l m)
+  pub digit-next : i < length text → 48 ≤ get_or text i 0 → get_or text i 0 ≤ 57 → digits_alone (drop i text) ≡ digits_alone (drop (i + 1) text)
+  digit-next h l m = digits-opened h ∙ ap (λ (t : Bool). t && digits_alone (drop (i + 1) text)) (a-digit (get_or text i 0) l m)
 
-  pub digits-end : length text ≤ i → true ≡ digitsAlone (drop i text)
-  unfolding digitsAlone
-  digits-end h = sym (ap digitsAlone (drop_of_length-le text {i = i} h))
+  pub digits-end : length text ≤ i → true ≡ digits_alone (drop i text)
+  unfolding digits_alone
+  digits-end h = sym (ap digits_alone (drop_of_length-le text {i = i} h))
 
-  module _ (h : i < length text) (d : digitsAlone (drop i text) ≡ true) where
-    parts : (isDigit (get_or text i 0) ≡ true) × (digitsAlone (drop (i + 1) text) ≡ true)
-    parts = both (isDigit (get_or text i 0)) (digitsAlone (drop (i + 1) text)) (sym (digits-opened h) ∙ d)
+  module _ (h : i < length text) (d : digits_alone (drop i text) ≡ true) where
+    parts : (is_digit (get_or text i 0) ≡ true) × (digits_alone (drop (i + 1) text) ≡ true)
+    parts = both (is_digit (get_or text i 0)) (digits_alone (drop (i + 1) text)) (sym (digits-opened h) ∙ d)
 
     pub digit-here : (48 ≤ get_or text i 0) × (get_or text i 0 ≤ 57)
     digit-here = digit-bounds (get_or text i 0) parts.0
 
-    pub digits-rest : digitsAlone (drop (i + 1) text) ≡ true
+    pub digits-rest : digits_alone (drop (i + 1) text) ≡ true
     digits-rest = parts.1
 
 -- ---- what they are worth
@@ -140,11 +140,11 @@ pub value-start : (text : List ℕ) → value text ≡ 0 * 10 ^ (length text - 0
 value-start text = omega arith
 
 -- k digits are worth less than 10^k
-pub value-below : (text : List ℕ) → digitsAlone text ≡ true → value text < 10 ^ length text
-unfolding digitsAlone value
+pub value-below : (text : List ℕ) → digits_alone text ≡ true → value text < 10 ^ length text
+unfolding digits_alone value
 value-below [] h = omega arith
 value-below (b ∷ text) h =
-    let t = both (isDigit b) (digitsAlone text) h in
+    let t = both (is_digit b) (digits_alone text) h in
     let w = digit-bounds b t.0 in
     let m : (b - 48) * 10 ^ length text ≤ 9 * 10 ^ length text = mul-le-mul_right (10 ^ length text) (omega arith) in
     rw (pow-suc) (omega (arith, value-below text t.1, m))

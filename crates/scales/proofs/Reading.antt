@@ -6,24 +6,24 @@ use Rattle.text.specs.Numbers.{is_number, value}
 use Rattle.text.proofs.Ends.{after-dropped, after-part, before-taken}
 use Rattle.scales.specs.declared.Typed.{Typed}
 use Rattle.scales.specs.declared.Typed.TheVariants.{NotExact}
-use Rattle.scales.specs.Scales.{exactOf, isScale, isShort, point, scale_of, decimals}
+use Rattle.scales.specs.Scales.{exact_of, is_scale, is_short, point, scale_of, decimals}
 use Rattle.scales.proofs.Digits.{both, short-digits, value-below}
 
 -- ---- numbers of few digits
 
-pub short-more : (text : List ℕ) → isShort 3 text ≡ true → isShort 16 text ≡ true
-unfolding isShort
+pub short-more : (text : List ℕ) → is_short 3 text ≡ true → is_short 16 text ≡ true
+unfolding is_short
 short-more text h =
     let t = both (is_number text) (leb (length text) 3) h in
     let l : length text ≤ 3 = leb-true (length text) 3 t.1 in
     ap₂ ◌&&◌ t.0 (le-leb (length text) 16 (omega arith))
 
-pub short-below : (most : ℕ) (text : List ℕ) → isShort most text ≡ true → value text < 10 ^ most
+pub short-below : (most : ℕ) (text : List ℕ) → is_short most text ≡ true → value text < 10 ^ most
 short-below most text h =
     let t = short-digits most text h in
     lt_of_lt_of_le (value-below text t.0) (pow-le-pow_right {n = 10} (omega arith) {i = length text} {j = most} t.1)
 
-pub short-fits : (text : List ℕ) (n : ℕ) → n ≡ value text → isShort 16 text ≡ true → (length text ≤ 16) × (n < 10 ^ length text)
+pub short-fits : (text : List ℕ) (n : ℕ) → n ≡ value text → is_short 16 text ≡ true → (length text ≤ 16) × (n < 10 ^ length text)
 short-fits text n e h =
     let t = short-digits 16 text h in
     (t.1, rw e (value-below text t.0))
@@ -37,25 +37,25 @@ module _ (text : List ℕ) (end : ℕ) (e : end ≡ length (before point text)) 
   behind-is : take (length text - (end + 1)) (drop (end + 1) text) ≡ after point text
   behind-is = after-part point text end e
 
-  first : (t : Bool) → isShort 3 (take end text) ≡ t → isShort 3 (before point text) ≡ t
-  first t h = sym (ap (isShort 3) whole_is) ∙ h
+  first : (t : Bool) → is_short 3 (take end text) ≡ t → is_short 3 (before point text) ≡ t
+  first t h = sym (ap (is_short 3) whole_is) ∙ h
 
-  second : (t : Bool) → isShort 16 (take (length text - (end + 1)) (drop (end + 1) text)) ≡ t → isShort 16 (after point text) ≡ t
-  second t h = sym (ap (isShort 16) behind-is) ∙ h
+  second : (t : Bool) → is_short 16 (take (length text - (end + 1)) (drop (end + 1) text)) ≡ t → is_short 16 (after point text) ≡ t
+  second t h = sym (ap (is_short 16) behind-is) ∙ h
 
   abbrev answer : Bool → Bool → Bool → Typed
-  answer a b d = cond (a && (b || d)) (exactOf (decimals text)) NotExact
+  answer a b d = cond (a && (b || d)) (exact_of (decimals text)) NotExact
 
-  answers : (a b d : Bool) → isShort 3 (before point text) ≡ a → eqb (length (before point text)) (length text) ≡ b → isShort 16 (after point text) ≡ d
+  answers : (a b d : Bool) → is_short 3 (before point text) ≡ a → eqb (length (before point text)) (length text) ≡ b → is_short 16 (after point text) ≡ d
       → answer a b d ≡ scale_of text
-  unfolding scale_of isScale
+  unfolding scale_of is_scale
   answers a b d p q r = rw (← p, ← q, ← r)
 
-  pub no_number : isShort 3 (take end text) ≡ false → NotExact ≡ scale_of text
+  pub no_number : is_short 3 (take end text) ≡ false → NotExact ≡ scale_of text
   no_number h = answers false _ _ (first false h) refl refl
 
-  module _ (h : isShort 3 (take end text) ≡ true) where
-    pub no-point : end ≡ length text → exactOf (10000000000000000 * value (take end text)) ≡ scale_of text
+  module _ (h : is_short 3 (take end text) ≡ true) where
+    pub no-point : end ≡ length text → exact_of (10000000000000000 * value (take end text)) ≡ scale_of text
     unfolding decimals value
     no-point l =
         let none : after point text ≡ [] = sym (after-dropped point text) ∙ drop_of_length-le text {i = suc (length (before point text))} (omega arith) in
@@ -63,19 +63,19 @@ module _ (text : List ℕ) (end : ℕ) (e : end ≡ length (before point text)) 
         = ap (λ (t : List ℕ). 10000000000000000 * value t) whole_is
         ∙ mul_comm 10000000000000000 (value (before point text))
         ∙ sym (ap (λ (t : List ℕ). value (before point text) * 10 ^ 16 + value t * 10 ^ (16 - length t)) none ∙ omega arith) in
-        ap exactOf worth ∙ answers true true _ (first true h) (eq-eqb _ _ (sym e ∙ l)) refl
+        ap exact_of worth ∙ answers true true _ (first true h) (eq-eqb _ _ (sym e ∙ l)) refl
 
     module _ (l : end ≡ length text → ⊥) where
-      pub no_fraction : isShort 16 (take (length text - (end + 1)) (drop (end + 1) text)) ≡ false → NotExact ≡ scale_of text
+      pub no_fraction : is_short 16 (take (length text - (end + 1)) (drop (end + 1) text)) ≡ false → NotExact ≡ scale_of text
       no_fraction b = answers true false false (first true h) (ne_eqb _ _ (λ z. l (e ∙ z))) (second false b)
 
-      pub both-parts : isShort 16 (take (length text - (end + 1)) (drop (end + 1) text)) ≡ true → (n : ℕ)
+      pub both-parts : is_short 16 (take (length text - (end + 1)) (drop (end + 1) text)) ≡ true → (n : ℕ)
           → n ≡ 10000000000000000 * value (take end text)
           + value (take (length text - (end + 1)) (drop (end + 1) text)) * 10 ^ (16 - length (take (length text - (end + 1)) (drop (end + 1) text)))
-          → exactOf n ≡ scale_of text
+          → exact_of n ≡ scale_of text
       unfolding decimals
       both-parts b n w =
           let worth : n ≡ decimals text
           = w ∙ ap₂ (λ (s t : List ℕ). 10000000000000000 * value s + value t * 10 ^ (16 - length t)) whole_is behind-is
           ∙ ap (λ (k : ℕ). k + value (after point text) * 10 ^ (16 - length (after point text))) (mul_comm 10000000000000000 (value (before point text))) in
-          ap exactOf worth ∙ answers true false true (first true h) (ne_eqb _ _ (λ z. l (e ∙ z))) (second true b)
+          ap exact_of worth ∙ answers true false true (first true h) (ne_eqb _ _ (λ z. l (e ∙ z))) (second true b)

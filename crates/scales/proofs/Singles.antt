@@ -5,35 +5,35 @@ use lib.Ieee.Exact.{HasValue, round_exact}
 use lib.Ieee.Fits.{down_pos}
 use lib.Ieee.Scale.{round_same}
 use Rattle.scales.specs.declared.Typed.TheVariants.{Times, NotExact}
-use Rattle.scales.specs.Scales.{exactOf, isSingle}
+use Rattle.scales.specs.Scales.{exact_of, is_single}
 use Rattle.scales.proofs.Digits.{both}
 
 -- ---- the cases of `exact`
 
 module _ (n : ℕ) where
-  pub not-divided : (n % 152587890625 ≡ 0 → ⊥) → NotExact ≡ exactOf n
-  unfolding exactOf
-  not-divided h = sym (ap (λ (t : Bool). cond (t && isSingle (n / 5 ^ 16)) (Times (n / 5 ^ 16)) NotExact) (ne_eqb (n % 5 ^ 16) 0 h))
+  pub not-divided : (n % 152587890625 ≡ 0 → ⊥) → NotExact ≡ exact_of n
+  unfolding exact_of
+  not-divided h = sym (ap (λ (t : Bool). cond (t && is_single (n / 5 ^ 16)) (Times (n / 5 ^ 16)) NotExact) (ne_eqb (n % 5 ^ 16) 0 h))
 
   module _ (d : n % 152587890625 ≡ 0) where
-    decided : exactOf n ≡ cond (isSingle (n / 5 ^ 16)) (Times (n / 5 ^ 16)) NotExact
-    unfolding exactOf
-    decided = ap (λ (t : Bool). cond (t && isSingle (n / 5 ^ 16)) (Times (n / 5 ^ 16)) NotExact) (eq-eqb (n % 5 ^ 16) 0 d)
+    decided : exact_of n ≡ cond (is_single (n / 5 ^ 16)) (Times (n / 5 ^ 16)) NotExact
+    unfolding exact_of
+    decided = ap (λ (t : Bool). cond (t && is_single (n / 5 ^ 16)) (Times (n / 5 ^ 16)) NotExact) (eq-eqb (n % 5 ^ 16) 0 d)
 
-    pub taken : isSingle (n / 152587890625) ≡ true → Times (n / 152587890625) ≡ exactOf n
+    pub taken : is_single (n / 152587890625) ≡ true → Times (n / 152587890625) ≡ exact_of n
     taken e = sym (decided ∙ ap (λ (t : Bool). cond t (Times (n / 5 ^ 16)) NotExact) e)
 
-    pub left_out : isSingle (n / 152587890625) ≡ false → NotExact ≡ exactOf n
+    pub left_out : is_single (n / 152587890625) ≡ false → NotExact ≡ exact_of n
     left_out e = sym (decided ∙ ap (λ (t : Bool). cond t (Times (n / 5 ^ 16)) NotExact) e)
 
 module _ (times : ℕ) where
-  pub single-24 : times < 16777216 → isSingle times ≡ true
-  unfolding isSingle
+  pub single-24 : times < 16777216 → is_single times ≡ true
+  unfolding is_single
   single-24 h = rw (lt-ltb times 16777216 h)
 
   module _ (h : 16777216 ≤ times) where
-    pub odd-out : (times % 2 ≡ 0 → ⊥) → isSingle times ≡ false
-    unfolding isSingle
+    pub odd-out : (times % 2 ≡ 0 → ⊥) → is_single times ≡ false
+    unfolding is_single
     odd-out o =
         let four : times % 4 ≡ 0 → ⊥ = λ e. o (omega arith) in
         rw (le-ltb times 16777216 h, ne_eqb (times % 2) 0 o, ne_eqb (times % 4) 0 four) (go (ltb times 33554432) (ltb times 67108864))
@@ -44,13 +44,13 @@ module _ (times : ℕ) where
         go false true = refl
         go false false = refl
 
-    pub single-25 : times % 2 ≡ 0 → times < 33554432 → isSingle times ≡ true
-    unfolding isSingle
+    pub single-25 : times % 2 ≡ 0 → times < 33554432 → is_single times ≡ true
+    unfolding is_single
     single-25 e l = rw (le-ltb times 16777216 h, lt-ltb times 33554432 l, eq-eqb (times % 2) 0 e)
 
   module _ (h : 33554432 ≤ times) where
-    pub fourths-out : (times % 4 ≡ 0 → ⊥) → isSingle times ≡ false
-    unfolding isSingle
+    pub fourths-out : (times % 4 ≡ 0 → ⊥) → is_single times ≡ false
+    unfolding is_single
     fourths-out o =
         let low : 16777216 ≤ times = omega arith in
         rw (le-ltb times 16777216 low, le-ltb times 33554432 h, ne_eqb (times % 4) 0 o) (go (ltb times 67108864))
@@ -59,8 +59,8 @@ module _ (times : ℕ) where
         go true = refl
         go false = refl
 
-    pub single-26 : times % 4 ≡ 0 → times < 67108864 → isSingle times ≡ true
-    unfolding isSingle
+    pub single-26 : times % 4 ≡ 0 → times < 67108864 → is_single times ≡ true
+    unfolding is_single
     single-26 e l =
         let low : 16777216 ≤ times = omega arith in
         rw (le-ltb times 16777216 low, le-ltb times 33554432 h, lt-ltb times 67108864 l, eq-eqb (times % 4) 0 e)
@@ -113,9 +113,9 @@ module _ (times : ℕ) where
   in-26 : times < 67108864 → times % 4 ≡ 0 → Exactly
   in-26 h e = exact-at times (times / 4) 4 151 135 (omega arith) (omega arith) refl refl (omega arith) (omega arith)
 
-pub single-exact : (times : ℕ) → isSingle times ≡ true
+pub single-exact : (times : ℕ) → is_single times ≡ true
     → HasValue (div binary32 (of_int binary32 (pos times)) (of_bits binary32 1199570944)) false times 65536
-unfolding isSingle
+unfolding is_single
 single-exact times h =
     elim (either (ltb times (2 ^ 24)) ((ltb times (2 ^ 25) && eqb (times % 2) 0) || (ltb times (2 ^ 26) && eqb (times % 4) 0)) h) [
       | inl a ↦ in-24 times (ltb-true times (2 ^ 24) a)

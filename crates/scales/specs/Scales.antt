@@ -10,25 +10,25 @@ abbrev pub point : ℕ
 point = 46
 
 -- a number of at most so many digits
-unfoldable pub isShort : (most : ℕ) → List ℕ → Bool
-isShort most text = is_number text && nat_le (length text) most
+unfoldable pub is_short : (most : ℕ) → List ℕ → Bool
+is_short most text = is_number text && nat_le (length text) most
 
 -- one to three digits, then perhaps a point and one to sixteen digits
-unfoldable pub isScale : List ℕ → Bool
-isScale text = isShort 3 (before point text) && (length (before point text) == length text || isShort 16 (after point text))
+unfoldable pub is_scale : List ℕ → Bool
+is_scale text = is_short 3 (before point text) && (length (before point text) == length text || is_short 16 (after point text))
 
 -- how many times 10^-16 it is
 unfoldable pub decimals : List ℕ → ℕ
 decimals text = value (before point text) * 10 ^ 16 + value (after point text) * 10 ^ (16 - length (after point text))
 
 -- So many times 2^-16 in single precision: at most 24 bits without the zeros at its end. A scale is below 1,000, and so below 2^26 times 2^-16.
-unfoldable pub isSingle : ℕ → Bool
-isSingle times =
+unfoldable pub is_single : ℕ → Bool
+is_single times =
     nat_lt times (2 ^ 24) || ((nat_lt times (2 ^ 25) && times % 2 == 0) || (nat_lt times (2 ^ 26) && times % 4 == 0))
 
 -- n times 10^-16 as times 2^-16: exactly, or not taken
-unfoldable pub exactOf : (n : ℕ) → Typed
-exactOf n = cond (n % 5 ^ 16 == 0 && isSingle (n / 5 ^ 16)) (Times (n / 5 ^ 16)) NotExact
+unfoldable pub exact_of : (n : ℕ) → Typed
+exact_of n = cond (n % 5 ^ 16 == 0 && is_single (n / 5 ^ 16)) (Times (n / 5 ^ 16)) NotExact
 
 unfoldable pub scale_of : List ℕ → Typed
-scale_of text = cond (isScale text) (exactOf (decimals text)) NotExact
+scale_of text = cond (is_scale text) (exact_of (decimals text)) NotExact

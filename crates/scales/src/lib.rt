@@ -2,7 +2,7 @@
 ghost use Rattle.std.specs.Prelude.{◌≡◌, ◌-◌, ◌*◌, ◌^◌, ◌<◌, ◌≤◌, true, false};
 ghost use Rattle.std.specs.Float.Ieee.Exact.{HasValue};
 ghost use Rattle.text.specs.Numbers.{value};
-ghost use Rattle.scales.specs.Scales.{exactOf, isShort, isSingle, scale_of};
+ghost use Rattle.scales.specs.Scales.{exact_of, is_short, is_single, scale_of};
 
 // How many times 2^-16 a scale is.
 #[derive(Drop)]
@@ -13,7 +13,7 @@ pub enum Typed {
 
 // Whether a text is a number of at most so many digits.
 fn is_short(text: &[u8], most: usize) -> bool
-    ensures { result ≡ isShort most text.now }
+    ensures { result ≡ is_short most text.now }
 {
     if text.len() == 0 {
         return false;
@@ -36,7 +36,7 @@ fn is_short(text: &[u8], most: usize) -> bool
 
 // What digits are worth.
 fn worth(text: &[u8]) -> u64
-    requires { isShort 16 text.now ≡ true }
+    requires { is_short 16 text.now ≡ true }
     ensures { result ≡ value text.now }
 {
     let mut n: u64 = 0;
@@ -65,7 +65,7 @@ fn padded(number: u64, digits: usize) -> u64
 // So many times 10^-16 as times 2^-16, if single precision has it.
 fn exact(n: u64) -> Typed
     requires { n < 1000 * 10 ^ 16 }
-    ensures { result ≡ exactOf n }
+    ensures { result ≡ exact_of n }
 {
     if n % 152_587_890_625 != 0 {
         return Typed::NotExact;
@@ -110,7 +110,7 @@ pub fn scale_of(text: &[u8]) -> Typed
 
 // So many times 2^-16 in single precision. Of what `scale_of` gives neither step rounds.
 pub fn value_of(times: u32) -> f32
-    ensures { isSingle times ≡ true → HasValue result false times 65536 }
+    ensures { is_single times ≡ true → HasValue result false times 65536 }
 {
     std::num::nearest_u32_to_f32(times) / 65536.0
 }

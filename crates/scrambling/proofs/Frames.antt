@@ -10,17 +10,17 @@ use lib.Seq.{take_at, length-take-le}
 use borrow.Rule.Slice.PartMut.{put_mid}
 use Rattle.bits.specs.Bits.{bit_at, packed}
 use Rattle.bits.proofs.Packed.{length-packed, packed-cong}
-use Rattle.bits.proofs.Parts.{packed-append, bitAt-part}
-use Rattle.scrambling.specs.Scrambler.{sequence, scrambled, scrambledEach}
+use Rattle.bits.proofs.Parts.{packed-append, bit_at-part}
+use Rattle.scrambling.specs.Scrambler.{sequence, scrambled, scrambled_each}
 
-pub scrambledEach-bit : (n : ℕ) (f : ℕ → ℕ) (j : ℕ) → scrambledEach n f j < 2
-unfolding scrambledEach
-scrambledEach-bit n f j = omega arith
+pub scrambled_each-bit : (n : ℕ) (f : ℕ → ℕ) (j : ℕ) → scrambled_each n f j < 2
+unfolding scrambled_each
+scrambled_each-bit n f j = omega arith
 
 -- a scrambled bit depends on its bit alone
-pub scrambledEach-same : (n : ℕ) (f g : ℕ → ℕ) (i : ℕ) → f i ≡ g i → scrambledEach n f i ≡ scrambledEach n g i
-unfolding scrambledEach
-scrambledEach-same n f g i e = rw e
+pub scrambled_each-same : (n : ℕ) (f g : ℕ → ℕ) (i : ℕ) → f i ≡ g i → scrambled_each n f i ≡ scrambled_each n g i
+unfolding scrambled_each
+scrambled_each-same n f g i e = rw e
 
 -- the part that is lent for the frame from byte a to byte e
 pub part_length : (l : List ℕ) (a e : ℕ) → a ≤ e → e ≤ length l → length (take (e - a) (drop a l)) ≡ e - a
@@ -34,19 +34,19 @@ next_start n a e h z s =
 
 module _ (n : ℕ) (frames : List ℕ) (a e : ℕ) (some : 0 < n) (start : a % n ≡ 0) (after : a ≤ e) (inside : e ≤ a + n) where
   -- a bit of that frame
-  frame-bit : (i : ℕ) → i < 8 * (e - a) → scrambled (bit_at (take (e - a) (drop a frames))) i ≡ scrambledEach (8 * n) (bit_at frames) (8 * a + i)
-  unfolding scrambled scrambledEach
+  frame-bit : (i : ℕ) → i < 8 * (e - a) → scrambled (bit_at (take (e - a) (drop a frames))) i ≡ scrambled_each (8 * n) (bit_at frames) (8 * a + i)
+  unfolding scrambled scrambled_each
   frame-bit i h =
       let whole : 8 * a + i ≡ a / n * (8 * n) + i = omega (arith, div-add-mod' a n) in
       let l : i < 8 * n = omega arith in
-      ap₂ (λ (b k : ℕ). (b + sequence k) % 2) (bitAt-part frames a (e - a) i h) (sym (ap (λ (k : ℕ). k % (8 * n)) whole ∙ digits_mod (a / n) l))
+      ap₂ (λ (b k : ℕ). (b + sequence k) % 2) (bit_at-part frames a (e - a) i h) (sym (ap (λ (k : ℕ). k % (8 * n)) whole ∙ digits_mod (a / n) l))
 
   -- one turn: that frame is scrambled
-  pub frame-more : (out part : List ℕ) → e ≤ length out → take a out ≡ packed a (scrambledEach (8 * n) (bit_at frames))
+  pub frame-more : (out part : List ℕ) → e ≤ length out → take a out ≡ packed a (scrambled_each (8 * n) (bit_at frames))
       → part ≡ packed (length (take (e - a) (drop a out))) (scrambled (bit_at (take (e - a) (drop a frames))))
-      → take e (put_mid a (e - a) out part) ≡ packed e (scrambledEach (8 * n) (bit_at frames))
+      → take e (put_mid a (e - a) out part) ≡ packed e (scrambled_each (8 * n) (bit_at frames))
   frame-more out part fits front back =
-      let f : ℕ → ℕ = scrambledEach (8 * n) (bit_at frames) in
+      let f : ℕ → ℕ = scrambled_each (8 * n) (bit_at frames) in
       let m : a + (e - a) ≡ e = omega arith in
       let here : part ≡ packed (e - a) (scrambled (bit_at (take (e - a) (drop a frames)))) =
       back ∙ ap (λ (k : ℕ). packed k (scrambled (bit_at (take (e - a) (drop a frames))))) (part_length out a e after fits) in

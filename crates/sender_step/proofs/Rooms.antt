@@ -11,8 +11,8 @@ use borrow.Author.Tests.{eqb-true}
 use Rattle.runs.specs.declared.Extended.TheVariants.{P3, P4}
 use Rattle.runs.specs.declared.Kind.TheVariants.{Unused, Wide}
 use Rattle.runs.specs.declared.Main.TheVariants.{Plain, Mp5, Mp6}
-use Rattle.runs.specs.MainChannels.{mainOf, p1'Len}
-use Rattle.runs.specs.Lengths.{kind_of, matrixLen, px2Len, pmLen, controlLen, senderLen}
+use Rattle.runs.specs.MainChannels.{main_of, p1'_len}
+use Rattle.runs.specs.Lengths.{kind_of, matrix_len, px2_len, pm_len, control_len, sender_len}
 use Rattle.runs.proofs.Bounds.{matrix-le}
 use Rattle.calls.specs.Called.{signal}
 use Rattle.modes.specs.Sizes.{wanted}
@@ -21,11 +21,11 @@ use Rattle.layout.proofs.Zeros.{zeros_of}
 use Rattle.sheetinputs.specs.Run.{blank}
 
 -- PX2 has the matrices of P4 or of P1': no mode has both
-px2-le : (mode : ℕ) → px2Len mode ≤ 18432
-unfolding mainOf kind_of
+px2-le : (mode : ℕ) → px2_len mode ≤ 18432
+unfolding main_of kind_of
 px2-le mode = go (eqb mode 5) (eqb mode 6) (eqb mode 11) refl refl
   where
-    go : (x y z : Bool) → eqb mode 6 ≡ y → eqb mode 11 ≡ z → matrixLen (cond z Wide Unused) + p1'Len (cond x Mp5 (cond y Mp6 Plain)) ≤ 18432
+    go : (x y z : Bool) → eqb mode 6 ≡ y → eqb mode 11 ≡ z → matrix_len (cond z Wide Unused) + p1'_len (cond x Mp5 (cond y Mp6 Plain)) ≤ 18432
     go true y true f g = omega arith
     go true y false f g = omega arith
     go false true true f g = let a : mode ≡ 6 = eqb-true _ _ f in let b : mode ≡ 11 = eqb-true _ _ g in absurd (omega arith)
@@ -33,18 +33,18 @@ px2-le mode = go (eqb mode 5) (eqb mode 6) (eqb mode 11) refl refl
     go false false true f g = omega arith
     go false false false f g = omega arith
 
-module _ (mode : ℕ) (want : List ℕ) (lengths : want ≡ wanted mode (senderLen (kind_of mode P3)) (senderLen (kind_of mode P4))) where
+module _ (mode : ℕ) (want : List ℕ) (lengths : want ≡ wanted mode (sender_len (kind_of mode P3)) (sender_len (kind_of mode P4))) where
   pub room-px1 : get_or want 6 0 ≤ 9216
-  room-px1 = let e : get_or want 6 0 ≡ matrixLen (kind_of mode P3) = entry-is mode _ _ want lengths 6 in omega (arith, matrix-le (kind_of mode P3))
+  room-px1 = let e : get_or want 6 0 ≡ matrix_len (kind_of mode P3) = entry-is mode _ _ want lengths 6 in omega (arith, matrix-le (kind_of mode P3))
 
   pub room-px2 : get_or want 7 0 ≤ 18432
-  room-px2 = let e : get_or want 7 0 ≡ px2Len mode = entry-is mode _ _ want lengths 7 in omega (arith, px2-le mode)
+  room-px2 = let e : get_or want 7 0 ≡ px2_len mode = entry-is mode _ _ want lengths 7 in omega (arith, px2-le mode)
 
   pub blank-is : signal (replicate 46080 0) (take (get_or want 6 0) (replicate 9216 0)) (take (get_or want 7 0) (replicate 18432 0)) (replicate 4096 0) ≡ blank mode
-  unfolding blank pmLen controlLen
+  unfolding blank pm_len control_len
   blank-is =
-      let q1 = zeros_of (get_or want 6 0) 9216 (matrixLen (kind_of mode P3)) (entry-is mode _ _ want lengths 6) room-px1 in
-      let q2 = zeros_of (get_or want 7 0) 18432 (px2Len mode) (entry-is mode _ _ want lengths 7) room-px2 in
+      let q1 = zeros_of (get_or want 6 0) 9216 (matrix_len (kind_of mode P3)) (entry-is mode _ _ want lengths 6) room-px1 in
+      let q2 = zeros_of (get_or want 7 0) 18432 (px2_len mode) (entry-is mode _ _ want lengths 7) room-px2 in
       λ i. signal (replicate 46080 0) (q1 i) (q2 i) (replicate 4096 0)
 
   -- and what is written has room

@@ -2,11 +2,11 @@
 ghost use Rattle.std.specs.Prelude.{◌≡◌, ◌+◌, ◌≤◌, length, take};
 ghost use Rattle.io.specs.Counts.{IsPrefixLen};
 ghost use Rattle.calls.specs.Called.{memory, signal};
-ghost use Rattle.layout.specs.Inputs.{framesIn, handed};
+ghost use Rattle.layout.specs.Inputs.{frames_in, handed};
 ghost use Rattle.layout.specs.Layout.{bytes_of};
-ghost use Rattle.run_input.specs.Inputs.{inputStep};
+ghost use Rattle.run_input.specs.Inputs.{input_step};
 ghost use Rattle.steps.specs.Steps.{step, step_of};
-ghost use Rattle.sender_step.specs.Written.{sendBytes, signalBytes};
+ghost use Rattle.sender_step.specs.Written.{send_bytes, signal_bytes};
 
 use runs::State;
 use steps::Stepped;
@@ -41,8 +41,8 @@ fn send_lent(
     requires { (251 ≤ length out.old) × (length pm.old + length px1.old + length px2.old + length control.old ≤ length out.old) }
     ensures { IsPrefixLen result.length out.new
         × (step result.state (memory memory3.new memory4.new delay.new) result.done (take result.length out.new)
-        ≡ step_of signalBytes frame (inputStep n3 n4 state (memory memory3.old memory4.old delay.old)
-        (handed (framesIn state.mode n3 n4 input.now) (signal pm.old px1.old px2.old control.old)))) }
+        ≡ step_of signal_bytes frame (input_step n3 n4 state (memory memory3.old memory4.old delay.old)
+        (handed (frames_in state.mode n3 n4 input.now) (signal pm.old px1.old px2.old control.old)))) }
 {
     let sent = run_input::send_input(
         state, n3, n4, input, pm, px1, px2, control, memory3, memory4, delay,
@@ -82,7 +82,7 @@ pub fn send_bytes(
     requires { 77824 ≤ length out.old }
     ensures { IsPrefixLen result.length out.new
         × (step result.state (memory memory3.new memory4.new delay.new) result.done (take result.length out.new)
-        ≡ sendBytes n3 n4 frame state (memory memory3.old memory4.old delay.old) input.now) }
+        ≡ send_bytes n3 n4 frame state (memory memory3.old memory4.old delay.old) input.now) }
 {
     let want = modes::sender_lengths(state.mode);
     let c = want[6];

@@ -1,8 +1,8 @@
 // Documents 01 and 02: sending an L1 frame.
 ghost use Rattle.std.specs.Prelude.{◌≡◌};
-ghost use Rattle.runs.specs.Lengths.{senderLen};
-ghost use Rattle.runs.specs.Lent.{filled, meant, memoryNext, signalOf};
-ghost use Rattle.runs.specs.Sending.{sendStep};
+ghost use Rattle.runs.specs.Lengths.{sender_len};
+ghost use Rattle.runs.specs.Lent.{filled, meant, memory_next, signal_of};
+ghost use Rattle.runs.specs.Sending.{send_step};
 ghost use Rattle.calls.specs.Fits.{Fits};
 ghost use Rattle.calls.specs.Called.{frames, gave, lent, memory, signal};
 
@@ -28,9 +28,9 @@ fn write(
     memory4: &mut [u8],
     delay: &mut [u8],
 )
-    requires { Fits senderLen state (memory memory3.old memory4.old delay.old) (meant state.mode (lent reserved p1.now pids.now p2.now p3.now p4.now pm.old px1.old px2.old control.old)) }
-    ensures control_after { signal pm.new px1.new px2.new control.new ≡ signalOf state.mode state.half (memory memory3.old memory4.old delay.old) (filled state.mode (frames reserved p1.now pids.now p2.now p3.now p4.now)) }
-    ensures delay_after { memory memory3.new memory4.new delay.new ≡ memoryNext state.mode state.half (memory memory3.old memory4.old delay.old) (filled state.mode (frames reserved p1.now pids.now p2.now p3.now p4.now)) }
+    requires { Fits sender_len state (memory memory3.old memory4.old delay.old) (meant state.mode (lent reserved p1.now pids.now p2.now p3.now p4.now pm.old px1.old px2.old control.old)) }
+    ensures control_after { signal pm.new px1.new px2.new control.new ≡ signal_of state.mode state.half (memory memory3.old memory4.old delay.old) (filled state.mode (frames reserved p1.now pids.now p2.now p3.now p4.now)) }
+    ensures delay_after { memory memory3.new memory4.new delay.new ≡ memory_next state.mode state.half (memory memory3.old memory4.old delay.old) (filled state.mode (frames reserved p1.now pids.now p2.now p3.now p4.now)) }
 {
     let main = main_of(state.mode);
     let half = state.half;
@@ -66,7 +66,7 @@ pub fn send(
     delay: &mut [u8],
 ) -> Outcome
     ensures { gave result (memory memory3.new memory4.new delay.new) (lent reserved p1.now pids.now p2.now p3.now p4.now pm.new px1.new px2.new control.new)
-        ≡ sendStep state (memory memory3.old memory4.old delay.old) (lent reserved p1.now pids.now p2.now p3.now p4.now pm.old px1.old px2.old control.old) }
+        ≡ send_step state (memory memory3.old memory4.old delay.old) (lent reserved p1.now pids.now p2.now p3.now p4.now pm.old px1.old px2.old control.old) }
 {
     let want = sender_lengths(state.mode);
     let have = [

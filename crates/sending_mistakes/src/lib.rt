@@ -1,7 +1,7 @@
 // A sending with the contract of `sending::send`, which it calls: right as it stands. The senders that document 01 rules out by name, and others, are must-fail
 // edits of it, so that what is refused is the mistake.
 ghost use Rattle.std.specs.Prelude.{◌≡◌};
-ghost use Rattle.runs.specs.Sending.{sendStep};
+ghost use Rattle.runs.specs.Sending.{send_step};
 ghost use Rattle.calls.specs.Called.{gave, lent, memory};
 
 use calls::Outcome;
@@ -25,7 +25,7 @@ pub fn send(
     memory4: &mut [u8],
     delay: &mut [u8],
 ) -> Outcome
-    ensures { gave result (memory memory3.new memory4.new delay.new) (lent reserved p1.now pids.now p2.now p3.now p4.now pm.new px1.new px2.new control.new) ≡ sendStep state (memory memory3.old memory4.old delay.old) (lent reserved p1.now pids.now p2.now p3.now p4.now pm.old px1.old px2.old control.old) }
+    ensures { gave result (memory memory3.new memory4.new delay.new) (lent reserved p1.now pids.now p2.now p3.now p4.now pm.new px1.new px2.new control.new) ≡ send_step state (memory memory3.old memory4.old delay.old) (lent reserved p1.now pids.now p2.now p3.now p4.now pm.old px1.old px2.old control.old) }
 {
     // nothing is written before the call
     let sent = sending::send(

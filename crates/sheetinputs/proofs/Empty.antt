@@ -10,7 +10,7 @@ use lib.Dec.{eqb, ltb}
 use lib.ListN.{get_or, length, drop, drop_of_length-le}
 use lib.Seq.{drop-cons, get_or-drop}
 use borrow.Author.Tests.{eq-eqb, ne_eqb}
-use Rattle.sheetinputs.specs.Inputs.{empty_at, emptyLine}
+use Rattle.sheetinputs.specs.Inputs.{empty_at, empty_line}
 
 module _ (input : List ℕ) (i : ℕ) where
   first-is : get_or (drop i input) 0 0 ≡ get_or input i 0
@@ -40,21 +40,21 @@ module _ (input : List ℕ) (i : ℕ) where
   past_end h e = let z : get_or (drop i input) 0 0 ≡ 0 = ap (λ (l : List ℕ). get_or l 0 0) (drop_of_length-le input {i = i} h) in omega (arith, first-is)
 
 module _ (input : List ℕ) (i : ℕ) (fresh : Bool) where
-  opened : i < length input → emptyLine fresh (drop i input) ≡ emptyLine fresh (get_or input i 0 ∷ drop (suc i) input)
-  opened h = ap (emptyLine fresh) (drop-cons input i 0 h)
+  opened : i < length input → empty_line fresh (drop i input) ≡ empty_line fresh (get_or input i 0 ∷ drop (suc i) input)
+  opened h = ap (empty_line fresh) (drop-cons input i 0 h)
 
   tested : i < length input → empty_at (drop i input) ≡ empty_at (get_or input i 0 ∷ drop (suc i) input)
   tested h = ap empty_at (drop-cons input i 0 h)
 
-  pub empty-here : i < length input → (size : ℕ) → size ≡ empty_at (drop i input) → (fresh && ltb 0 size) ≡ true → emptyLine fresh (drop i input) ≡ 0
-  unfolding emptyLine
+  pub empty-here : i < length input → (size : ℕ) → size ≡ empty_at (drop i input) → (fresh && ltb 0 size) ≡ true → empty_line fresh (drop i input) ≡ 0
+  unfolding empty_line
   empty-here h size s e = opened h ∙ rw (ap (λ (k : ℕ). fresh && ltb 0 k) (sym (s ∙ tested h)) ∙ e)
 
   pub empty-later : i < length input → (size : ℕ) → size ≡ empty_at (drop i input) → (fresh && ltb 0 size) ≡ false
-      → emptyLine fresh (drop i input) ≡ 1 + emptyLine (eqb (get_or input i 0) 10) (drop (i + 1) input)
-  unfolding emptyLine
+      → empty_line fresh (drop i input) ≡ 1 + empty_line (eqb (get_or input i 0) 10) (drop (i + 1) input)
+  unfolding empty_line
   empty-later h size s e = opened h ∙ rw (ap (λ (k : ℕ). fresh && ltb 0 k) (sym (s ∙ tested h)) ∙ e, add-one i) (omega arith)
 
-  pub empty-nowhere : length input ≤ i → emptyLine fresh (drop i input) ≡ 0
-  unfolding emptyLine
+  pub empty-nowhere : length input ≤ i → empty_line fresh (drop i input) ≡ 0
+  unfolding empty_line
   empty-nowhere h = rw (drop_of_length-le input {i = i} h)

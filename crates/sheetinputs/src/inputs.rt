@@ -1,6 +1,6 @@
 // The input of an answer sheet.
 ghost use Rattle.std.specs.Prelude.{◌≡◌, true, ◌&&◌, ◌+◌, ◌*◌, ◌≤◌, ◌<◌, ltb, drop, length};
-ghost use Rattle.sheetinputs.specs.Inputs.{empty_at, emptyLine, frameSize, named, older};
+ghost use Rattle.sheetinputs.specs.Inputs.{empty_at, empty_line, frame_size, named, older};
 
 // Whether a mode is MP1, MP2, MP3 or MP11.
 pub fn is_older(mode: u8) -> bool
@@ -62,7 +62,7 @@ fn ends(fresh: bool, size: usize) -> bool
 
 // Where the empty line stands that ends the list.
 pub fn empty_line(input: &[u8]) -> usize
-    ensures { (result ≡ emptyLine true input.now) × (result ≤ length input.now) }
+    ensures { (result ≡ empty_line true input.now) × (result ≤ length input.now) }
 {
     let mut fresh = true;
     let mut i: usize = 0;
@@ -79,7 +79,7 @@ pub fn empty_line(input: &[u8]) -> usize
 // The bytes of an L1 frame.
 pub fn frame_size(mode: u8, n3: usize, n4: usize) -> usize
     requires { (n3 ≤ 4608) × (n4 ≤ 4608) }
-    ensures { (result ≡ frameSize mode n3 n4) × (result ≤ 65536) }
+    ensures { (result ≡ frame_size mode n3 n4) × (result ≤ 65536) }
 {
     let want = modes::sender_lengths(mode);
     1 + want[0] + want[1] + want[2] + n3 + n4
@@ -88,7 +88,7 @@ pub fn frame_size(mode: u8, n3: usize, n4: usize) -> usize
 // The bytes of `count` L1 frames.
 pub fn frames_size(mode: u8, count: u64, n3: usize, n4: usize) -> usize
     requires { (n3 ≤ 4608) × (n4 ≤ 4608) × (count ≤ 64) }
-    ensures { result ≡ count * frameSize mode n3 n4 }
+    ensures { result ≡ count * frame_size mode n3 n4 }
 {
     let n = frame_size(mode, n3, n4);
     count as usize * n

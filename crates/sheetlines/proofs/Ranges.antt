@@ -14,11 +14,11 @@ use Rattle.runs.specs.declared.Answer.TheVariants.{StateNotValid, WrongLength}
 use Rattle.runs.specs.declared.Kind.{Kind}
 use Rattle.runs.specs.declared.Kind.TheVariants.{Unused, Narrow, Wide}
 use Rattle.runs.specs.declared.State.{State}
-use Rattle.runs.specs.Lengths.{tableRow}
+use Rattle.runs.specs.Lengths.{table_row}
 use Rattle.runs.specs.Starting.{valid}
 use Rattle.queries.specs.Finder.{found}
 use Rattle.queries.specs.declared.finder.Found.TheVariants.{P1, Pids}
-use Rattle.queries.specs.FinderPX.{cell_of, columnsOf, foundPX, frameCoded, kindOfNumber, told}
+use Rattle.queries.specs.FinderPX.{cell_of, columns_of, found_px, frame_coded, kind_of_number, told}
 use Rattle.queries.specs.declared.finder_px.FoundPx.{FoundPx}
 use Rattle.queries.specs.declared.finder_px.FoundPx.TheVariants.{Coded, Fill, Refused}
 use Rattle.queries.proofs.Origins.{frame-holds, used}
@@ -26,9 +26,9 @@ use Rattle.queries.proofs.Placing.{found_inside}
 use Rattle.calls.proofs.Admitted.{valid-says}
 use Rattle.locating.specs.Locator.{located}
 use Rattle.locating.specs.declared.locator.Located.TheVariants.{At}
-use Rattle.locating.specs.LocatorPX.{locatedPX}
+use Rattle.locating.specs.LocatorPX.{located_px}
 use Rattle.locating.specs.declared.locator_px.LocatedPx.TheVariants.{At as AtPX}
-use Rattle.locating.specs.BothWays.{foundAgain}
+use Rattle.locating.specs.BothWays.{found_again}
 use Rattle.locating.proofs.AgainPM.{both_ways}
 use Rattle.locating.proofs.CasesPM as pm
 use Rattle.locating.proofs.CasesPX as px
@@ -71,21 +71,21 @@ module _ (n g k e f b : ℕ) where
   passed-px true true p r c y h = absurd (refused-not-coded h)
   passed-px false u p r c y h = absurd (refused-not-coded h)
 
-at-most-144 : (k : Kind) → columnsOf k ≤ 144
+at-most-144 : (k : Kind) → columns_of k ≤ 144
 at-most-144 Unused = omega arith
 at-most-144 Narrow = omega arith
 at-most-144 Wide = omega arith
 
 module _ (s : State) (channel pair row column e f b : ℕ) where
-  pub px-in-range : foundPX s channel pair row column ≡ Coded e f b → (pair < 8) × (row < 64) × (column < 144) × (e ≤ s.age)
-  unfolding foundPX told chosen
+  pub px-in-range : found_px s channel pair row column ≡ Coded e f b → (pair < 8) × (row < 64) × (column < 144) × (e ≤ s.age)
+  unfolding found_px told chosen
   px-in-range h =
-      let k = kindOfNumber s.mode channel in
-      let n = earlier (tableRow k) s.half (cell_of k pair row column) in
-      let t = passed-px n _ _ e f b (valid s) (eqb (columnsOf k) 0) (ltb pair 8) (ltb row 64) (ltb column (columnsOf k)) (ltb s.age n) h in (
+      let k = kind_of_number s.mode channel in
+      let n = earlier (table_row k) s.half (cell_of k pair row column) in
+      let t = passed-px n _ _ e f b (valid s) (eqb (columns_of k) 0) (ltb pair 8) (ltb row 64) (ltb column (columns_of k)) (ltb s.age n) h in (
         ltb-true pair 8 t.0,
         ltb-true row 64 t.1,
-        omega (arith, ltb-true column (columnsOf k) t.2, at-most-144 k),
+        omega (arith, ltb-true column (columns_of k) t.2, at-most-144 k),
         omega (arith, ltb-false s.age n t.3, t.4),
       )
 
@@ -128,42 +128,42 @@ module _ (P : ℕ → ℕ → Type 0) (bit row column : ℕ) (p : Position) wher
 pub pm-placed-in-range : (channel frame bit row column : ℕ) (p : Position) → located channel frame bit ≡ At p row column → (row < 512) × (column < 720)
 pm-placed-in-range channel frame bit row column p =
     by-channel (λ (c f : ℕ). (row < 512) × (column < 720)) bit row column p
-    (λ e. p1-in-range row column bit (sym (ap foundAgain e) ∙ both_ways.p1-there bit (pm.p1-range bit row column p e)))
+    (λ e. p1-in-range row column bit (sym (ap found_again e) ∙ both_ways.p1-there bit (pm.p1-range bit row column p e)))
     (λ f e.
     let (lf, lb) = pm.pids-range f bit row column p e in
-    pids-in-range row column f bit (sym (ap foundAgain e) ∙ both_ways.pids-there f bit lf lb))
+    pids-in-range row column f bit (sym (ap found_again e) ∙ both_ways.pids-there f bit lf lb))
     channel frame
 
-module _ (s : State) (channel frame bit n pair row column : ℕ) (e : locatedPX s channel frame bit ≡ AtPX n pair row column) where
+module _ (s : State) (channel frame bit n pair row column : ℕ) (e : located_px s channel frame bit ≡ AtPX n pair row column) where
   abbrev k : Kind
-  k = kindOfNumber s.mode channel
+  k = kind_of_number s.mode channel
 
   pub px-placed-in-range : (n < 3) × (pair < 8) × (row < 64) × (column < 144)
-  px-placed-in-range = go (valid s) (eqb (columnsOf k) 0) (ltb frame 8) (ltb bit (64 * columnsOf k)) refl refl refl refl
+  px-placed-in-range = go (valid s) (eqb (columns_of k) 0) (ltb frame 8) (ltb bit (64 * columns_of k)) refl refl refl refl
     where
-      go : (v u f b : Bool) → valid s ≡ v → eqb (columnsOf k) 0 ≡ u → ltb frame 8 ≡ f → ltb bit (64 * columnsOf k) ≡ b → (n < 3) × (pair < 8) × (row < 64) × (column < 144)
+      go : (v u f b : Bool) → valid s ≡ v → eqb (columns_of k) 0 ≡ u → ltb frame 8 ≡ f → ltb bit (64 * columns_of k) ≡ b → (n < 3) × (pair < 8) × (row < 64) × (column < 144)
       go false u f b v-is u-is f-is b-is =
           let r = px.state-refused s channel frame bit v-is in
           let z : ◌≡◌ {A = ℕ} 0 1 = cc in
           absurd (omega arith)
       go true true f b v-is u-is f-is b-is =
-          let r = px.channel-refused s channel frame bit v-is k refl (columnsOf k) refl (eqb-true _ _ u-is) in
+          let r = px.channel-refused s channel frame bit v-is k refl (columns_of k) refl (eqb-true _ _ u-is) in
           let z : ◌≡◌ {A = ℕ} 0 1 = cc in
           absurd (omega arith)
       go true false false b v-is u-is f-is b-is =
-          let r = px.frame_refused s channel frame bit v-is k refl (columnsOf k) refl (eqb-false _ _ u-is) (ltb-false _ _ f-is) in
+          let r = px.frame_refused s channel frame bit v-is k refl (columns_of k) refl (eqb-false _ _ u-is) (ltb-false _ _ f-is) in
           let z : ◌≡◌ {A = ℕ} 0 1 = cc in
           absurd (omega arith)
       go true false true false v-is u-is f-is b-is =
-          let r = px.bit-refused s channel frame bit v-is k refl (columnsOf k) refl (eqb-false _ _ u-is) (ltb-true _ _ f-is) (ltb-false _ _ b-is) in
+          let r = px.bit-refused s channel frame bit v-is k refl (columns_of k) refl (eqb-false _ _ u-is) (ltb-true _ _ f-is) (ltb-false _ _ b-is) in
           let z : ◌≡◌ {A = ℕ} 0 1 = cc in
           absurd (omega arith)
       go true false true true v-is u-is f-is b-is =
           let lf = ltb-true _ _ f-is in
-          let lb : bit < frameCoded k = omega (arith, ltb-true bit (64 * columnsOf k) b-is, frame-holds k) in
+          let lb : bit < frame_coded k = omega (arith, ltb-true bit (64 * columns_of k) b-is, frame-holds k) in
           let row_of = used k (eqb-false _ _ u-is) in
-          let j : ℕ = frame * frameCoded k + bit in
-          let q = px.inside s channel frame bit v-is k refl (columnsOf k) refl (eqb-false _ _ u-is) lf (ltb-true _ _ b-is) ∙ e in
-          let d = standing-says k row_of (later (tableRow k) s.half j) n pair row column q in
-          let l = few (tableRow k) s.half j row_of (valid-says s v-is).1 (px.bit-inside k frame bit lf lb) in
+          let j : ℕ = frame * frame_coded k + bit in
+          let q = px.inside s channel frame bit v-is k refl (columns_of k) refl (eqb-false _ _ u-is) lf (ltb-true _ _ b-is) ∙ e in
+          let d = standing-says k row_of (later (table_row k) s.half j) n pair row column q in
+          let l = few (table_row k) s.half j row_of (valid-says s v-is).1 (px.bit-inside k frame bit lf lb) in
           (omega (arith, d.later-is, l), d.pair_lt, d.row_lt, omega (arith, d.column-lt, at-most-144 k))

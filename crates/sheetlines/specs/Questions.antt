@@ -5,7 +5,7 @@
 -- One space parts two words. The last word is all that is left, so a space too many stands in it, and it is no number.
 use Rattle.std.specs.Prelude.{ℕ, cond, List, eqb, ltb}
 use Rattle.bits.specs.Tests.{same}
-use Rattle.operands.specs.Operands.{operandOf}
+use Rattle.operands.specs.Operands.{operand_of}
 use Rattle.operands.specs.declared.Operand.{Operand}
 use Rattle.operands.specs.declared.Operand.TheVariants.{Number, NotDecimal}
 use Rattle.text.specs.Letters.{ascii}
@@ -41,38 +41,38 @@ named name =
 unfoldable pub two : (name frame first second : ℕ) → Question
 two name frame first second = cond (eqb name 0) (Pm frame first second) (cond (ltb name 7) (Bit frame name first second) Wrong)
 
-unfoldable pub twoQuestion : (name : ℕ) (frame place : List ℕ) → Question
-twoQuestion name frame place =
-    with (operandOf frame) (λ f.
-    with (operandOf (word place)) (λ first.
-    with (operandOf (rest place)) (λ second.
+unfoldable pub two_question : (name : ℕ) (frame place : List ℕ) → Question
+two_question name frame place =
+    with (operand_of frame) (λ f.
+    with (operand_of (word place)) (λ first.
+    with (operand_of (rest place)) (λ second.
     two name f first second)))
 
 -- PAIR ROW COL
-unfoldable pub pxQuestion : (channel : ℕ) (frame place : List ℕ) → Question
-pxQuestion channel frame place =
-    with (operandOf frame) (λ f.
-    with (operandOf (word place)) (λ pair.
-    with (operandOf (word (rest place))) (λ row.
-    with (operandOf (rest (rest place))) (λ column.
+unfoldable pub px_question : (channel : ℕ) (frame place : List ℕ) → Question
+px_question channel frame place =
+    with (operand_of frame) (λ f.
+    with (operand_of (word place)) (λ pair.
+    with (operand_of (word (rest place))) (λ row.
+    with (operand_of (rest (rest place))) (λ column.
     Px f channel pair row column))))
 
-abbrev pub namedPX1 : List ℕ
-namedPX1 = ascii "PX1"
+abbrev pub named_px1 : List ℕ
+named_px1 = ascii "PX1"
 
-abbrev pub namedPX2 : List ℕ
-namedPX2 = ascii "PX2"
+abbrev pub named_px2 : List ℕ
+named_px2 = ascii "PX2"
 
 -- PX1 is asked for by channel 3 and PX2 by channel 4, in every mode
 unfoldable pub asking : (frame name place : List ℕ) → Question
 asking frame name place =
-    cond (same name namedPX1) (pxQuestion 3 frame place)
-    (cond (same name namedPX2) (pxQuestion 4 frame place)
-    (twoQuestion (named name) frame place))
+    cond (same name named_px1) (px_question 3 frame place)
+    (cond (same name named_px2) (px_question 4 frame place)
+    (two_question (named name) frame place))
 
-unfoldable pub plainQuestion : (line : List ℕ) → Question
-plainQuestion line = asking (word line) (word (rest line)) (rest (rest line))
+unfoldable pub plain_question : (line : List ℕ) → Question
+plain_question line = asking (word line) (word (rest line)) (rest (rest line))
 
 -- a CR before the newline is not part of the line
-unfoldable pub questionOf : (line : List ℕ) → Question
-questionOf line = plainQuestion (plain line)
+unfoldable pub question_of : (line : List ℕ) → Question
+question_of line = plain_question (plain line)

@@ -1,12 +1,12 @@
 // What an answer sheet says of a cell, or of a coded bit.
 ghost use Rattle.std.specs.Prelude.{◌≡◌, ◌+◌, ◌*◌, ◌<◌, ◌≤◌};
 ghost use Rattle.interleaving.specs.TableI.{ks};
-ghost use Rattle.runs.specs.Starting.{stateAt};
-ghost use Rattle.finding.specs.Finder.{foundIn};
-ghost use Rattle.finding.specs.Locator.{locatedIn};
-ghost use Rattle.finding_px.specs.Finder.{foundPxIn};
-ghost use Rattle.finding_px.specs.Locator.{locatedPxIn};
-ghost use Rattle.sheetlines.specs.Entries.{bitEntry, columnsIn, entry_of, inPM, inPX, number_in, ofPM, pmEntry, pmPlaced, pxEntry, pxPlaced, turn_of};
+ghost use Rattle.runs.specs.Starting.{state_at};
+ghost use Rattle.finding.specs.Finder.{found_in};
+ghost use Rattle.finding.specs.Locator.{located_in};
+ghost use Rattle.finding_px.specs.Finder.{found_px_in};
+ghost use Rattle.finding_px.specs.Locator.{located_px_in};
+ghost use Rattle.sheetlines.specs.Entries.{bit_entry, columns_in, entry_of, in_pm, in_px, number_in, of_pm, pm_entry, pm_placed, px_entry, px_placed, turn_of};
 
 use crate::questions::Question;
 use finding::Owner;
@@ -44,7 +44,7 @@ pub enum Entry {
 
 // Whether a channel is sent in PM: P1, PIDS or P2.
 pub fn is_of_pm(channel: u8) -> bool
-    ensures { result ≡ ofPM channel }
+    ensures { result ≡ of_pm channel }
 {
     if channel < 3 {
         return true;
@@ -54,7 +54,7 @@ pub fn is_of_pm(channel: u8) -> bool
 
 // The state before an L1 frame of a run, with the number 0: a finder's answer is the same for every number.
 pub fn state_before(mode: u8, frame: u64) -> State
-    ensures { result ≡ stateAt mode 0 frame }
+    ensures { result ≡ state_at mode 0 frame }
 {
     let half = (frame % 2) as u8;
     let last = modes::last_age(modes::main_of(mode));
@@ -77,7 +77,7 @@ pub fn state_before(mode: u8, frame: u64) -> State
 // A coded bit of P1, PIDS or P2 in its cell of PM, in L1 frame t.
 fn in_pm(t: u64, channel: u8, frame: usize, bit: usize, row: usize, column: usize) -> Entry
     requires { (row < 512) × (column < 720) }
-    ensures { result ≡ inPM t channel frame bit row column }
+    ensures { result ≡ in_pm t channel frame bit row column }
 {
     let coded = CodedBit {
         channel,
@@ -97,7 +97,7 @@ fn in_pm(t: u64, channel: u8, frame: usize, bit: usize, row: usize, column: usiz
 
 // The cells of a row of the matrices of PX1 or PX2 in which a channel is sent.
 fn px_columns(mode: u8, channel: u8) -> usize
-    ensures { (result ≡ columnsIn mode channel) × (result ≤ 288) }
+    ensures { (result ≡ columns_in mode channel) × (result ≤ 288) }
 {
     if channel == 3 {
         return queries::columns(modes::kind_of(mode, Extended::P3));
@@ -130,7 +130,7 @@ fn in_px(
     column: usize,
 ) -> Entry
     requires { (pair < 8) × (row < 64) × (column < 288) }
-    ensures { result ≡ inPX mode channel from sent frame bit pair row column }
+    ensures { result ≡ in_px mode channel from sent frame bit pair row column }
 {
     let coded = CodedBit {
         channel,
@@ -151,7 +151,7 @@ fn in_px(
 // A cell of PM of L1 frame t.
 fn pm_entry(table: &[u16; 1152], mode: u8, t: u64, row: usize, column: usize) -> Entry
     requires { table.now ≡ ks }
-    ensures { result ≡ pmEntry t row column (foundIn mode row column) }
+    ensures { result ≡ pm_entry t row column (found_in mode row column) }
 {
     match finding::find_in_by(table, mode, row, column) {
         Owner::P1 { frame, bit } => in_pm(t, 1, frame, bit, row, column),
@@ -163,7 +163,7 @@ fn pm_entry(table: &[u16; 1152], mode: u8, t: u64, row: usize, column: usize) ->
 
 // A coded bit of P1, PIDS or P2 of L1 frame t.
 fn pm_placed(mode: u8, t: u64, channel: u8, frame: usize, bit: usize) -> Entry
-    ensures { result ≡ pmPlaced t channel frame bit (locatedIn mode channel frame bit) }
+    ensures { result ≡ pm_placed t channel frame bit (located_in mode channel frame bit) }
 {
     match finding::locate_in(mode, channel, frame, bit) {
         Located::At {
@@ -177,7 +177,7 @@ fn pm_placed(mode: u8, t: u64, channel: u8, frame: usize, bit: usize) -> Entry
 
 // A cell of PX1 or PX2 of the L1 frame `sent`.
 fn px_entry(mode: u8, sent: u64, channel: u8, pair: usize, row: usize, column: usize) -> Entry
-    ensures { result ≡ pxEntry mode channel sent pair row column (foundPxIn (stateAt mode 0 sent) channel pair row column) }
+    ensures { result ≡ px_entry mode channel sent pair row column (found_px_in (state_at mode 0 sent) channel pair row column) }
 {
     let state = state_before(mode, sent);
     match finding_px::find_px_in(state, channel, pair, row, column) {
@@ -202,7 +202,7 @@ fn px_entry(mode: u8, sent: u64, channel: u8, pair: usize, row: usize, column: u
 // A coded bit of P3, P4 or P1' of the L1 frame `from`.
 fn px_placed(mode: u8, from: u64, channel: u8, frame: usize, bit: usize) -> Entry
     requires { from < 4294967296 }
-    ensures { result ≡ pxPlaced mode channel from frame bit (locatedPxIn (stateAt mode 0 from) channel frame bit) }
+    ensures { result ≡ px_placed mode channel from frame bit (located_px_in (state_at mode 0 from) channel frame bit) }
 {
     let state = state_before(mode, from);
     match finding_px::locate_px_in(state, channel, frame, bit) {
@@ -222,7 +222,7 @@ fn px_placed(mode: u8, from: u64, channel: u8, frame: usize, bit: usize) -> Entr
 // A coded bit of the L1 frame `from`.
 fn bit_entry(mode: u8, from: u64, channel: u8, frame: usize, bit: usize) -> Entry
     requires { from < 4294967296 }
-    ensures { result ≡ bitEntry mode channel from frame bit }
+    ensures { result ≡ bit_entry mode channel from frame bit }
 {
     if is_of_pm(channel) {
         return pm_placed(mode, from, channel, frame, bit);

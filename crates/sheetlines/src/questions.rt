@@ -1,6 +1,6 @@
 // What a line of the list asks for.
 ghost use Rattle.std.specs.Prelude.{◌≡◌};
-ghost use Rattle.sheetlines.specs.Questions.{named, plainQuestion, pxQuestion, questionOf, two as «two-of», twoQuestion};
+ghost use Rattle.sheetlines.specs.Questions.{named, plain_question, px_question, question_of, two as «two-of», two_question};
 
 use operands::Operand;
 use text::{plain_line, rest, word};
@@ -82,7 +82,7 @@ fn two(name: u8, frame: u64, first: u64, second: u64) -> Question
 
 // The same, with the numbers as they stand in the line.
 fn two_question(name: u8, frame: &[u8], place: &[u8]) -> Question
-    ensures { result ≡ twoQuestion name frame.now place.now }
+    ensures { result ≡ two_question name frame.now place.now }
 {
     let Operand::Number(frame) = operands::decimal(frame) else {
         return Question::Wrong;
@@ -98,7 +98,7 @@ fn two_question(name: u8, frame: &[u8], place: &[u8]) -> Question
 
 // A cell of PX1 or PX2: its block pair, its row and its column.
 fn px_question(channel: u8, frame: &[u8], place: &[u8]) -> Question
-    ensures { result ≡ pxQuestion channel frame.now place.now }
+    ensures { result ≡ px_question channel frame.now place.now }
 {
     let Operand::Number(frame) = operands::decimal(frame) else {
         return Question::Wrong;
@@ -124,7 +124,7 @@ fn px_question(channel: u8, frame: &[u8], place: &[u8]) -> Question
 
 // What a line asks for that no CR ends.
 fn asked_plain(line: &[u8]) -> Question
-    ensures { result ≡ plainQuestion line.now }
+    ensures { result ≡ plain_question line.now }
 {
     let frame = word(line);
     let tail = rest(line);
@@ -141,7 +141,7 @@ fn asked_plain(line: &[u8]) -> Question
 
 // What a line asks for.
 pub fn asked(line: &[u8]) -> Question
-    ensures { result ≡ questionOf line.now }
+    ensures { result ≡ question_of line.now }
 {
     asked_plain(plain_line(line))
 }

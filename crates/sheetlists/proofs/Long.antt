@@ -9,13 +9,13 @@ use lib.ListN.{length, take}
 use borrow.Author.Tests.{eqb-true, ltb-true}
 use Rattle.bits.specs.Tests.{same}
 use Rattle.bits.proofs.Tests.{same_true}
-use Rattle.operands.specs.Operands.{operandOf}
+use Rattle.operands.specs.Operands.{operand_of}
 use Rattle.operands.specs.declared.Operand.{Operand}
 use Rattle.operands.specs.declared.Operand.TheVariants.{Number, NotDecimal}
 use Rattle.text.specs.Letters.{ascii}
-use Rattle.text.specs.Lines.{after, before, joined, lines, plain, plainLength, space}
+use Rattle.text.specs.Lines.{after, before, joined, lines, plain, plain_length, space}
 use Rattle.sheetlines.specs.Entries.{entry_of}
-use Rattle.sheetlines.specs.Questions.{asking, named, namedPX1, namedPX2, plainQuestion, pxQuestion, questionOf, rest, two, twoQuestion, with, word}
+use Rattle.sheetlines.specs.Questions.{asking, named, named_px1, named_px2, plain_question, px_question, question_of, rest, two, two_question, with, word}
 use Rattle.sheetlines.specs.declared.questions.Question.{Question}
 use Rattle.sheetlines.specs.declared.questions.Question.TheVariants.{Bit, Pm, Wrong}
 use Rattle.sheettext.specs.Texts.{is_refused}
@@ -37,10 +37,10 @@ parted s (b ∷ l) h = go (eqb b s) h (parted s l)
     go false h k = omega (arith, k h)
 
 -- a word that is a number is not empty
-number-first : (w : List ℕ) (f : ℕ → Question) (P : Type 0) → Asks (with (operandOf w) f) → ((n : ℕ) → 1 ≤ length w → Asks (f n) → P) → P
-unfolding operandOf
+number-first : (w : List ℕ) (f : ℕ → Question) (P : Type 0) → Asks (with (operand_of w) f) → ((n : ℕ) → 1 ≤ length w → Asks (f n) → P) → P
+unfolding operand_of
 number-first [] f P h k = absurd (h refl)
-number-first (b ∷ w) f P h k = go (operandOf (b ∷ w)) h
+number-first (b ∷ w) f P h k = go (operand_of (b ∷ w)) h
   where
     go : (o : Operand) → Asks (with o f) → P
     go (Number n) h = k n (omega arith) h
@@ -77,16 +77,16 @@ two-named name frame first second = go (eqb name 0) (ltb name 7) refl refl
 
 -- ---- a line
 
-two-long : (name frame place : List ℕ) → Asks (twoQuestion (named name) frame place) → (1 ≤ length frame) × (2 ≤ length name) × (3 ≤ length place)
-unfolding twoQuestion
+two-long : (name frame place : List ℕ) → Asks (two_question (named name) frame place) → (1 ≤ length frame) × (2 ≤ length name) × (3 ≤ length place)
+unfolding two_question
 two-long name frame place h =
     number-first frame _ _ h (λ f lf h.
     number-first (word place) _ _ h (λ first l h.
     number-first (rest place) _ _ h (λ second m h.
     (lf, named-long name (two-named (named name) f first second h), omega (arith, parted space place (omega arith))))))
 
-px-long : (channel : ℕ) (frame place : List ℕ) → Asks (pxQuestion channel frame place) → (1 ≤ length frame) × (5 ≤ length place)
-unfolding pxQuestion
+px-long : (channel : ℕ) (frame place : List ℕ) → Asks (px_question channel frame place) → (1 ≤ length frame) × (5 ≤ length place)
+unfolding px_question
 px-long channel frame place h =
     number-first frame _ _ h (λ f lf h.
     number-first (word place) _ _ h (λ pair lp h.
@@ -97,10 +97,10 @@ px-long channel frame place h =
 
 asking-long : (frame name place : List ℕ) → Asks (asking frame name place) → (1 ≤ length frame) × (2 ≤ length name) × (3 ≤ length place)
 unfolding asking
-asking-long frame name place = go (same name namedPX1) (same name namedPX2) refl refl
+asking-long frame name place = go (same name named_px1) (same name named_px2) refl refl
   where
-    go : (a b : Bool) → same name namedPX1 ≡ a → same name namedPX2 ≡ b
-        → Asks (cond a (pxQuestion 3 frame place) (cond b (pxQuestion 4 frame place) (twoQuestion (named name) frame place)))
+    go : (a b : Bool) → same name named_px1 ≡ a → same name named_px2 ≡ b
+        → Asks (cond a (px_question 3 frame place) (cond b (px_question 4 frame place) (two_question (named name) frame place)))
         → (1 ≤ length frame) × (2 ≤ length name) × (3 ≤ length place)
     go true b p q h =
         let l : length name ≡ 3 = ap length (same_true name _ p) in
@@ -112,8 +112,8 @@ asking-long frame name place = go (same name namedPX1) (same name namedPX2) refl
         (f, omega arith, omega arith)
     go false false p q h = two-long name frame place h
 
-plain-long : (l : List ℕ) → Asks (plainQuestion l) → 8 ≤ length l
-unfolding plainQuestion
+plain-long : (l : List ℕ) → Asks (plain_question l) → 8 ≤ length l
+unfolding plain_question
 plain-long l h =
     let (f, n, p) = asking-long (word l) (word (rest l)) (rest (rest l)) h in
     let inner = parted space (rest l) (omega arith) in
@@ -124,30 +124,30 @@ take_short zero l = omega arith
 take_short (suc n) [] = omega arith
 take_short (suc n) (b ∷ l) = omega (arith, take_short n l)
 
-question-long : (line : List ℕ) → Asks (questionOf line) → 8 ≤ length line
-unfolding questionOf plain
-question-long line h = omega (arith, plain-long (plain line) h, take_short (plainLength line) line)
+question-long : (line : List ℕ) → Asks (question_of line) → 8 ≤ length line
+unfolding question_of plain
+question-long line h = omega (arith, plain-long (plain line) h, take_short (plain_length line) line)
 
-pub answered-long : (mode count : ℕ) (line : List ℕ) → is_refused (entry_of mode count (questionOf line)) ≡ false → 8 ≤ length line
+pub answered-long : (mode count : ℕ) (line : List ℕ) → is_refused (entry_of mode count (question_of line)) ≡ false → 8 ≤ length line
 unfolding entry_of is_refused
 answered-long mode count line e = question-long line (λ w. true≢false (sym (ap (λ (q : Question). is_refused (entry_of mode count q)) w) ∙ e))
 
 -- ---- the bytes of all lines
 
-unfoldable pub bytesIn : List (List ℕ) → ℕ
-bytesIn [] = 0
-bytesIn (line ∷ rest) = length line + bytesIn rest
+unfoldable pub bytes_in : List (List ℕ) → ℕ
+bytes_in [] = 0
+bytes_in (line ∷ rest) = length line + bytes_in rest
 
-joined_bytes : (b : ℕ) (ls : List (List ℕ)) → bytesIn (joined b ls) ≡ suc (bytesIn ls)
-unfolding bytesIn joined
+joined_bytes : (b : ℕ) (ls : List (List ℕ)) → bytes_in (joined b ls) ≡ suc (bytes_in ls)
+unfolding bytes_in joined
 joined_bytes b [] = refl
 joined_bytes b (line ∷ ls) = omega arith
 
-pub lines-bytes : (text : List ℕ) → bytesIn (lines text) ≤ length text
-unfolding bytesIn lines
+pub lines-bytes : (text : List ℕ) → bytes_in (lines text) ≤ length text
+unfolding bytes_in lines
 lines-bytes [] = omega arith
 lines-bytes (b ∷ text) = go (eqb b 10) (lines-bytes text)
   where
-    go : (t : Bool) → bytesIn (lines text) ≤ length text → bytesIn (cond t ([] ∷ lines text) (joined b (lines text))) ≤ suc (length text)
+    go : (t : Bool) → bytes_in (lines text) ≤ length text → bytes_in (cond t ([] ∷ lines text) (joined b (lines text))) ≤ suc (length text)
     go true h = omega arith
     go false h = omega (arith, joined_bytes b (lines text))

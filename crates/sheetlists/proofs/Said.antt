@@ -10,50 +10,50 @@ use Rattle.text.specs.Put.{Put}
 use Rattle.text.proofs.Stored.{put-text, put-most}
 use Rattle.text.proofs.Left.{put-nothing}
 use Rattle.sheetlines.specs.Entries.{entry_of, turn_of}
-use Rattle.sheetlines.specs.Questions.{questionOf}
+use Rattle.sheetlines.specs.Questions.{question_of}
 use Rattle.sheetlines.specs.declared.questions.Question.{Question}
 use Rattle.sheetlines.specs.declared.entries.Entry.{Entry}
-use Rattle.sheettext.specs.Texts.{is_refused, names, valueText}
-use Rattle.sheetlists.specs.Lists.{answer, answered, answers, asking, asks, refusal, refusals, standsIn, valued}
+use Rattle.sheettext.specs.Texts.{is_refused, names, value_text}
+use Rattle.sheetlists.specs.Lists.{answer, answered, answers, asking, asks, refusal, refusals, stands_in, valued}
 
 -- ---- a line
 
-pub stood : (count t : ℕ) (e : Entry) (b : Bool) (n : ℕ) → b ≡ is_refused e → n ≡ turn_of count e → b ≡ false → eqb n t ≡ standsIn count t e
-unfolding standsIn
+pub stood : (count t : ℕ) (e : Entry) (b : Bool) (n : ℕ) → b ≡ is_refused e → n ≡ turn_of count e → b ≡ false → eqb n t ≡ stands_in count t e
+unfolding stands_in
 stood count t e b n is n-is f = sym (rw (sym is ∙ f, sym n-is))
 
-pub refused-stands : (count t : ℕ) (e : Entry) (b : Bool) → b ≡ is_refused e → b ≡ true → false ≡ standsIn count t e
-unfolding standsIn
+pub refused-stands : (count t : ℕ) (e : Entry) (b : Bool) → b ≡ is_refused e → b ≡ true → false ≡ stands_in count t e
+unfolding stands_in
 refused-stands count t e b is f = sym (rw (sym is ∙ f))
 
-module _ (behind : Entry → List ℕ) (mode count t : ℕ) (line : List ℕ) (q : Question) (is : q ≡ questionOf line) (e : Entry) (e-is : e ≡ entry_of mode count q)
-    (b : Bool) (b-is : b ≡ standsIn count t e) (a : List ℕ) (at : ℕ) where
-  entry-is : e ≡ entry_of mode count (questionOf line)
+module _ (behind : Entry → List ℕ) (mode count t : ℕ) (line : List ℕ) (q : Question) (is : q ≡ question_of line) (e : Entry) (e-is : e ≡ entry_of mode count q)
+    (b : Bool) (b-is : b ≡ stands_in count t e) (a : List ℕ) (at : ℕ) where
+  entry-is : e ≡ entry_of mode count (question_of line)
   entry-is = e-is ∙ ap (entry_of mode count) is
 
-  test-is : standsIn count t (entry_of mode count (questionOf line)) ≡ b
-  test-is = ap (standsIn count t) (sym entry-is) ∙ sym b-is
+  test-is : stands_in count t (entry_of mode count (question_of line)) ≡ b
+  test-is = ap (stands_in count t) (sym entry-is) ∙ sym b-is
 
-  pub not-asked : b ≡ false → Put a a at at (782 * asks mode count t (questionOf line)) (answer behind mode count t (questionOf line))
+  pub not-asked : b ≡ false → Put a a at at (782 * asks mode count t (question_of line)) (answer behind mode count t (question_of line))
   unfolding answer
   not-asked f = put-nothing a at _ _ (rw (test-is ∙ f))
 
   pub is-asked : b ≡ true → (z : List ℕ) (end m : ℕ) → m ≤ 782 → Put a z at end m (names q e ++ behind e)
-      → Put a z at end (782 * asks mode count t (questionOf line)) (answer behind mode count t (questionOf line))
+      → Put a z at end (782 * asks mode count t (question_of line)) (answer behind mode count t (question_of line))
   unfolding answer
   is-asked f z end m fits p =
-      let test : standsIn count t (entry_of mode count (questionOf line)) ≡ true = test-is ∙ f in
-      let told : names q e ++ behind e ≡ answer behind mode count t (questionOf line) =
+      let test : stands_in count t (entry_of mode count (question_of line)) ≡ true = test-is ∙ f in
+      let told : names q e ++ behind e ≡ answer behind mode count t (question_of line) =
       ap₂ (λ (r : Question) (x : Entry). names r x ++ behind x) is entry-is
-      ∙ sym (ap (λ (b : Bool). cond b (names (questionOf line) (entry_of mode count (questionOf line)) ++ behind (entry_of mode count (questionOf line))) []) test) in
-      let one : asks mode count t (questionOf line) ≡ 1 = ap (λ (b : Bool). cond b 1 0) test in
+      ∙ sym (ap (λ (b : Bool). cond b (names (question_of line) (entry_of mode count (question_of line)) ++ behind (entry_of mode count (question_of line))) []) test) in
+      let one : asks mode count t (question_of line) ≡ 1 = ap (λ (b : Bool). cond b 1 0) test in
       put-most (omega arith) (put-text told p)
 
 -- the value that the code read, and what is put behind it
-pub value-known : (count : ℕ) (e : Entry) (value : Entry → ℕ) (working : Entry → List ℕ) {v : ℕ} → v ≡ value e → valueText count e v ++ working e ≡ valued working count value e
-value-known count e value working f = ap (λ (x : ℕ). valueText count e x ++ working e) f
+pub value-known : (count : ℕ) (e : Entry) (value : Entry → ℕ) (working : Entry → List ℕ) {v : ℕ} → v ≡ value e → value_text count e v ++ working e ≡ valued working count value e
+value-known count e value working f = ap (λ (x : ℕ). value_text count e x ++ working e) f
 
-module _ (mode count number : ℕ) (line a : List ℕ) (at : ℕ) (b : Bool) (is : b ≡ is_refused (entry_of mode count (questionOf line))) where
+module _ (mode count number : ℕ) (line a : List ℕ) (at : ℕ) (b : Bool) (is : b ≡ is_refused (entry_of mode count (question_of line))) where
   pub said-refused : b ≡ true → (z : List ℕ) (end : ℕ) → Put a z at end 92 (refused number) → Put a z at end 92 (refusal mode count number line)
   unfolding refusal
   said-refused e z end p = put-text (sym (rw (sym is ∙ e))) p
@@ -66,11 +66,11 @@ module _ (mode count number : ℕ) (line a : List ℕ) (at : ℕ) (b : Bool) (is
 
 module _ (line : List ℕ) (ls rest : List (List ℕ)) (e : ls ≡ line ∷ rest) where
   pub answers-on : (behind : Entry → List ℕ) (mode count t : ℕ)
-      → answers behind mode count t ls ≡ answer behind mode count t (questionOf line) ++ answers behind mode count t rest
+      → answers behind mode count t ls ≡ answer behind mode count t (question_of line) ++ answers behind mode count t rest
   unfolding answers
   answers-on behind mode count t = ap (answers behind mode count t) e
 
-  pub asking-on : (mode count t : ℕ) → asking mode count t ls ≡ asks mode count t (questionOf line) + asking mode count t rest
+  pub asking-on : (mode count t : ℕ) → asking mode count t ls ≡ asks mode count t (question_of line) + asking mode count t rest
   unfolding asking
   asking-on mode count t = ap (asking mode count t) e
 
@@ -78,7 +78,7 @@ module _ (line : List ℕ) (ls rest : List (List ℕ)) (e : ls ≡ line ∷ rest
   unfolding refusals
   refusals-on mode count number = ap (refusals mode count number) e
 
-  pub answered-on : (mode count : ℕ) → answered mode count ls ≡ cond (is_refused (entry_of mode count (questionOf line))) 0 1 + answered mode count rest
+  pub answered-on : (mode count : ℕ) → answered mode count ls ≡ cond (is_refused (entry_of mode count (question_of line))) 0 1 + answered mode count rest
   unfolding answered
   answered-on mode count = ap (answered mode count) e
 
@@ -96,11 +96,11 @@ module _ (ls : List (List ℕ)) (e : ls ≡ []) where
   answered-none mode count = ap (answered mode count) e
 
 -- one more answer, or none
-pub counted-on : (mode count n m : ℕ) (line : List ℕ) (ls rest : List (List ℕ)) (total : ℕ) (b : Bool) → ls ≡ line ∷ rest → b ≡ is_refused (entry_of mode count (questionOf line))
+pub counted-on : (mode count n m : ℕ) (line : List ℕ) (ls rest : List (List ℕ)) (total : ℕ) (b : Bool) → ls ≡ line ∷ rest → b ≡ is_refused (entry_of mode count (question_of line))
     → n + answered mode count ls ≡ total → m ≡ n + cond b 0 1 → m + answered mode count rest ≡ total
 counted-on mode count n m line ls rest total b e is w s =
     let f = answered-on line ls rest e mode count in
-    let g : ◌≡◌ {A = ℕ} (cond b 0 1) (cond (is_refused (entry_of mode count (questionOf line))) 0 1) = ap (λ (x : Bool). cond x 0 1) is in
+    let g : ◌≡◌ {A = ℕ} (cond b 0 1) (cond (is_refused (entry_of mode count (question_of line))) 0 1) = ap (λ (x : Bool). cond x 0 1) is in
     omega arith
 
 pub one_at_most : (n m : ℕ) (b : Bool) → m ≡ n + cond b 0 1 → m ≤ n + 1

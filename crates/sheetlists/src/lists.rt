@@ -5,10 +5,10 @@ ghost use Rattle.calls.specs.Called.{matrices};
 ghost use Rattle.text.specs.Lines.{lines};
 ghost use Rattle.text.specs.Put.{Put};
 ghost use Rattle.sheetlines.specs.Entries.{entry_of};
-ghost use Rattle.sheetlines.specs.Questions.{questionOf};
-ghost use Rattle.sheettext.specs.Texts.{is_refused, valueIn};
-ghost use Rattle.sheetworks.specs.Works.{workText};
-ghost use Rattle.sheetlists.specs.Lists.{answer, answered, answers, asking, asks, refusal, refusals, standsIn, valued};
+ghost use Rattle.sheetlines.specs.Questions.{question_of};
+ghost use Rattle.sheettext.specs.Texts.{is_refused, value_in};
+ghost use Rattle.sheetworks.specs.Works.{work_text};
+ghost use Rattle.sheetlists.specs.Lists.{answer, answered, answers, asking, asks, refusal, refusals, stands_in, valued};
 
 use sheetlines::Entry;
 use sheettext::{is_refused, put_names, put_value, value_of};
@@ -16,7 +16,7 @@ use sheetworks::put_working;
 
 // Whether an entry stands among the answers of L1 frame t.
 fn stands_in(count: u64, t: u64, entry: Entry) -> bool
-    ensures { result ≡ standsIn count t entry }
+    ensures { result ≡ stands_in count t entry }
 {
     if is_refused(entry) {
         return false;
@@ -42,8 +42,8 @@ fn put_answer(
     bytes: &[u8],
 ) -> usize
     requires { (table.now ≡ ks) × (count ≤ 4294967296) × (n3 ≤ 4608) × (n4 ≤ 4608) × (length bytes.now < 2 ^ 32) × (at + 782 ≤ length out.old) }
-    ensures { Put out.old out.new at result (782 * asks mode count t (questionOf line.now))
-        (answer (valued (workText work mode n3 n4 bytes.now) count (valueIn (matrices pm.now px1.now px2.now))) mode count t (questionOf line.now)) }
+    ensures { Put out.old out.new at result (782 * asks mode count t (question_of line.now))
+        (answer (valued (work_text work mode n3 n4 bytes.now) count (value_in (matrices pm.now px1.now px2.now))) mode count t (question_of line.now)) }
 {
     let question = sheetlines::asked(line);
     let entry = sheetlines::entry_for(table, mode, count, question);
@@ -74,7 +74,7 @@ pub fn put_answers(
 ) -> usize
     requires { (count ≤ 4294967296) × (at + 782 * asking mode count t (lines list.now) + 782 ≤ length out.old) × (length list.now < 2 ^ 32) × (n3 ≤ 4608) × (n4 ≤ 4608) × (length bytes.now < 2 ^ 32) }
     ensures { Put out.old out.new at result (782 * asking mode count t (lines list.now))
-        (answers (valued (workText work mode n3 n4 bytes.now) count (valueIn (matrices pm.now px1.now px2.now))) mode count t (lines list.now)) }
+        (answers (valued (work_text work mode n3 n4 bytes.now) count (value_in (matrices pm.now px1.now px2.now))) mode count t (lines list.now)) }
 {
     let table = pm::index_table();
     let mut end = at;
@@ -105,7 +105,7 @@ pub fn put_answers(
 // Whether a line is refused.
 fn line_refused(table: &[u16; 1152], mode: u8, count: u64, line: &[u8]) -> bool
     requires { (table.now ≡ ks) × (count ≤ 4294967296) }
-    ensures { result ≡ is_refused (entry_of mode count (questionOf line.now)) }
+    ensures { result ≡ is_refused (entry_of mode count (question_of line.now)) }
 {
     let question = sheetlines::asked(line);
     is_refused(sheetlines::entry_for(table, mode, count, question))

@@ -7,17 +7,17 @@ use native.Mathlib.Omega.{arith}
 use lib.Dec.{eqb}
 use borrow.Author.Tests.{eqb-true, le-ltb}
 use Rattle.sheetlines.specs.Entries.{entry_of, turn_of}
-use Rattle.sheetlines.specs.Questions.{questionOf}
+use Rattle.sheetlines.specs.Questions.{question_of}
 use Rattle.sheetlines.specs.declared.questions.Question.{Question}
 use Rattle.sheetlines.specs.declared.entries.Entry.{Entry}
 use Rattle.sheetlines.specs.declared.entries.Entry.TheVariants.{Stands, Fill, Zeros, Refused}
-use Rattle.sheettext.specs.Texts.{bitText, is_refused, names, valueText}
-use Rattle.sheetlists.specs.Lists.{answer, answers, standsIn, valued}
+use Rattle.sheettext.specs.Texts.{bit_text, is_refused, names, value_text}
+use Rattle.sheetlists.specs.Lists.{answer, answers, stands_in, valued}
 use Rattle.sheetruns.specs.Told.{unsent}
 
 module _ (v w : Entry → List ℕ) (mode count t : ℕ) where
-  stood-turn : (e : Entry) → standsIn count t e ≡ true → turn_of count e ≡ t
-  unfolding standsIn
+  stood-turn : (e : Entry) → stands_in count t e ≡ true → turn_of count e ≡ t
+  unfolding stands_in
   stood-turn e h = go (is_refused e) (eqb (turn_of count e) t) refl h
     where
       go : (a b : Bool) → eqb (turn_of count e) t ≡ b → (not a && b) ≡ true → turn_of count e ≡ t
@@ -28,7 +28,7 @@ module _ (v w : Entry → List ℕ) (mode count t : ℕ) where
   answer-same : (q : Question) → (turn_of count (entry_of mode count q) ≡ t → v (entry_of mode count q) ≡ w (entry_of mode count q))
       → answer v mode count t q ≡ answer w mode count t q
   unfolding answer
-  answer-same q h = go (standsIn count t (entry_of mode count q)) (λ e. h (stood-turn (entry_of mode count q) e))
+  answer-same q h = go (stands_in count t (entry_of mode count q)) (λ e. h (stood-turn (entry_of mode count q) e))
     where
       go : (b : Bool) → (b ≡ true → v (entry_of mode count q) ≡ w (entry_of mode count q))
           → cond b (names q (entry_of mode count q) ++ v (entry_of mode count q)) [] ≡ cond b (names q (entry_of mode count q) ++ w (entry_of mode count q)) []
@@ -39,11 +39,11 @@ module _ (v w : Entry → List ℕ) (mode count t : ℕ) where
       → (ls : List (List ℕ)) → answers v mode count t ls ≡ answers w mode count t ls
   unfolding answers
   answers-same h [] = refl
-  answers-same h (line ∷ ls) = ap₂ (λ (a b : List ℕ). a ++ b) (answer-same (questionOf line) (h (questionOf line))) (answers-same h ls)
+  answers-same h (line ∷ ls) = ap₂ (λ (a b : List ℕ). a ++ b) (answer-same (question_of line) (h (question_of line))) (answers-same h ls)
 
 -- of a cell that is not sent no value is said
 no_value : (working : Entry → List ℕ) (count : ℕ) (v w : Entry → ℕ) (e : Entry) → turn_of count e ≡ count → valued working count v e ≡ valued working count w e
-unfolding turn_of valueText bitText
+unfolding turn_of value_text bit_text
 no_value working count v w (Stands coded cell) q = let h : count ≤ cell.sent = omega arith in rw (le-ltb cell.sent count h)
 no_value working count v w (Fill sent) q = refl
 no_value working count v w (Zeros sent) q = refl

@@ -8,11 +8,11 @@ use lib.Dec.{eqb}
 use lib.ListN.{length}
 use borrow.Author.Tests.{eqb-true, ne_eqb}
 use Rattle.sheetlines.specs.Entries.{entry_of, turn_of}
-use Rattle.sheetlines.specs.Questions.{questionOf}
+use Rattle.sheetlines.specs.Questions.{question_of}
 use Rattle.sheetlines.specs.declared.entries.Entry.{Entry}
-use Rattle.sheetlists.proofs.Long.{answered-long, bytesIn}
+use Rattle.sheetlists.proofs.Long.{answered-long, bytes_in}
 use Rattle.sheettext.specs.Texts.{is_refused}
-use Rattle.sheetlists.specs.Lists.{asking, standsIn}
+use Rattle.sheetlists.specs.Lists.{asking, stands_in}
 
 -- how many of n numbers from t on pass a test
 single : (Bool → ℕ) → (ℕ → Bool) → (n t : ℕ) → ℕ
@@ -80,18 +80,18 @@ module _ (mode count : ℕ) where
   total-none (suc n) t = let h = total-none n (suc t) in omega arith
 
   abbrev entry : List ℕ → Entry
-  entry line = entry_of mode count (questionOf line)
+  entry line = entry_of mode count (question_of line)
 
   abbrev test : List ℕ → ℕ → Bool
   test line = stands (is_refused (entry line)) (turn_of count (entry line))
 
   total-more : (line : List ℕ) (ls : List (List ℕ)) (n t : ℕ) → total n t (line ∷ ls) ≡ single one (test line) n t + total n t ls
-  unfolding total asking single one stands standsIn
+  unfolding total asking single one stands stands_in
   total-more line ls zero t = omega arith
   total-more line ls (suc n) t = let h = total-more line ls n (suc t) in omega arith
 
-  pub total-le : (ls : List (List ℕ)) (n t : ℕ) → 8 * total n t ls ≤ bytesIn ls
-  unfolding bytesIn
+  pub total-le : (ls : List (List ℕ)) (n t : ℕ) → 8 * total n t ls ≤ bytes_in ls
+  unfolding bytes_in
   total-le [] n t = omega (arith, total-none n t)
   total-le (line ∷ ls) n t =
       omega (

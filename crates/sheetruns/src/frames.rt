@@ -1,16 +1,16 @@
 // The L1 frames of an input sent one after the other, and their answers put.
 ghost use Rattle.std.specs.Prelude.{◌≡◌, true, ◌++◌, ◌+◌, ◌*◌, ◌^◌, ◌≤◌, ◌<◌, length, take};
-ghost use Rattle.runs.specs.Lengths.{senderLen};
+ghost use Rattle.runs.specs.Lengths.{sender_len};
 ghost use Rattle.runs.specs.Starting.{zeros};
 ghost use Rattle.calls.specs.Called.{memory};
 ghost use Rattle.text.specs.Lines.{lines};
 ghost use Rattle.text.specs.Put.{Put};
 ghost use Rattle.sheettext.specs.Texts.{ending};
-ghost use Rattle.sheetworks.specs.Works.{workText};
+ghost use Rattle.sheetworks.specs.Works.{work_text};
 ghost use Rattle.sheetlists.specs.Lists.{answered, asking};
-ghost use Rattle.sheetinputs.specs.Inputs.{frameSize, older};
+ghost use Rattle.sheetinputs.specs.Inputs.{frame_size, older};
 ghost use Rattle.sheetinputs.specs.Run.{sent};
-ghost use Rattle.sheetruns.specs.Told.{noFrame, told, unsent};
+ghost use Rattle.sheetruns.specs.Told.{no_frame, told, unsent};
 
 use runs::Answer;
 use sheetinputs::frame_size;
@@ -20,7 +20,7 @@ use text::{field, put};
 // Puts that an L1 frame is refused, and its answer.
 fn put_no_frame(out: &mut [u8], t: u64, answer: Answer) -> usize
     requires { 91 ≤ length out.old }
-    ensures { Put out.old out.new 0 result 91 (noFrame t answer) }
+    ensures { Put out.old out.new 0 result 91 (no_frame t answer) }
 {
     let k = put(out, 0, b"NO SHEET FRAME ");
     let l = field(out, k, t, b' ');
@@ -44,7 +44,7 @@ fn put_last(
 ) -> usize
     requires { (count ≤ 64) × (at + 782 * asking mode count count (lines list.now) + 807 ≤ length out.old) × (length list.now < 4096) × (n3 ≤ 4608) × (n4 ≤ 4608) × (length bytes.now < 2 ^ 32) }
     ensures { Put out.old out.new at result (782 * asking mode count count (lines list.now) + 25)
-        (unsent (workText work mode n3 n4 bytes.now) mode count (lines list.now) ++ ending (answered mode count (lines list.now))) }
+        (unsent (work_text work mode n3 n4 bytes.now) mode count (lines list.now) ++ ending (answered mode count (lines list.now))) }
 {
     let none = [0u8; 0];
     let m = sheetlists::put_answers(
@@ -69,9 +69,9 @@ fn put_frames(
     out: &mut [u8],
     at: usize,
 ) -> usize
-    requires { (older mode ≡ true) × (n3 ≤ 4608) × (n4 ≤ 4608) × (count ≤ 64) × (length bytes.now ≡ count * frameSize mode n3 n4) × (length list.now < 4096) × (at + 819400 ≤ length out.old)
-        × (memory memory3.old memory4.old delay.old ≡ zeros senderLen mode) }
-    ensures { (result ≤ length out.new) × (take result out.new ≡ told (workText work mode n3 n4 bytes.now) mode count (lines list.now) 0 (take at out.old) (sent mode count n3 n4 bytes.now)) }
+    requires { (older mode ≡ true) × (n3 ≤ 4608) × (n4 ≤ 4608) × (count ≤ 64) × (length bytes.now ≡ count * frame_size mode n3 n4) × (length list.now < 4096) × (at + 819400 ≤ length out.old)
+        × (memory memory3.old memory4.old delay.old ≡ zeros sender_len mode) }
+    ensures { (result ≤ length out.new) × (take result out.new ≡ told (work_text work mode n3 n4 bytes.now) mode count (lines list.now) 0 (take at out.old) (sent mode count n3 n4 bytes.now)) }
 {
     let begun = calls::start_sender(mode, memory3, memory4, delay);
     let n = frame_size(mode, n3, n4);
@@ -122,8 +122,8 @@ pub fn put_run(
     out: &mut [u8],
     at: usize,
 ) -> usize
-    requires { (older mode ≡ true) × (n3 ≤ 4608) × (n4 ≤ 4608) × (count ≤ 64) × (length bytes.now ≡ count * frameSize mode n3 n4) × (length list.now < 4096) × (at + 819400 ≤ length out.old) }
-    ensures { (result ≤ length out.new) × (take result out.new ≡ told (workText work mode n3 n4 bytes.now) mode count (lines list.now) 0 (take at out.old) (sent mode count n3 n4 bytes.now)) }
+    requires { (older mode ≡ true) × (n3 ≤ 4608) × (n4 ≤ 4608) × (count ≤ 64) × (length bytes.now ≡ count * frame_size mode n3 n4) × (length list.now < 4096) × (at + 819400 ≤ length out.old) }
+    ensures { (result ≤ length out.new) × (take result out.new ≡ told (work_text work mode n3 n4 bytes.now) mode count (lines list.now) 0 (take at out.old) (sent mode count n3 n4 bytes.now)) }
 {
     let want = modes::sender_lengths(mode);
     let c = want[9];

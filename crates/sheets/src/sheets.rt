@@ -2,8 +2,8 @@
 ghost use Rattle.std.specs.Prelude.{◌≡◌, true, ◌++◌, ◌+◌, ◌-◌, ◌≤◌, ◌<◌, length, replicate, take};
 ghost use Rattle.runs.specs.declared.Extended.TheVariants.{P3, P4};
 ghost use Rattle.sheetinputs.specs.Inputs.{carried, named, older};
-ghost use Rattle.sheets.specs.Sheet.{sheetFor, sheetOf};
-ghost use Rattle.sheets.specs.Call.{said, sheetCall};
+ghost use Rattle.sheets.specs.Sheet.{sheet_for, sheet_of};
+ghost use Rattle.sheets.specs.Call.{said, sheet_call};
 ghost use Rattle.sheets.specs.Begun.{Begins};
 
 use crate::refusals::{put_long, put_short};
@@ -26,7 +26,7 @@ fn put_sheet(
     out: &mut [u8],
 ) -> usize
     requires { (older mode ≡ true) × (n3 ≤ 4608) × (n4 ≤ 4608) × (count ≤ 64) × (length list.now < 4096) × (1200000 ≤ length out.old) }
-    ensures { (result ≤ length out.new) × (take result out.new ≡ sheetFor mode count without3 without4 work n3 n4 list.now bytes.now) }
+    ensures { (result ≤ length out.new) × (take result out.new ≡ sheet_for mode count without3 without4 work n3 n4 list.now bytes.now) }
 {
     let want = frames_size(mode, count, n3, n4);
     if bytes.len() < want {
@@ -52,7 +52,7 @@ fn put_carried(
     out: &mut [u8],
 ) -> usize
     requires { (older mode ≡ true) × (count ≤ 64) × (length list.now < 4096) × (1200000 ≤ length out.old) }
-    ensures { (result ≤ length out.new) × (take result out.new ≡ sheetFor mode count without3 without4 work (carried mode P3 without3) (carried mode P4 without4) list.now bytes.now) }
+    ensures { (result ≤ length out.new) × (take result out.new ≡ sheet_for mode count without3 without4 work (carried mode P3 without3) (carried mode P4 without4) list.now bytes.now) }
 {
     let want = modes::sender_lengths(mode);
     let n3 = arguments::carried(want[3], without3);
@@ -73,7 +73,7 @@ fn put_input(
     out: &mut [u8],
 ) -> usize
     requires { (older mode ≡ true) × (named mode without3 without4 ≡ true) × (count ≤ 64) × (1200000 ≤ length out.old) }
-    ensures { (result ≤ length out.new) × (take result out.new ≡ sheetOf mode count without3 without4 work input.now) }
+    ensures { (result ≤ length out.new) × (take result out.new ≡ sheet_of mode count without3 without4 work input.now) }
 {
     let end = empty_line(input);
     if end >= 4096 {
@@ -106,7 +106,7 @@ fn put_any(
     out: &mut [u8],
 ) -> usize
     requires { 1200000 ≤ length out.old }
-    ensures { Begins out.new result (sheetOf mode count without3 without4 work input.now) }
+    ensures { Begins out.new result (sheet_of mode count without3 without4 work input.now) }
 {
     if !is_older(mode) {
         return put(out, 0, b"NO SHEET MODE\n");
@@ -149,7 +149,7 @@ pub fn sheet(
     input: &[u8],
     out: &mut [u8],
 ) -> Written
-    ensures { said result out.new ≡ sheetCall mode count without3 without4 work input.now out.old }
+    ensures { said result out.new ≡ sheet_call mode count without3 without4 work input.now out.old }
 {
     if out.len() < 1200000 {
         let answer = Answer::WrongLength(1);

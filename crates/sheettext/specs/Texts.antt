@@ -10,7 +10,7 @@ use Rattle.sheetlines.specs.declared.entries.Cell.{Cell}
 use Rattle.sheetlines.specs.declared.entries.CodedBit.{CodedBit}
 use Rattle.sheetlines.specs.declared.entries.Entry.{Entry}
 use Rattle.sheetlines.specs.declared.entries.Entry.TheVariants.{Stands, Fill, Zeros, Refused}
-use Rattle.sheetlines.specs.Entries.{ofPM}
+use Rattle.sheetlines.specs.Entries.{of_pm}
 
 -- a number and a space; a number that ends its line
 abbrev pub word : ℕ → List ℕ
@@ -38,11 +38,11 @@ ending n = ascii "END " ++ last n
 -- ---- the names of an answer
 
 -- the matrix in which a channel is sent: P1, PIDS and P2 are in PM, P3 in PX1, P4 and P1' in PX2
-unfoldable pub matrixName : (channel : ℕ) → List ℕ
-matrixName channel = cond (ofPM channel) (ascii "PM ") (cond (eqb channel 3) (ascii "PX1 ") (ascii "PX2 "))
+unfoldable pub matrix_name : (channel : ℕ) → List ℕ
+matrix_name channel = cond (of_pm channel) (ascii "PM ") (cond (eqb channel 3) (ascii "PX1 ") (ascii "PX2 "))
 
-unfoldable pub channelName : (channel : ℕ) → List ℕ
-channelName channel =
+unfoldable pub channel_name : (channel : ℕ) → List ℕ
+channel_name channel =
     cond (eqb channel 1) (ascii "P1 ")
     (cond (eqb channel 2) (ascii "PIDS ")
     (cond (eqb channel 3) (ascii "P3 ")
@@ -52,22 +52,22 @@ channelName channel =
 -- what a line asks for: FRAME PM ROW COL, FRAME PX1 PAIR ROW COL, or FRAME CHANNEL TFRAME BIT
 unfoldable pub asked : Question → List ℕ
 asked (Pm frame row column) = word frame ++ (ascii "PM " ++ (word row ++ word column))
-asked (Px frame channel pair row column) = word frame ++ (matrixName channel ++ (word pair ++ (word row ++ word column)))
-asked (Bit frame channel tframe bit) = word frame ++ (channelName channel ++ (word tframe ++ word bit))
+asked (Px frame channel pair row column) = word frame ++ (matrix_name channel ++ (word pair ++ (word row ++ word column)))
+asked (Bit frame channel tframe bit) = word frame ++ (channel_name channel ++ (word tframe ++ word bit))
 asked Wrong = []
 
 -- a number that P3, P4 and P1' have, and P1, PIDS and P2 have not
-unfoldable pub ofPX : (channel n : ℕ) → List ℕ
-ofPX channel n = cond (ofPM channel) [] (word n)
+unfoldable pub of_px : (channel n : ℕ) → List ℕ
+of_px channel n = cond (of_pm channel) [] (word n)
 
 -- whose bit stands in a cell: P1 TFRAME BIT (PIDS and P2 likewise), or P3 FROM TFRAME BIT (P4 and P1' likewise)
 unfoldable pub owner : CodedBit → List ℕ
-owner coded = channelName coded.channel ++ (ofPX coded.channel coded.from ++ (word coded.frame ++ decimal coded.bit))
+owner coded = channel_name coded.channel ++ (of_px coded.channel coded.from ++ (word coded.frame ++ decimal coded.bit))
 
 -- in which cell a bit of the channel stands: PM SENT ROW COL, or PX1 SENT PAIR ROW COL
 unfoldable pub place : (channel : ℕ) → Cell → List ℕ
 place channel cell =
-    matrixName channel ++ (word cell.sent ++ (ofPX channel cell.pair ++ (word cell.row ++ decimal cell.column)))
+    matrix_name channel ++ (word cell.sent ++ (of_px channel cell.pair ++ (word cell.row ++ decimal cell.column)))
 
 -- to a bit the answer is the cell, to a cell the bit
 unfoldable pub found : Question → CodedBit → Cell → List ℕ
@@ -86,24 +86,24 @@ names q Refused = []
 -- ---- what stands behind them
 
 -- the value of a bit that is sent, or LATER
-unfoldable pub bitText : (sent : Bool) (value : ℕ) → List ℕ
-bitText sent value = cond sent (ascii " " ++ last value) (ascii " LATER\n")
+unfoldable pub bit_text : (sent : Bool) (value : ℕ) → List ℕ
+bit_text sent value = cond sent (ascii " " ++ last value) (ascii " LATER\n")
 
 -- in a run of `count` L1 frames; behind FILL and DELAY nothing
-unfoldable pub valueText : (count : ℕ) → Entry → (value : ℕ) → List ℕ
-valueText count (Stands coded cell) value = bitText (ltb cell.sent count) value
-valueText count (Fill sent) value = ascii "\n"
-valueText count (Zeros sent) value = ascii "\n"
-valueText count Refused value = []
+unfoldable pub value_text : (count : ℕ) → Entry → (value : ℕ) → List ℕ
+value_text count (Stands coded cell) value = bit_text (ltb cell.sent count) value
+value_text count (Fill sent) value = ascii "\n"
+value_text count (Zeros sent) value = ascii "\n"
+value_text count Refused value = []
 
--- the bit that stands in the cell, in the matrices of an L1 frame: by the channel, as `matrixName`
-unfoldable pub valueIn : Matrices → Entry → ℕ
-valueIn x (Stands coded cell) =
-    cond (ofPM coded.channel) (bit_at x.pm cell.number)
+-- the bit that stands in the cell, in the matrices of an L1 frame: by the channel, as `matrix_name`
+unfoldable pub value_in : Matrices → Entry → ℕ
+value_in x (Stands coded cell) =
+    cond (of_pm coded.channel) (bit_at x.pm cell.number)
     (cond (eqb coded.channel 3) (bit_at x.px1 cell.number) (bit_at x.px2 cell.number))
-valueIn x (Fill sent) = 0
-valueIn x (Zeros sent) = 0
-valueIn x Refused = 0
+value_in x (Fill sent) = 0
+value_in x (Zeros sent) = 0
+value_in x Refused = 0
 
 -- whether nothing can be answered
 unfoldable pub is_refused : Entry → Bool

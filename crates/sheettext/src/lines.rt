@@ -2,7 +2,7 @@
 ghost use Rattle.std.specs.Prelude.{◌≡◌, ◌+◌, ◌≤◌, length};
 ghost use Rattle.calls.specs.Called.{matrices};
 ghost use Rattle.text.specs.Put.{Put};
-ghost use Rattle.sheettext.specs.Texts.{asked, bitText, channelName, found, is_refused, matrixName, names, ofPX, owner, place, valueIn, valueText};
+ghost use Rattle.sheettext.specs.Texts.{asked, bit_text, channel_name, found, is_refused, matrix_name, names, of_px, owner, place, value_in, value_text};
 
 use sheetlines::{Cell, CodedBit, Entry, Question};
 use text::{field, put};
@@ -10,7 +10,7 @@ use text::{field, put};
 // Puts the name of the matrix in which a channel is sent, and a space.
 fn put_matrix(out: &mut [u8], at: usize, channel: u8) -> usize
     requires { at + 4 ≤ length out.old }
-    ensures { Put out.old out.new at result 4 (matrixName channel) }
+    ensures { Put out.old out.new at result 4 (matrix_name channel) }
 {
     if sheetlines::is_of_pm(channel) {
         return put(out, at, b"PM ");
@@ -24,7 +24,7 @@ fn put_matrix(out: &mut [u8], at: usize, channel: u8) -> usize
 // Puts the name of a channel, and a space.
 fn put_channel(out: &mut [u8], at: usize, channel: u8) -> usize
     requires { at + 5 ≤ length out.old }
-    ensures { Put out.old out.new at result 5 (channelName channel) }
+    ensures { Put out.old out.new at result 5 (channel_name channel) }
 {
     if channel == 1 {
         return put(out, at, b"P1 ");
@@ -87,7 +87,7 @@ fn put_asked(out: &mut [u8], at: usize, question: Question) -> usize
 // Puts a number that P3, P4 and P1' have, and P1, PIDS and P2 have not.
 fn put_of_px(out: &mut [u8], at: usize, channel: u8, n: u64) -> usize
     requires { at + 21 ≤ length out.old }
-    ensures { Put out.old out.new at result 21 (ofPX channel n) }
+    ensures { Put out.old out.new at result 21 (of_px channel n) }
 {
     if sheetlines::is_of_pm(channel) {
         return at;
@@ -171,7 +171,7 @@ pub fn put_names(out: &mut [u8], at: usize, question: Question, entry: Entry) ->
 // Puts the value of a bit that is sent, or LATER.
 fn put_bit(out: &mut [u8], at: usize, sent: bool, value: u8) -> usize
     requires { at + 22 ≤ length out.old }
-    ensures { Put out.old out.new at result 22 (bitText sent value) }
+    ensures { Put out.old out.new at result 22 (bit_text sent value) }
 {
     if !sent {
         return put(out, at, b" LATER\n");
@@ -183,7 +183,7 @@ fn put_bit(out: &mut [u8], at: usize, sent: bool, value: u8) -> usize
 // Puts what stands behind the names of an answer, in a run of `count` L1 frames.
 pub fn put_value(out: &mut [u8], at: usize, count: u64, entry: Entry, value: u8) -> usize
     requires { at + 22 ≤ length out.old }
-    ensures { Put out.old out.new at result 22 (valueText count entry value) }
+    ensures { Put out.old out.new at result 22 (value_text count entry value) }
 {
     match entry {
         Entry::Stands { coded: _, cell } => put_bit(out, at, cell.sent < count, value),
@@ -195,7 +195,7 @@ pub fn put_value(out: &mut [u8], at: usize, count: u64, entry: Entry, value: u8)
 
 // The bit that stands in a cell, of the matrices of its L1 frame.
 pub fn value_of(entry: Entry, pm: &[u8], px1: &[u8], px2: &[u8]) -> u8
-    ensures { result ≡ valueIn (matrices pm.now px1.now px2.now) entry }
+    ensures { result ≡ value_in (matrices pm.now px1.now px2.now) entry }
 {
     match entry {
         Entry::Stands { coded, cell } => {

@@ -2,7 +2,7 @@
 ghost use Rattle.std.specs.Prelude.{◌≡◌, ◌+◌, ◌≤◌, length};
 ghost use Rattle.interleaving.specs.TableI.{ks};
 ghost use Rattle.text.specs.Put.{Put};
-ghost use Rattle.sheettext.specs.Owners.{ownerLine};
+ghost use Rattle.sheettext.specs.Owners.{owner_line};
 
 use crate::lines::{is_refused, put_names};
 
@@ -16,7 +16,7 @@ pub fn put_owner_line(
     line: &[u8],
 ) -> usize
     requires { (table.now ≡ ks) × (at + 200 ≤ length out.old) }
-    ensures { Put out.old out.new at result 200 (ownerLine mode number line.now) }
+    ensures { Put out.old out.new at result 200 (owner_line mode number line.now) }
 {
     let question = sheetlines::asked(line);
     let entry = sheetlines::entry_for(table, mode, 4294967296, question);

@@ -5,7 +5,7 @@ use Rattle.runs.specs.Lent.{Memory, Result}
 use Rattle.text.specs.Lines.{lines}
 use Rattle.text.specs.Put.{Put}
 use Rattle.sheetlines.specs.declared.entries.Entry.{Entry}
-use Rattle.sheettext.specs.Texts.{valueIn}
+use Rattle.sheettext.specs.Texts.{value_in}
 use Rattle.sheetlists.specs.Lists.{answers, asking, valued}
 use Rattle.sheetturns.specs.declared.turns.Turn.{Turn}
 
@@ -25,4 +25,4 @@ pub record Turned (g : Result) (working : Entry → List ℕ) (mode count t : �
   pub memory : m ≡ g.memory
   pub size : length new ≡ length old
   pub text : number_of r.answer ≡ 0 → Put old new at r.end (782 * asking mode count t (lines list))
-      (answers (valued working count (valueIn g.lent.signal.matrices)) mode count t (lines list))
+      (answers (valued working count (value_in g.lent.signal.matrices)) mode count t (lines list))

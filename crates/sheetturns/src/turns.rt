@@ -1,9 +1,9 @@
 // An L1 frame sent, and its answers put.
 ghost use Rattle.std.specs.Prelude.{◌≡◌, true};
-ghost use Rattle.runs.specs.Sending.{sendStep};
+ghost use Rattle.runs.specs.Sending.{send_step};
 ghost use Rattle.calls.specs.Called.{memory, signal};
-ghost use Rattle.layout.specs.Inputs.{framesIn, handed};
-ghost use Rattle.sheetworks.specs.Works.{workText};
+ghost use Rattle.layout.specs.Inputs.{frames_in, handed};
+ghost use Rattle.sheetworks.specs.Works.{work_text};
 ghost use Rattle.sheetinputs.specs.Inputs.{older};
 ghost use Rattle.sheetinputs.specs.Run.{blank};
 ghost use Rattle.sheetturns.specs.Turned.{Asks, Turned};
@@ -41,8 +41,8 @@ fn send_and_put(
     at: usize,
 ) -> Turn
     requires { Asks mode count t n3 n4 list.now all.now out.old at }
-    ensures { Turned (sendStep state (memory memory3.old memory4.old delay.old) (handed (framesIn state.mode n3 n4 bytes.now) (signal pm.old px1.old px2.old control.old)))
-        (workText work mode n3 n4 all.now) mode count t list.now out.old out.new at result (memory memory3.new memory4.new delay.new) }
+    ensures { Turned (send_step state (memory memory3.old memory4.old delay.old) (handed (frames_in state.mode n3 n4 bytes.now) (signal pm.old px1.old px2.old control.old)))
+        (work_text work mode n3 n4 all.now) mode count t list.now out.old out.new at result (memory memory3.new memory4.new delay.new) }
 {
     let sent = run_input::send_frame(
         state, n3, n4, bytes, pm, px1, px2, control, memory3, memory4, delay,
@@ -85,8 +85,8 @@ pub fn take_turn(
     at: usize,
 ) -> Turn
     requires { (state.mode ≡ mode) × (older mode ≡ true) × Asks mode count t n3 n4 list.now all.now out.old at }
-    ensures { Turned (sendStep state (memory memory3.old memory4.old delay.old) (handed (framesIn mode n3 n4 bytes.now) (blank mode)))
-        (workText work mode n3 n4 all.now) mode count t list.now out.old out.new at result (memory memory3.new memory4.new delay.new) }
+    ensures { Turned (send_step state (memory memory3.old memory4.old delay.old) (handed (frames_in mode n3 n4 bytes.now) (blank mode)))
+        (work_text work mode n3 n4 all.now) mode count t list.now out.old out.new at result (memory memory3.new memory4.new delay.new) }
 {
     let want = modes::sender_lengths(mode);
     let c = want[6];

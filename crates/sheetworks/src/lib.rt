@@ -1,8 +1,8 @@
 // The working below an answer of a sheet: the coded bit worked out from the bytes of the L1 frame with which its transfer frame was handed over.
 ghost use Rattle.std.specs.Prelude.{◌≡◌, ◌+◌, ◌*◌, ◌^◌, ◌≤◌, ◌<◌, min, length};
-ghost use Rattle.layout.specs.Inputs.{framesIn};
+ghost use Rattle.layout.specs.Inputs.{frames_in};
 ghost use Rattle.text.specs.Put.{Put};
-ghost use Rattle.sheetworks.specs.Works.{channelIn, bytes_at, workText, workingOf};
+ghost use Rattle.sheetworks.specs.Works.{channel_in, bytes_at, work_text, working_of};
 
 use layout::end_of;
 use sheetlines::{CodedBit, Entry};
@@ -37,7 +37,7 @@ fn bytes_at(mode: u8, n3: usize, n4: usize, bytes: &[u8], from: u64) -> &[u8]
 
 // The transfer frames of a channel, of the bytes of an L1 frame.
 fn channel_in(mode: u8, n3: usize, n4: usize, bytes: &[u8], channel: u8) -> &[u8]
-    ensures { result.now ≡ channelIn (framesIn mode n3 n4 bytes.now) channel }
+    ensures { result.now ≡ channel_in (frames_in mode n3 n4 bytes.now) channel }
 {
     let n = bytes.len();
     let want = modes::sender_lengths(mode);
@@ -62,7 +62,7 @@ fn channel_in(mode: u8, n3: usize, n4: usize, bytes: &[u8], channel: u8) -> &[u8
 // The working of a coded bit, from the bytes of all L1 frames. The bit is taken into a variable first (D153).
 fn working_of(mode: u8, n3: usize, n4: usize, bytes: &[u8], coded: CodedBit) -> Worked
     requires { (n3 ≤ 4608) × (n4 ≤ 4608) × (length bytes.now < 2 ^ 32) }
-    ensures { result ≡ workingOf mode n3 n4 bytes.now coded }
+    ensures { result ≡ working_of mode n3 n4 bytes.now coded }
 {
     let bit = coded.bit;
     let state = sheetlines::state_before(mode, coded.from);
@@ -83,7 +83,7 @@ pub fn put_working(
     entry: Entry,
 ) -> usize
     requires { (n3 ≤ 4608) × (n4 ≤ 4608) × (length bytes.now < 2 ^ 32) × (at + 582 ≤ length out.old) }
-    ensures { Put out.old out.new at result 582 (workText work mode n3 n4 bytes.now entry) }
+    ensures { Put out.old out.new at result 582 (work_text work mode n3 n4 bytes.now entry) }
 {
     if !work {
         return at;

@@ -6,14 +6,14 @@ use Prim.Native.Nat.{ℕ}
 use borrow.Author.Tests.{eq-eqb, ne_eqb}
 use Rattle.runs.specs.declared.Answer.{Answer}
 use Rattle.runs.specs.declared.Answer.TheVariants.{Success}
-use Rattle.runs.specs.Answers.{number_of, onSuccess, place_of}
+use Rattle.runs.specs.Answers.{number_of, on_success, place_of}
 use Rattle.runs.specs.Lent.{Result}
 use Rattle.runs.proofs.Answered.{not-success, success-is}
 use Rattle.messages.specs.Lines.{in_words}
 use Rattle.steps.specs.Steps.{step, step_of}
 
-on-success : {A : Type 0} (a : Answer) (done refused : A) → a ≡ Success → onSuccess a done refused ≡ done
-unfolding onSuccess
+on-success : {A : Type 0} (a : Answer) (done refused : A) → a ≡ Success → on_success a done refused ≡ done
+unfolding on_success
 on-success a done refused e = rw e
 
 module _ (written : Result → List ℕ) (frame : ℕ) where

@@ -1,7 +1,7 @@
 -- What a step of a run's program leaves, from what the call on an L1 frame gave.
 use Rattle.std.specs.Prelude.{Bool, List, ℕ, eqb}
 use Rattle.runs.specs.declared.State.{State}
-use Rattle.runs.specs.Answers.{number_of, onSuccess, place_of}
+use Rattle.runs.specs.Answers.{number_of, on_success, place_of}
 use Rattle.runs.specs.Lent.{Memory, Result}
 use Rattle.messages.specs.Lines.{in_words}
 
@@ -21,4 +21,4 @@ step s m done bytes = record { state = s; memory = m; done = done; bytes = bytes
 unfoldable pub step_of : (written : Result → List ℕ) (frame : ℕ) → Result → Step
 step_of written frame g =
     step g.state g.memory (eqb (number_of g.answer) 0)
-    (onSuccess g.answer (written g) (in_words (number_of g.answer) (place_of g.answer) frame))
+    (on_success g.answer (written g) (in_words (number_of g.answer) (place_of g.answer) frame))

@@ -10,8 +10,8 @@ use Rattle.bits.specs.Tests.{all}
 use Rattle.bits.proofs.Tests.{all-at}
 use Rattle.subcarriers.specs.declared.Source.{Source}
 use Rattle.subcarriers.specs.declared.Source.TheVariants.{Unused, Pm, Px1, Px2, Control}
-use Rattle.subcarriers.specs.Slots.{modeAt, placedSource, slotSource, partitionSource, columnSource, columnTable, partitionTable}
-use Rattle.subcarriers.specs.Tables.{mapped, mappedModes, sourceOf, inRows, inReferences, rows_of, referencesOf, lowerMain, upperMain, extended2, extended3, extended11, lowerReferences, upperReferences, references2, references3, references11}
+use Rattle.subcarriers.specs.Slots.{mode_at, placed_source, slot_source, partition_source, column_source, column_table, partition_table}
+use Rattle.subcarriers.specs.Tables.{mapped, mapped_modes, source_of, in_rows, in_references, rows_of, references_of, lower_main, upper_main, extended2, extended3, extended11, lower_references, upper_references, references2, references3, references11}
 use Rattle.subcarriers.proofs.Mapped.{mapped-place}
 
 -- ---- sources as numbers
@@ -52,30 +52,30 @@ same_code s t e = sym (back s) ∙ ap decoded (eqb→eq (code s) (code t) e) ∙
 -- ---- the test
 
 unfoldable agrees : ℕ → Bool
-agrees n = all 1093 (λ k. eqb (code (placedSource n k)) (code (sourceOf (modeAt n) k)))
+agrees n = all 1093 (λ k. eqb (code (placed_source n k)) (code (source_of (mode_at n) k)))
 
 tested : T (all 4 agrees)
-unfolding all agrees placedSource slotSource partitionSource columnSource columnTable partitionTable sourceOf inRows inReferences rows_of referencesOf lowerMain upperMain extended2 extended3 extended11 lowerReferences upperReferences references2 references3 references11
+unfolding all agrees placed_source slot_source partition_source column_source column_table partition_table source_of in_rows in_references rows_of references_of lower_main upper_main extended2 extended3 extended11 lower_references upper_references references2 references3 references11
 tested = tt
 
-by_slots : (n k : ℕ) → n < 4 → k < 1093 → placedSource n k ≡ sourceOf (modeAt n) k
+by_slots : (n k : ℕ) → n < 4 → k < 1093 → placed_source n k ≡ source_of (mode_at n) k
 unfolding agrees
-by_slots n k h l = same_code _ _ (all-at 1093 (λ k. eqb (code (placedSource n k)) (code (sourceOf (modeAt n) k))) (all-at 4 agrees tested n h) k l)
+by_slots n k h l = same_code _ _ (all-at 1093 (λ k. eqb (code (placed_source n k)) (code (source_of (mode_at n) k))) (all-at 4 agrees tested n h) k l)
 
 module _ (n k : ℕ) (h : n < 4) where
-  pub in-lower : k < 267 → slotSource n (k / 19) (k % 19) ≡ sourceOf (modeAt n) k
-  unfolding placedSource
+  pub in-lower : k < 267 → slot_source n (k / 19) (k % 19) ≡ source_of (mode_at n) k
+  unfolding placed_source
   in-lower l = rw (lt-ltb k 267 l) at (by_slots n k h (omega arith))
 
-  pub between : 267 ≤ k → k < 826 → Unused ≡ sourceOf (modeAt n) k
-  unfolding placedSource
+  pub between : 267 ≤ k → k < 826 → Unused ≡ source_of (mode_at n) k
+  unfolding placed_source
   between l m = rw (le-ltb k 267 l, lt-ltb k 826 m) at (by_slots n k h (omega arith))
 
-  pub in-upper : 826 ≤ k → k < 1093 → slotSource n (15 + (k - 826) / 19) ((k - 826) % 19) ≡ sourceOf (modeAt n) k
-  unfolding placedSource
+  pub in-upper : 826 ≤ k → k < 1093 → slot_source n (15 + (k - 826) / 19) ((k - 826) % 19) ≡ source_of (mode_at n) k
+  unfolding placed_source
   in-upper l m = let a : 267 ≤ k = omega arith in rw (le-ltb k 267 a, le-ltb k 826 l) at (by_slots n k h m)
 
-at_last : (mode : ℕ) → (mode ≡ 1 → ⊥) → (mode ≡ 2 → ⊥) → (mode ≡ 3 → ⊥) → (k : ℕ) → k < length mappedModes → get_or mappedModes k 0 ≡ mode → 11 ≡ mode
+at_last : (mode : ℕ) → (mode ≡ 1 → ⊥) → (mode ≡ 2 → ⊥) → (mode ≡ 3 → ⊥) → (k : ℕ) → k < length mapped_modes → get_or mapped_modes k 0 ≡ mode → 11 ≡ mode
 at_last mode a b d zero h is = absurd (a (sym is))
 at_last mode a b d (suc zero) h is = absurd (b (sym is))
 at_last mode a b d (suc (suc zero)) h is = absurd (d (sym is))

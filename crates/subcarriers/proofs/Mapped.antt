@@ -3,8 +3,8 @@ use mathlib.Core.Path.{◌≡◌}
 use mathlib.Core.Bool.{true}
 use Prim.Native.Nat.{ℕ}
 use Rattle.control.proofs.Covered.{Place, place}
-use Rattle.subcarriers.specs.Tables.{mapped, mappedModes}
+use Rattle.subcarriers.specs.Tables.{mapped, mapped_modes}
 
-pub mapped-place : (m : ℕ) → mapped m ≡ true → Place mappedModes m
+pub mapped-place : (m : ℕ) → mapped m ≡ true → Place mapped_modes m
 unfolding mapped
-mapped-place m e = place mappedModes m e
+mapped-place m e = place mapped_modes m e

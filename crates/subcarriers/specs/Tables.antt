@@ -5,11 +5,11 @@ use Rattle.subcarriers.specs.declared.Source.{Source}
 use Rattle.subcarriers.specs.declared.Source.TheVariants.{Unused, Pm, Px1, Px2, Control}
 
 -- S-7: the modes whose vectors are given, MP1, MP2, MP3 and MP11, also where runs cover more
-abbrev pub mappedModes : List ℕ
-mappedModes = 1 ∷ 2 ∷ 3 ∷ 11 ∷ []
+abbrev pub mapped_modes : List ℕ
+mapped_modes = 1 ∷ 2 ∷ 3 ∷ 11 ∷ []
 
 unfoldable pub mapped : ℕ → Bool
-mapped mode = one_of mappedModes mode
+mapped mode = one_of mapped_modes mode
 
 -- a subcarrier's number: -n or n
 pub data Subcarrier : Type 0 where
@@ -24,13 +24,13 @@ element (above n) = 546 + n
 pub data Row : Type 0 where
   row : Subcarrier → (ℕ → Source) → ℕ → Row
 
-unfoldable pub lowerMain : List Row
-lowerMain =
+unfoldable pub lower_main : List Row
+lower_main =
     row (below 545) Pm 0 ∷ row (below 526) Pm 1 ∷ row (below 507) Pm 2 ∷ row (below 488) Pm 3 ∷ row (below 469) Pm 4
     ∷ row (below 450) Pm 5 ∷ row (below 431) Pm 6 ∷ row (below 412) Pm 7 ∷ row (below 393) Pm 8 ∷ row (below 374) Pm 9 ∷ []
 
-unfoldable pub upperMain : List Row
-upperMain =
+unfoldable pub upper_main : List Row
+upper_main =
     row (above 357) Pm 10 ∷ row (above 376) Pm 11 ∷ row (above 395) Pm 12 ∷ row (above 414) Pm 13 ∷ row (above 433) Pm 14
     ∷ row (above 452) Pm 15 ∷ row (above 471) Pm 16 ∷ row (above 490) Pm 17 ∷ row (above 509) Pm 18 ∷ row (above 528) Pm 19 ∷ []
 
@@ -50,20 +50,20 @@ extended11 =
 
 -- Table 12-3 for MP1, 12-4 for MP2, 12-5 for MP3, 12-6 for MP11
 unfoldable pub rows_of : ℕ → List Row
-rows_of mode = lowerMain ++ cond (eqb mode 1) [] (cond (eqb mode 2) extended2 (cond (eqb mode 3) extended3 extended11)) ++ upperMain
+rows_of mode = lower_main ++ cond (eqb mode 1) [] (cond (eqb mode 2) extended2 (cond (eqb mode 3) extended3 extended11)) ++ upper_main
 
 -- a row of Table 12-12: the subcarrier and its column of R
 pub data Reference : Type 0 where
   reference : Subcarrier → ℕ → Reference
 
-unfoldable pub lowerReferences : List Reference
-lowerReferences =
+unfoldable pub lower_references : List Reference
+lower_references =
     reference (below 546) 0 ∷ reference (below 527) 1 ∷ reference (below 508) 2 ∷ reference (below 489) 3 ∷ reference (below 470) 4
     ∷ reference (below 451) 5 ∷ reference (below 432) 6 ∷ reference (below 413) 7 ∷ reference (below 394) 8 ∷ reference (below 375) 9
     ∷ reference (below 356) 10 ∷ []
 
-unfoldable pub upperReferences : List Reference
-upperReferences =
+unfoldable pub upper_references : List Reference
+upper_references =
     reference (above 356) 50 ∷ reference (above 375) 51 ∷ reference (above 394) 52 ∷ reference (above 413) 53 ∷ reference (above 432) 54
     ∷ reference (above 451) 55 ∷ reference (above 470) 56 ∷ reference (above 489) 57 ∷ reference (above 508) 58 ∷ reference (above 527) 59
     ∷ reference (above 546) 60 ∷ []
@@ -80,25 +80,25 @@ references11 =
     reference (below 337) 11 ∷ reference (below 318) 12 ∷ reference (below 299) 13 ∷ reference (below 280) 14
     ∷ reference (above 280) 46 ∷ reference (above 299) 47 ∷ reference (above 318) 48 ∷ reference (above 337) 49 ∷ []
 
-unfoldable pub referencesOf : ℕ → List Reference
-referencesOf mode =
-    lowerReferences ++ cond (eqb mode 1) [] (cond (eqb mode 2) references2 (cond (eqb mode 3) references3 references11)) ++ upperReferences
+unfoldable pub references_of : ℕ → List Reference
+references_of mode =
+    lower_references ++ cond (eqb mode 1) [] (cond (eqb mode 2) references2 (cond (eqb mode 3) references3 references11)) ++ upper_references
 
 -- 12.2.1: the columns 0 and 1 of a partition of 36 go to its starting subcarrier, the last two to its ending one, the eighteenth
-unfoldable pub inRows : List Row → ℕ → Source → Source
-inRows [] k other = other
-inRows (row start matrix partition ∷ rest) k other =
-    cond (leb (element start) k && ltb k (element start + 18)) (matrix (36 * partition + 2 * (k - element start))) (inRows rest k other)
+unfoldable pub in_rows : List Row → ℕ → Source → Source
+in_rows [] k other = other
+in_rows (row start matrix partition ∷ rest) k other =
+    cond (leb (element start) k && ltb k (element start + 18)) (matrix (36 * partition + 2 * (k - element start))) (in_rows rest k other)
 
 -- 12.2.2
-unfoldable pub inReferences : List Reference → ℕ → Source
-inReferences [] k = Unused
-inReferences (reference subcarrier column ∷ rest) k = cond (eqb k (element subcarrier)) (Control column) (inReferences rest k)
+unfoldable pub in_references : List Reference → ℕ → Source
+in_references [] k = Unused
+in_references (reference subcarrier column ∷ rest) k = cond (eqb k (element subcarrier)) (Control column) (in_references rest k)
 
 -- what element k of the vector carries in a mode
-unfoldable pub sourceOf : (mode k : ℕ) → Source
-sourceOf mode k = inRows (rows_of mode) k (inReferences (referencesOf mode) k)
+unfoldable pub source_of : (mode k : ℕ) → Source
+source_of mode k = in_rows (rows_of mode) k (in_references (references_of mode) k)
 
 -- the same for any mode and number: nothing where there is no such vector or element
-unfoldable pub sourceAt : (mode k : ℕ) → Source
-sourceAt mode k = cond (mapped mode) (cond (ltb k 1093) (sourceOf mode k) Unused) Unused
+unfoldable pub source_at : (mode k : ℕ) → Source
+source_at mode k = cond (mapped mode) (cond (ltb k 1093) (source_of mode k) Unused) Unused

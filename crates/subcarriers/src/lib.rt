@@ -1,7 +1,7 @@
 // Tables 12-3 to 12-6 and Table 12-12: what each element of the vector carries.
 ghost use Rattle.std.specs.Prelude.{◌≡◌, true, ◌+◌, ◌*◌, ◌<◌, get_or};
-ghost use Rattle.subcarriers.specs.Slots.{columnSource, columnTable, modeAt, partitionSource, partitionTable, slotSource};
-ghost use Rattle.subcarriers.specs.Tables.{mapped, sourceAt, sourceOf};
+ghost use Rattle.subcarriers.specs.Slots.{column_source, column_table, mode_at, partition_source, partition_table, slot_source};
+ghost use Rattle.subcarriers.specs.Tables.{mapped, source_at, source_of};
 
 // What an element carries: two adjacent cells of a row of PM, PX1 or PX2, of which the first is in this column; one column of the control; or nothing.
 #[derive(Drop)]
@@ -51,7 +51,7 @@ pub fn is_mapped(mode: u8) -> bool
 // A mode's place among the four.
 pub fn mode_number(mode: u8) -> usize
     requires { mapped mode ≡ true }
-    ensures { (result < 4) × (modeAt result ≡ mode) }
+    ensures { (result < 4) × (mode_at result ≡ mode) }
 {
     if mode == 1 {
         return 0;
@@ -67,20 +67,20 @@ pub fn mode_number(mode: u8) -> usize
 
 fn column(n: usize, slot: usize) -> u8
     requires { (n < 4) × (slot < 30) }
-    ensures { result ≡ get_or columnTable (30 * n + slot) 0 }
+    ensures { result ≡ get_or column_table (30 * n + slot) 0 }
 {
     COLUMNS[30 * n + slot]
 }
 
 fn partition(n: usize, slot: usize) -> u8
     requires { (n < 4) × (slot < 30) }
-    ensures { result ≡ get_or partitionTable (30 * n + slot) 0 }
+    ensures { result ≡ get_or partition_table (30 * n + slot) 0 }
 {
     PARTITIONS[30 * n + slot]
 }
 
 fn column_source(column: u8) -> Source
-    ensures { result ≡ columnSource column }
+    ensures { result ≡ column_source column }
 {
     if column < 61 {
         return Source::Control(column as usize);
@@ -91,7 +91,7 @@ fn column_source(column: u8) -> Source
 // The two cells of a partition that begin in the column.
 fn partition_source(code: u8, column: usize) -> Source
     requires { column < 36 }
-    ensures { result ≡ partitionSource code column }
+    ensures { result ≡ partition_source code column }
 {
     let p = code as usize;
     if p < 32 {
@@ -109,7 +109,7 @@ fn partition_source(code: u8, column: usize) -> Source
 // What the subcarrier so many steps above a slot's reference subcarrier carries.
 fn slot_source(n: usize, slot: usize, step: usize) -> Source
     requires { (n < 4) × (slot < 30) × (step < 19) }
-    ensures { result ≡ slotSource n slot step }
+    ensures { result ≡ slot_source n slot step }
 {
     if step == 0 {
         return column_source(column(n, slot));
@@ -120,7 +120,7 @@ fn slot_source(n: usize, slot: usize, step: usize) -> Source
 // What element k carries in the mode of that number.
 pub fn source_of(n: usize, k: usize) -> Source
     requires { (n < 4) × (k < 1093) }
-    ensures { result ≡ sourceOf (modeAt n) k }
+    ensures { result ≡ source_of (mode_at n) k }
 {
     if k < 267 {
         return slot_source(n, k / 19, k % 19);
@@ -135,7 +135,7 @@ pub fn source_of(n: usize, k: usize) -> Source
 // What element k of a mode's vectors carries, for a program that prints it once `fill_vector` has answered 0. It refuses nothing, and is no entry point of
 // `layer1`: where there is no such vector or element it says that nothing is carried.
 pub fn source_at(mode: u8, k: usize) -> Source
-    ensures { result ≡ sourceAt mode k }
+    ensures { result ≡ source_at mode k }
 {
     if !is_mapped(mode) {
         return Source::Unused;

@@ -8,7 +8,7 @@ use lib.Seq.{get_or-set_other}
 use lib.Bits.{bit_xor}
 use Rattle.bits.specs.Bits.{Bytes, bit_at, byte_of, packed}
 use Rattle.bits.proofs.Numbers.{number-cong}
-use Rattle.bits.proofs.Packed.{bit_at_lt, length-packed, packed-bitAt, packed-bytes, packed-cong}
+use Rattle.bits.proofs.Packed.{bit_at_lt, length-packed, packed-bit_at, packed-bytes, packed-cong}
 use Rattle.bits.proofs.Stores.{Stored, byte-number, number-xor, stored-none, stored-turn}
 use Rattle.runs.specs.Chain.{Buffer}
 use Rattle.runs.specs.Runs.{Every}
@@ -48,13 +48,13 @@ adding-turn {a} {b} {sum} {i} {y} w h la lb e =
     }
 
 -- the buffers cs added one by one to b, as the program does
-abbrev pub oneByOne : Buffer → List Buffer → Buffer
-oneByOne b [] = b
-oneByOne b (c ∷ cs) = oneByOne (plus b c) cs
+abbrev pub one_by_one : Buffer → List Buffer → Buffer
+one_by_one b [] = b
+one_by_one b (c ∷ cs) = one_by_one (plus b c) cs
 
 sum_one : (b : Buffer) → Bytes b → sum_of (b ∷ []) (λ (c : Buffer). c) ≡ b
 unfolding sum_of
-sum_one b h = packed-cong (length b) _ (bit_at b) (λ i _. omega (arith, bit_at_lt b i)) ∙ packed-bitAt (length b) b refl h
+sum_one b h = packed-cong (length b) _ (bit_at b) (λ i _. omega (arith, bit_at_lt b i)) ∙ packed-bit_at (length b) b refl h
 
 sum_more : (b c : Buffer) (cs : List Buffer) (n : ℕ) → length b ≡ n → length c ≡ n
     → sum_of (b ∷ c ∷ cs) (λ (d : Buffer). d) ≡ sum_of (plus b c ∷ cs) (λ (d : Buffer). d)
@@ -65,7 +65,7 @@ sum_more b c cs n hb hc =
 
 -- is their sum
 pub one_by_one : (b : Buffer) (cs : List Buffer) (n : ℕ) → Bytes b → length b ≡ n → Every (λ (c : Buffer). length c ≡ n) cs
-    → oneByOne b cs ≡ sum_of (b ∷ cs) (λ (d : Buffer). d)
+    → one_by_one b cs ≡ sum_of (b ∷ cs) (λ (d : Buffer). d)
 unfolding sum_of
 one_by_one b [] n bytes h each = sym (sum_one b bytes)
 one_by_one b (c ∷ cs) n bytes h each =

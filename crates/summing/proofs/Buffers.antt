@@ -8,8 +8,8 @@ use native.Mathlib.Omega.{arith}
 use lib.ListN.{get_or-eq_default, length, take, drop, replicate, length-replicate, length-take, length-drop}
 use lib.Seq.{get_or-drop, get_or-take, length-take-le}
 use Rattle.bits.specs.Bits.{Bytes, bit_at, packed}
-use Rattle.bits.proofs.Packed.{bitAt-packed, length-packed, packed-bytes, packed-of}
-use Rattle.bits.proofs.Parts.{bitAt-behind, bitAt-front, bitAt-zeros}
+use Rattle.bits.proofs.Packed.{bit_at-packed, length-packed, packed-bytes, packed-of}
+use Rattle.bits.proofs.Parts.{bit_at-behind, bit_at-front, bit_at-zeros}
 use Rattle.runs.specs.Chain.{Buffer}
 use Rattle.runs.specs.Runs.{Every}
 use Rattle.summing.specs.Sums.{total, sum_of}
@@ -17,19 +17,19 @@ use Rattle.summing.specs.Keys.{SumOfThree}
 use Rattle.summing.proofs.Sums.{Sum, Sums, sum-zero}
 
 -- the bits past the end of a buffer, of its first bytes and of what is left
-pub bitAt-past : (l : List ℕ) (i : ℕ) → 8 * length l ≤ i → bit_at l i ≡ 0
+pub bit_at-past : (l : List ℕ) (i : ℕ) → 8 * length l ≤ i → bit_at l i ≡ 0
 unfolding bit_at
-bitAt-past l i h =
+bit_at-past l i h =
     let past : length l ≤ i / 8 = omega arith in
     ap (λ (k : ℕ). k / 2 ^ (7 - i % 8) % 2) (get_or-eq_default l 0 past) ∙ ap (λ (k : ℕ). k % 2) (zero-div (2 ^ (7 - i % 8)))
 
-bitAt-take : (n : ℕ) (l : List ℕ) (i : ℕ) → i < 8 * n → bit_at (take n l) i ≡ bit_at l i
+bit_at-take : (n : ℕ) (l : List ℕ) (i : ℕ) → i < 8 * n → bit_at (take n l) i ≡ bit_at l i
 unfolding bit_at
-bitAt-take n l i h = rw (get_or-take n l (i / 8) 0 (omega arith))
+bit_at-take n l i h = rw (get_or-take n l (i / 8) 0 (omega arith))
 
-bitAt-drop : (n : ℕ) (l : List ℕ) (i : ℕ) → bit_at (drop n l) i ≡ bit_at l (8 * n + i)
+bit_at-drop : (n : ℕ) (l : List ℕ) (i : ℕ) → bit_at (drop n l) i ≡ bit_at l (8 * n + i)
 unfolding bit_at
-bitAt-drop n l i =
+bit_at-drop n l i =
     let q : (8 * n + i) / 8 ≡ n + i / 8 = omega arith in
     let r : (8 * n + i) % 8 ≡ i % 8 = omega arith in
     rw (q, r, get_or-drop n l (i / 8) 0)
@@ -73,17 +73,17 @@ module _ {R : Type 0} where
   all-zero rs x s i each e = sum-cong rs _ (λ r. 0) _ 0 each e (sum-zero rs)
 
   pub sums-zeros : (rs : List R) (n : ℕ) → SumsOf rs (λ r. replicate n 0) (replicate n 0)
-  sums-zeros rs n i = all-zero rs _ (replicate n 0) i (every-all (λ r. bitAt-zeros n i) rs) (bitAt-zeros n i)
+  sums-zeros rs n i = all-zero rs _ (replicate n 0) i (every-all (λ r. bit_at-zeros n i) rs) (bit_at-zeros n i)
 
   pub sums-packed : (n : ℕ) (rs : List R) (f : R → ℕ → ℕ) (g : ℕ → ℕ) → ((r : R) (i : ℕ) → f r i < 2) → ((i : ℕ) → g i < 2)
       → ((i : ℕ) → i < 8 * n → Sum rs (λ r. f r i) (g i)) → SumsOf rs (λ r. packed n (f r)) (packed n g)
   sums-packed n rs f g bf bg e i = go (dec_lt i (8 * n))
     where
       go : Dec (i < 8 * n) → Sum rs (λ r. bit_at (packed n (f r)) i) (bit_at (packed n g) i)
-      go (yes l) = sum-cong rs _ (λ r. f r i) _ (g i) (every-all (λ r. bitAt-packed n (f r) (λ j _. bf r j) i l) rs) (bitAt-packed n g (λ j _. bg j) i l) (e i l)
+      go (yes l) = sum-cong rs _ (λ r. f r i) _ (g i) (every-all (λ r. bit_at-packed n (f r) (λ j _. bf r j) i l) rs) (bit_at-packed n g (λ j _. bg j) i l) (e i l)
       go (no l) =
-          all-zero rs _ _ i (every-all (λ r. bitAt-past (packed n (f r)) i (omega (arith, length-packed n (f r)))) rs)
-          (bitAt-past (packed n g) i (omega (arith, length-packed n g)))
+          all-zero rs _ _ i (every-all (λ r. bit_at-past (packed n (f r)) i (omega (arith, length-packed n (f r)))) rs)
+          (bit_at-past (packed n g) i (omega (arith, length-packed n g)))
 
   -- ---- parts of buffers
 
@@ -91,14 +91,14 @@ module _ {R : Type 0} where
   sums-take rs n x s e i = go (dec_lt i (8 * n))
     where
       past : (b : Buffer) → ¬ (i < 8 * n) → bit_at (take n b) i ≡ 0
-      past b l = bitAt-past (take n b) i (omega (arith, length-take n b))
+      past b l = bit_at-past (take n b) i (omega (arith, length-take n b))
 
       go : Dec (i < 8 * n) → Sum rs (λ r. bit_at (take n (x r)) i) (bit_at (take n s) i)
-      go (yes l) = sum-cong rs _ (λ r. bit_at (x r) i) _ _ (every-all (λ r. bitAt-take n (x r) i l) rs) (bitAt-take n s i l) (e i)
+      go (yes l) = sum-cong rs _ (λ r. bit_at (x r) i) _ _ (every-all (λ r. bit_at-take n (x r) i l) rs) (bit_at-take n s i l) (e i)
       go (no l) = all-zero rs _ (take n s) i (every-all (λ r. past (x r) l) rs) (past s l)
 
   pub sums-drop : (rs : List R) (n : ℕ) (x : R → Buffer) (s : Buffer) → SumsOf rs x s → SumsOf rs (λ r. drop n (x r)) (drop n s)
-  sums-drop rs n x s e i = sum-cong rs _ (λ r. bit_at (x r) (8 * n + i)) _ _ (every-all (λ r. bitAt-drop n (x r) i) rs) (bitAt-drop n s i) (e (8 * n + i))
+  sums-drop rs n x s e i = sum-cong rs _ (λ r. bit_at (x r) (8 * n + i)) _ _ (every-all (λ r. bit_at-drop n (x r) i) rs) (bit_at-drop n s i) (e (8 * n + i))
 
   pub sums-append : (rs : List R) (x y : R → Buffer) (s u : Buffer) → ((r : R) → length (x r) ≡ length s) → SumsOf rs x s → SumsOf rs y u
       → SumsOf rs (λ r. x r ++ y r) (s ++ u)
@@ -107,21 +107,21 @@ module _ {R : Type 0} where
       behind : (a b : Buffer) → length a ≡ length s → 8 * length s ≤ i → bit_at (a ++ b) i ≡ bit_at b (i - 8 * length s)
       behind a b n h =
           let from : i ≡ 8 * length a + (i - 8 * length s) = omega arith in
-          ap (bit_at (a ++ b)) from ∙ bitAt-behind a b (i - 8 * length s)
+          ap (bit_at (a ++ b)) from ∙ bit_at-behind a b (i - 8 * length s)
 
       go : Dec (i < 8 * length s) → Sum rs (λ r. bit_at (x r ++ y r) i) (bit_at (s ++ u) i)
       go (yes l) =
-          sum-cong rs _ (λ r. bit_at (x r) i) _ _ (every-all (λ r. bitAt-front (x r) (y r) i (omega (arith, sizes r))) rs) (bitAt-front s u i l) (e i)
+          sum-cong rs _ (λ r. bit_at (x r) i) _ _ (every-all (λ r. bit_at-front (x r) (y r) i (omega (arith, sizes r))) rs) (bit_at-front s u i l) (e i)
       go (no l) =
           sum-cong rs _ (λ r. bit_at (y r) (i - 8 * length s)) _ _ (every-all (λ r. behind (x r) (y r) (sizes r) (omega arith)) rs) (behind s u refl (omega arith))
           (f (i - 8 * length s))
 
   -- ---- `sum_of`
 
-  pub sumOf-cong : (rs : List R) (x y : R → Buffer) → Every (λ (r : R). x r ≡ y r) rs → sum_of rs x ≡ sum_of rs y
+  pub sum_of-cong : (rs : List R) (x y : R → Buffer) → Every (λ (r : R). x r ≡ y r) rs → sum_of rs x ≡ sum_of rs y
   unfolding sum_of
-  sumOf-cong [] x y each = refl
-  sumOf-cong (r ∷ rs) x y each =
+  sum_of-cong [] x y each = refl
+  sum_of-cong (r ∷ rs) x y each =
       ap₂ packed (ap length each.0)
       (fun_ext (λ n. ap (λ (k : ℕ). k % 2) (total-cong (r ∷ rs) (λ q. bit_at (x q) n) (λ q. bit_at (y q) n) (every_map (λ q e. ap (λ (b : Buffer). bit_at b n) e) (r ∷ rs) each))))
 
@@ -144,10 +144,10 @@ module _ {R : Type 0} where
       sum j = total (r ∷ rs) (λ q. bit_at (x q) j) % 2
 
       go : Dec (i < 8 * n) → Sum (r ∷ rs) (λ q. bit_at (x q) i) (bit_at (packed (length (x r)) sum) i)
-      go (yes l) = bitAt-packed (length (x r)) sum (λ j _. omega arith) i (omega (arith, each.0))
+      go (yes l) = bit_at-packed (length (x r)) sum (λ j _. omega arith) i (omega (arith, each.0))
       go (no l) =
-          all-zero (r ∷ rs) x (packed (length (x r)) sum) i (every_map (λ q e. bitAt-past (x q) i (omega arith)) (r ∷ rs) each)
-          (bitAt-past (packed (length (x r)) sum) i (omega (arith, each.0, length-packed (length (x r)) sum)))
+          all-zero (r ∷ rs) x (packed (length (x r)) sum) i (every_map (λ q e. bit_at-past (x q) i (omega arith)) (r ∷ rs) each)
+          (bit_at-past (packed (length (x r)) sum) i (omega (arith, each.0, length-packed (length (x r)) sum)))
 
   pub bits-sum : (rs : List R) → length rs % 2 ≡ 1 → (x : R → Buffer) (n : ℕ) → Every (λ (r : R). length (x r) ≡ n) rs → SumsOf rs x (sum_of rs x)
   bits-sum [] odd x n each = absurd (omega arith)
@@ -187,5 +187,5 @@ unfolding sum_of
 of_three a b c x =
     record {
       long = length-packed (length (x a)) _;
-      each = λ i h. bitAt-packed (length (x a)) _ (λ j _. omega arith) i h ∙ ap (λ (k : ℕ). k % 2) (omega arith);
+      each = λ i h. bit_at-packed (length (x a)) _ (λ j _. omega arith) i h ∙ ap (λ (k : ℕ). k % 2) (omega arith);
     }

@@ -8,9 +8,9 @@ use native.Mathlib.Omega.{arith}
 use lib.Dec.{ltb}
 use lib.ListN.{get_or-append, length, length-append, get_or}
 use lib.Seq.{get_or-append-add}
-use Rattle.control.specs.Control.{field, sum, parity, rsid, sequence, assembled, stored, encoded, rowBit, blockBit, controlBit, controlOf}
+use Rattle.control.specs.Control.{field, sum, parity, rsid, sequence, assembled, stored, encoded, row_bit, block_bit, control_bit, control_of}
 use Rattle.control.proofs.EachBit.{Bits, field-bits, one-bits}
-use Rattle.summing.specs.Sums.{sum_of, sumNumber}
+use Rattle.summing.specs.Sums.{sum_of, sum_number}
 use Rattle.summing.proofs.Sums.{Sum, sum-choice, sum-constant, sum-plus, sum-zero}
 use Rattle.summing.proofs.Buffers.{every-all, packed-sum, sum-cong}
 
@@ -118,14 +118,14 @@ module _ {R : Type 0} (rs : List R) where
       sums-stored m c j zero = sum-zero rs
       sums-stored m c j (suc row) = sum-plus rs _ _ _ _ (sums-stored m c j row) ((sums-sequence m c j).at row)
 
-      control-is : (m : ℕ) → controlOf m y ≡ sum_of rs (λ r. controlOf m (z r))
-      unfolding controlOf controlBit blockBit rowBit encoded
+      control-is : (m : ℕ) → control_of m y ≡ sum_of rs (λ r. control_of m (z r))
+      unfolding control_of control_bit block_bit row_bit encoded
       control-is m =
           packed-sum 4096 rs odd _ _ (λ r i. chosen-lt (ltb (i % 2048 % 64) 61) _ _) (λ i. chosen-lt (ltb (i % 2048 % 64) 61) _ _)
           (λ i _. sum-choice (ltb (i % 2048 % 64) 61) rs _ _ _ _ (sums-stored m (i / 2048) (i % 2048 % 64) (suc (i % 2048 / 64))) (sum-zero rs))
 
 module _ {R : Type 0} (rs : List R) where
   -- the control of the sum of reserved numbers
-  pub control-sum : (m : ℕ) → length rs % 2 ≡ 1 → (z : R → ℕ) → controlOf m (sumNumber rs z) ≡ sum_of rs (λ r. controlOf m (z r))
-  unfolding sumNumber
+  pub control-sum : (m : ℕ) → length rs % 2 ≡ 1 → (z : R → ℕ) → control_of m (sum_number rs z) ≡ sum_of rs (λ r. control_of m (z r))
+  unfolding sum_number
   control-sum m odd z = control-is rs odd z _ (omega arith) (omega arith) (omega arith) m

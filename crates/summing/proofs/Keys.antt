@@ -8,25 +8,25 @@ use native.Mathlib.Omega.{arith}
 use lib.ListN.{length, get_or}
 use Rattle.control.specs.Modes.{covered}
 use Rattle.runs.specs.declared.Extended.TheVariants.{P3, P4}
-use Rattle.runs.specs.MainChannels.{mainOf, p1Len, p2Len}
-use Rattle.runs.specs.Lengths.{kind_of, frameLen, pidsLen}
+use Rattle.runs.specs.MainChannels.{main_of, p1_len, p2_len}
+use Rattle.runs.specs.Lengths.{kind_of, frame_len, pids_len}
 use Rattle.runs.specs.Chain.{Buffer}
 use Rattle.runs.specs.Lent.{Frames, Matrices, Memory}
-use Rattle.runs.specs.Runs.{Every, Fitting, SenderRun, framesSent, noFrames, count, frame_at, matricesAt, controlAt, memoryAfter}
+use Rattle.runs.specs.Runs.{Every, Fitting, SenderRun, frames_sent, no_frames, count, frame_at, matrices_at, control_at, memory_after}
 use Rattle.runs.specs.Defined.{table}
 use Rattle.runs.proofs.Lists.{table_at}
 use Rattle.runs.proofs.Sender.{control-at, covered_of, matrices-at, memory-at, right-at}
 use Rattle.runs.proofs.Sendable.{can-send}
-use Rattle.summing.specs.Sums.{sum_of, sumNumber, sumFrames, sumMatrices, sumMemory}
+use Rattle.summing.specs.Sums.{sum_of, sum_number, sum_frames, sum_matrices, sum_memory}
 use Rattle.summing.specs.Keys.{Together, Summed, Keys, ThreeOf, ThreeKeys, Three}
-use Rattle.summing.proofs.Buffers.{bits-sum, bytes-sum, every_map, length-sum, of_three, sumOf-cong}
+use Rattle.summing.proofs.Buffers.{bits-sum, bytes-sum, every_map, length-sum, of_three, sum_of-cong}
 use Rattle.summing.proofs.Chained.{SumsFrames, before-sums, defined-control, defined-matrices}
 
 -- ---- the sums of frames
 
 module _ (mode : ℕ) {R : Type 0} (rs : List R) (odd : length rs % 2 ≡ 1) (f : R → Frames) (fit : Every (λ (r : R). Fitting mode (f r)) rs) where
-  frames-bits : SumsFrames rs f (sumFrames rs f)
-  unfolding sumFrames
+  frames-bits : SumsFrames rs f (sum_frames rs f)
+  unfolding sum_frames
   frames-bits =
       record {
         reserved-sum = refl;
@@ -39,21 +39,21 @@ module _ (mode : ℕ) {R : Type 0} (rs : List R) (odd : length rs % 2 ≡ 1) (f 
         ];
       }
 
-  number_lt : sumNumber rs (λ r. (f r).reserved) < 8
-  unfolding sumNumber
+  number_lt : sum_number rs (λ r. (f r).reserved) < 8
+  unfolding sum_number
   number_lt = omega arith
 
-  frames-fit : Fitting mode (sumFrames rs f)
-  unfolding sumFrames
+  frames-fit : Fitting mode (sum_frames rs f)
+  unfolding sum_frames
   frames-fit =
       record {
         reserved-right = number_lt;
-        p1-right = length-sum rs odd _ (p1Len (mainOf mode)) (every_map (λ r x. x.p1-right) rs fit);
-        pids-right = length-sum rs odd _ pidsLen (every_map (λ r x. x.pids-right) rs fit);
-        p2-right = length-sum rs odd _ (p2Len (mainOf mode)) (every_map (λ r x. x.p2-right) rs fit);
+        p1-right = length-sum rs odd _ (p1_len (main_of mode)) (every_map (λ r x. x.p1-right) rs fit);
+        pids-right = length-sum rs odd _ pids_len (every_map (λ r x. x.pids-right) rs fit);
+        p2-right = length-sum rs odd _ (p2_len (main_of mode)) (every_map (λ r x. x.p2-right) rs fit);
         extended-right = λ e. elim e [
-          | P3 ↦ length-sum rs odd _ (frameLen (kind_of mode P3)) (every_map (λ r x. x.extended-right P3) rs fit)
-          | P4 ↦ length-sum rs odd _ (frameLen (kind_of mode P4)) (every_map (λ r x. x.extended-right P4) rs fit)
+          | P3 ↦ length-sum rs odd _ (frame_len (kind_of mode P3)) (every_map (λ r x. x.extended-right P3) rs fit)
+          | P4 ↦ length-sum rs odd _ (frame_len (kind_of mode P4)) (every_map (λ r x. x.extended-right P4) rs fit)
         ];
         bytes = record {
           p1-bytes = bytes-sum rs odd _;
@@ -65,19 +65,19 @@ module _ (mode : ℕ) {R : Type 0} (rs : List R) (odd : length rs % 2 ≡ 1) (f 
 
 -- ---- things that have the same are summed to the same
 
-matrices-cong : {R : Type 0} (rs : List R) (x y : R → Matrices) → Every (λ (r : R). x r ≡ y r) rs → sumMatrices rs x ≡ sumMatrices rs y
-unfolding sumMatrices
+matrices-cong : {R : Type 0} (rs : List R) (x y : R → Matrices) → Every (λ (r : R). x r ≡ y r) rs → sum_matrices rs x ≡ sum_matrices rs y
+unfolding sum_matrices
 matrices-cong rs x y each = λ i. record { pm = of (λ s. s.pm) i; px1 = of (λ s. s.px1) i; px2 = of (λ s. s.px2) i }
   where
     of : (part : Matrices → Buffer) → sum_of rs (λ r. part (x r)) ≡ sum_of rs (λ r. part (y r))
-    of part = sumOf-cong rs _ _ (every_map (λ r e. ap part e) rs each)
+    of part = sum_of-cong rs _ _ (every_map (λ r e. ap part e) rs each)
 
-memory-cong : {R : Type 0} (rs : List R) (x y : R → Memory) → Every (λ (r : R). x r ≡ y r) rs → sumMemory rs x ≡ sumMemory rs y
-unfolding sumMemory
+memory-cong : {R : Type 0} (rs : List R) (x y : R → Memory) → Every (λ (r : R). x r ≡ y r) rs → sum_memory rs x ≡ sum_memory rs y
+unfolding sum_memory
 memory-cong rs x y each = λ i. record { for3 = of (λ m. m.for3) i; for4 = of (λ m. m.for4) i; delayed = of (λ m. m.delayed) i }
   where
     of : (part : Memory → Buffer) → sum_of rs (λ r. part (x r)) ≡ sum_of rs (λ r. part (y r))
-    of part = sumOf-cong rs _ _ (every_map (λ r e. ap part e) rs each)
+    of part = sum_of-cong rs _ _ (every_map (λ r e. ap part e) rs each)
 
 -- ---- runs of n L1 frames
 
@@ -96,16 +96,16 @@ module _ (mode : ℕ) (rs : List (SenderRun mode)) (n : ℕ) (to : Together mode
   all_fit t h = every_map (λ r e. right-at mode r t (omega arith)) rs to.counts
 
   sums : ℕ → Frames
-  sums t = sumFrames rs (λ r. frame_at mode r t)
+  sums t = sum_frames rs (λ r. frame_at mode r t)
 
   -- a run that sends them
-  sending-sums : (s : SenderRun mode) → framesSent mode s ≡ table 0 n sums → Summed mode rs n s
+  sending-sums : (s : SenderRun mode) → frames_sent mode s ≡ table 0 n sums → Summed mode rs n s
   unfolding count frame_at sums
   sending-sums s e =
       record {
         together = to;
         count-is = ap length e ∙ length-table n 0 sums;
-        frames-are = λ t h. ap (λ (l : List Frames). get_or l t noFrames) e ∙ table_at n sums noFrames t h;
+        frames-are = λ t h. ap (λ (l : List Frames). get_or l t no_frames) e ∙ table_at n sums no_frames t h;
       }
 
   can-sum : covered mode ≡ true → (s : SenderRun mode) × Summed mode rs n s
@@ -118,19 +118,19 @@ module _ (mode : ℕ) (rs : List (SenderRun mode)) (n : ℕ) (s : SenderRun mode
   frames-sum : (t : ℕ) → t < n → SumsFrames rs (λ r. frame_at mode r t) (frame_at mode s t)
   frames-sum t h = rw (su.frames-are t h) (frames-bits mode rs su.together.odd _ (all_fit mode rs n su.together t h))
 
-  matrices-sum : (t : ℕ) → t < n → matricesAt mode s t ≡ sumMatrices rs (λ r. matricesAt mode r t)
+  matrices-sum : (t : ℕ) → t < n → matrices_at mode s t ≡ sum_matrices rs (λ r. matrices_at mode r t)
   matrices-sum t h =
       matrices-at mode s t (omega (arith, su.count-is))
       ∙ defined-matrices rs su.together.odd mode (λ r. frame_at mode r) (frame_at mode s) t (λ k l. frames-sum k (omega arith))
       ∙ matrices-cong rs _ _ (every_map (λ r e. sym (matrices-at mode r t (omega arith))) rs su.together.counts)
 
-  control-sum : (t : ℕ) → t < n → controlAt mode s t ≡ sum_of rs (λ r. controlAt mode r t)
+  control-sum : (t : ℕ) → t < n → control_at mode s t ≡ sum_of rs (λ r. control_at mode r t)
   control-sum t h =
       control-at mode s t (omega (arith, su.count-is))
       ∙ defined-control rs su.together.odd mode (λ r. frame_at mode r) (frame_at mode s) t (λ k l. frames-sum k (omega arith))
-      ∙ sumOf-cong rs _ _ (every_map (λ r e. sym (control-at mode r t (omega arith))) rs su.together.counts)
+      ∙ sum_of-cong rs _ _ (every_map (λ r e. sym (control-at mode r t (omega arith))) rs su.together.counts)
 
-  memory-sum : (t : ℕ) → t ≤ n → memoryAfter mode s t ≡ sumMemory rs (λ r. memoryAfter mode r t)
+  memory-sum : (t : ℕ) → t ≤ n → memory_after mode s t ≡ sum_memory rs (λ r. memory_after mode r t)
   memory-sum t h =
       memory-at mode s t (omega (arith, su.count-is))
       ∙ (before-sums rs su.together.odd mode (λ r. frame_at mode r) (frame_at mode s) t (λ k l. frames-sum k (omega arith))).is
@@ -156,7 +156,7 @@ module _ (mode : ℕ) (a b c s : SenderRun mode) (n : ℕ) (su : Summed mode (a 
   of-runs x e = rw e (of_three a b c x)
 
   three-keys : ThreeKeys mode a b c s n
-  unfolding sumMatrices sumMemory
+  unfolding sum_matrices sum_memory
   three-keys =
       record {
         pm = λ t h. of-runs _ (ap (λ (m : Matrices). m.pm) ((keys mode).matrices _ n s su t h));

@@ -9,7 +9,7 @@ use Rattle.bits.proofs.Numbers.{number-cong}
 use Rattle.bits.proofs.Stores.{byte-number}
 use Rattle.runs.specs.Chain.{Buffer}
 use Rattle.runs.specs.Runs.{Every}
-use Rattle.summing.specs.Sums.{sum_of, sumNumber}
+use Rattle.summing.specs.Sums.{sum_of, sum_number}
 use Rattle.summing.proofs.Sums.{Sum, sum-zero}
 use Rattle.summing.proofs.Buffers.{bits-sum, bytes-sum, every-all, every_map, sum-cong}
 
@@ -47,11 +47,11 @@ module _ {R : Type 0} (rs : List R) (odd : length rs % 2 ≡ 1) (x : R → Buffe
   low_sum : (k : ℕ) (y : R → ℕ) → ((r : R) → y r ≡ bit_at (x r) k) → Sum rs y (bit_at (sum_of rs x) k)
   low_sum k y same = sum-cong rs y (λ r. bit_at (x r) k) _ _ (every-all same rs) refl (bits-sum rs odd x n each k)
 
-  low_sums : 4 * bit_at (sum_of rs x) 5 + 2 * bit_at (sum_of rs x) 6 + bit_at (sum_of rs x) 7 ≡ sumNumber rs (λ r. get_or (x r) 0 0)
-  unfolding sumNumber
+  low_sums : 4 * bit_at (sum_of rs x) 5 + 2 * bit_at (sum_of rs x) 6 + bit_at (sum_of rs x) 7 ≡ sum_number rs (λ r. get_or (x r) 0 0)
+  unfolding sum_number
   low_sums = omega (arith, low_sum 5 _ (λ r. bit-5 (x r)), low_sum 6 _ (λ r. bit-6 (x r)), low_sum 7 _ (λ r. bit-7 (x r)))
 
-  pub number-sum : get_or (sum_of rs x) 0 0 ≡ sumNumber rs (λ r. get_or (x r) 0 0)
+  pub number-sum : get_or (sum_of rs x) 0 0 ≡ sum_number rs (λ r. get_or (x r) 0 0)
   number-sum =
       sym (byte-number (sum_of rs x) 0 (bytes-sum rs odd x 0))
       ∙ number-cong 8 _ (bit_at (sum_of rs x)) (λ k _. ap (bit_at (sum_of rs x)) (omega arith))

@@ -8,11 +8,11 @@ use native.Mathlib.Omega.{arith}
 use lib.Dec.{eqb, ltb}
 use lib.ListN.{length}
 use Rattle.bits.specs.Bits.{beside, put, written}
-use Rattle.scrambling.specs.Scrambler.{sequence, scrambled, scrambledEach}
+use Rattle.scrambling.specs.Scrambler.{sequence, scrambled, scrambled_each}
 use Rattle.coding.specs.declared.Rate.{Rate}
 use Rattle.coding.specs.Coder.{Pattern, coded}
 use Rattle.coding.specs.Channel.{channel}
-use Rattle.coding.specs.Buffers.{codedEach}
+use Rattle.coding.specs.Buffers.{coded_each}
 use Rattle.coding.proofs.Linear as linear
 use Rattle.summing.specs.Sums.{total}
 
@@ -72,8 +72,8 @@ module _ {R : Type 0} where
   sums-scrambled rs odd x s e i = sum-sequence rs odd (λ r. x r i) (s i) i (e i)
 
   pub sums-each : (n : ℕ) (rs : List R) → length rs % 2 ≡ 1 → (x : R → ℕ → ℕ) (s : ℕ → ℕ) → Sums rs x s
-      → Sums rs (λ r. scrambledEach n (x r)) (scrambledEach n s)
-  unfolding scrambledEach
+      → Sums rs (λ r. scrambled_each n (x r)) (scrambled_each n s)
+  unfolding scrambled_each
   sums-each n rs odd x s e i = sum-sequence rs odd (λ r. x r i) (s i) (i % n) (e i)
 
   listed : (rs : List R) (x : R → ℕ → ℕ) (i : ℕ) → linear.total (map x rs) i ≡ total rs (λ r. x r i)
@@ -96,6 +96,6 @@ module _ {R : Type 0} where
   sums-channel rate n rs odd x s e i = sums-coded _ n rs _ _ (sums-scrambled rs odd _ _ (λ j. e _)) _
 
   pub sums-coded-each : (rate : Rate) (n : ℕ) (rs : List R) (x : R → ℕ → ℕ) (s : ℕ → ℕ) → Sums rs x s
-      → Sums rs (λ r. codedEach rate n (x r)) (codedEach rate n s)
-  unfolding codedEach
+      → Sums rs (λ r. coded_each rate n (x r)) (coded_each rate n s)
+  unfolding coded_each
   sums-coded-each rate n rs x s e i = sums-coded _ n rs _ _ (λ j. e _) _

@@ -2,8 +2,8 @@
 use Rattle.std.specs.Prelude.{ℕ, ◌+◌, ◌*◌, ◌%◌, ◌≤◌, ◌<◌, ◌≡◌, List, [], ◌∷◌, length}
 use Rattle.bits.specs.Bits.{bit_at}
 use Rattle.runs.specs.Chain.{Buffer}
-use Rattle.runs.specs.Runs.{Every, SenderRun, count, frame_at, matricesAt, controlAt, memoryAfter}
-use Rattle.summing.specs.Sums.{sum_of, sumFrames, sumMatrices, sumMemory}
+use Rattle.runs.specs.Runs.{Every, SenderRun, count, frame_at, matrices_at, control_at, memory_after}
+use Rattle.summing.specs.Sums.{sum_of, sum_frames, sum_matrices, sum_memory}
 
 -- the runs rs, an odd number of them and all of n L1 frames
 pub record Together (mode : ℕ) (rs : List (SenderRun mode)) (n : ℕ) : Type 0 where
@@ -14,17 +14,17 @@ pub record Together (mode : ℕ) (rs : List (SenderRun mode)) (n : ℕ) : Type 0
 pub record Summed (mode : ℕ) (rs : List (SenderRun mode)) (n : ℕ) (s : SenderRun mode) : Type 0 where
   pub together : Together mode rs n
   pub count-is : count mode s ≡ n
-  pub frames-are : (t : ℕ) → t < n → frame_at mode s t ≡ sumFrames rs (λ r. frame_at mode r t)
+  pub frames-are : (t : ℕ) → t < n → frame_at mode s t ≡ sum_frames rs (λ r. frame_at mode r t)
 
 pub record Keys (mode : ℕ) : Type 0 where
   -- it sends the sums of their matrices and of their control
   pub matrices : (rs : List (SenderRun mode)) (n : ℕ) (s : SenderRun mode) → Summed mode rs n s
-      → (t : ℕ) → t < n → matricesAt mode s t ≡ sumMatrices rs (λ r. matricesAt mode r t)
+      → (t : ℕ) → t < n → matrices_at mode s t ≡ sum_matrices rs (λ r. matrices_at mode r t)
   pub control : (rs : List (SenderRun mode)) (n : ℕ) (s : SenderRun mode) → Summed mode rs n s
-      → (t : ℕ) → t < n → controlAt mode s t ≡ sum_of rs (λ r. controlAt mode r t)
+      → (t : ℕ) → t < n → control_at mode s t ≡ sum_of rs (λ r. control_at mode r t)
   -- and what it holds is the sum of what they hold, the waiting bits included, at the start and after each L1 frame
   pub memories : (rs : List (SenderRun mode)) (n : ℕ) (s : SenderRun mode) → Summed mode rs n s
-      → (t : ℕ) → t ≤ n → memoryAfter mode s t ≡ sumMemory rs (λ r. memoryAfter mode r t)
+      → (t : ℕ) → t ≤ n → memory_after mode s t ≡ sum_memory rs (λ r. memory_after mode r t)
   -- there is such a run
   pub summed : (rs : List (SenderRun mode)) (n : ℕ) → Together mode rs n → (s : SenderRun mode) × Summed mode rs n s
 
@@ -42,14 +42,14 @@ ThreeOf a b c s x = SumOfThree (x s) (x a) (x b) (x c)
 -- the run s of the sums of a, b and c, all of n L1 frames
 pub record ThreeKeys (mode : ℕ) (a b c s : SenderRun mode) (n : ℕ) : Type 0 where
   -- cell by cell, the matrices and the control of each L1 frame
-  pub pm : (t : ℕ) → t < n → ThreeOf a b c s (λ r. (matricesAt mode r t).pm)
-  pub px1 : (t : ℕ) → t < n → ThreeOf a b c s (λ r. (matricesAt mode r t).px1)
-  pub px2 : (t : ℕ) → t < n → ThreeOf a b c s (λ r. (matricesAt mode r t).px2)
-  pub control : (t : ℕ) → t < n → ThreeOf a b c s (λ r. controlAt mode r t)
+  pub pm : (t : ℕ) → t < n → ThreeOf a b c s (λ r. (matrices_at mode r t).pm)
+  pub px1 : (t : ℕ) → t < n → ThreeOf a b c s (λ r. (matrices_at mode r t).px1)
+  pub px2 : (t : ℕ) → t < n → ThreeOf a b c s (λ r. (matrices_at mode r t).px2)
+  pub control : (t : ℕ) → t < n → ThreeOf a b c s (λ r. control_at mode r t)
   -- and the memories, at the start and after each L1 frame, with all bits that wait: the internal matrices of P3 and P4, and the delay memory
-  pub for3 : (t : ℕ) → t ≤ n → ThreeOf a b c s (λ r. (memoryAfter mode r t).for3)
-  pub for4 : (t : ℕ) → t ≤ n → ThreeOf a b c s (λ r. (memoryAfter mode r t).for4)
-  pub delayed : (t : ℕ) → t ≤ n → ThreeOf a b c s (λ r. (memoryAfter mode r t).delayed)
+  pub for3 : (t : ℕ) → t ≤ n → ThreeOf a b c s (λ r. (memory_after mode r t).for3)
+  pub for4 : (t : ℕ) → t ≤ n → ThreeOf a b c s (λ r. (memory_after mode r t).for4)
+  pub delayed : (t : ℕ) → t ≤ n → ThreeOf a b c s (λ r. (memory_after mode r t).delayed)
 
 pub record Three (mode : ℕ) : Type 0 where
   pub sums : (a b c s : SenderRun mode) (n : ℕ) → Summed mode (a ∷ b ∷ c ∷ []) n s → ThreeKeys mode a b c s n

@@ -15,14 +15,14 @@ sum_of [] x = []
 sum_of (r ∷ rs) x = packed (length (x r)) (λ n. total (r ∷ rs) (λ q. bit_at (x q) n) % 2)
 
 -- of their numbers 0 to 7, by the bits of weight 4, 2 and 1
-unfoldable pub sumNumber : {R : Type 0} → List R → (R → ℕ) → ℕ
-sumNumber rs x = 4 * (total rs (λ r. x r / 4 % 2) % 2) + 2 * (total rs (λ r. x r / 2 % 2) % 2) + total rs (λ r. x r % 2) % 2
+unfoldable pub sum_number : {R : Type 0} → List R → (R → ℕ) → ℕ
+sum_number rs x = 4 * (total rs (λ r. x r / 4 % 2) % 2) + 2 * (total rs (λ r. x r / 2 % 2) % 2) + total rs (λ r. x r % 2) % 2
 
 -- of their reserved numbers and transfer frames
-unfoldable pub sumFrames : {R : Type 0} → List R → (R → Frames) → Frames
-sumFrames rs f =
+unfoldable pub sum_frames : {R : Type 0} → List R → (R → Frames) → Frames
+sum_frames rs f =
     record {
-      reserved = sumNumber rs (λ r. (f r).reserved);
+      reserved = sum_number rs (λ r. (f r).reserved);
       p1 = sum_of rs (λ r. (f r).p1);
       pids = sum_of rs (λ r. (f r).pids);
       p2 = sum_of rs (λ r. (f r).p2);
@@ -31,8 +31,8 @@ sumFrames rs f =
     }
 
 -- of their matrices
-unfoldable pub sumMatrices : {R : Type 0} → List R → (R → Matrices) → Matrices
-sumMatrices rs x =
+unfoldable pub sum_matrices : {R : Type 0} → List R → (R → Matrices) → Matrices
+sum_matrices rs x =
     record {
       pm = sum_of rs (λ r. (x r).pm);
       px1 = sum_of rs (λ r. (x r).px1);
@@ -40,8 +40,8 @@ sumMatrices rs x =
     }
 
 -- of their memories: the internal matrices of P3 and P4, and the delay memory
-unfoldable pub sumMemory : {R : Type 0} → List R → (R → Memory) → Memory
-sumMemory rs m =
+unfoldable pub sum_memory : {R : Type 0} → List R → (R → Memory) → Memory
+sum_memory rs m =
     record {
       for3 = sum_of rs (λ r. (m r).for3);
       for4 = sum_of rs (λ r. (m r).for4);

@@ -32,8 +32,8 @@ lines [] = []
 lines (b ∷ rest) = cond (eqb b newline) ([] ∷ lines rest) (joined b (lines rest))
 
 -- a line without the CR that may end it
-unfoldable pub plainLength : List ℕ → ℕ
-plainLength line = cond (eqb (get_or line (length line - 1) 0) return) (length line - 1) (length line)
+unfoldable pub plain_length : List ℕ → ℕ
+plain_length line = cond (eqb (get_or line (length line - 1) 0) return) (length line - 1) (length line)
 
 unfoldable pub plain : List ℕ → List ℕ
-plain line = take (plainLength line) line
+plain line = take (plain_length line) line

@@ -2,18 +2,18 @@
 use Rattle.std.specs.Prelude.{ℕ, zero, suc, ◌+◌, ◌-◌, ◌*◌, ◌/◌, ◌%◌, ◌^◌, Bool, true, false, cond, ◌&&◌, List, [], ◌∷◌, ◌++◌, length, leb, ltb}
 
 -- the digits 0 to 9
-unfoldable pub isDigit : ℕ → Bool
-isDigit b = leb 48 b && leb b 57
+unfoldable pub is_digit : ℕ → Bool
+is_digit b = leb 48 b && leb b 57
 
 -- digits, and nothing else
-unfoldable pub digitsAlone : List ℕ → Bool
-digitsAlone [] = true
-digitsAlone (b ∷ rest) = isDigit b && digitsAlone rest
+unfoldable pub digits_alone : List ℕ → Bool
+digits_alone [] = true
+digits_alone (b ∷ rest) = is_digit b && digits_alone rest
 
 -- a number: one digit or more, and nothing else; leading zeros are allowed
 unfoldable pub is_number : List ℕ → Bool
 is_number [] = false
-is_number (b ∷ rest) = digitsAlone (b ∷ rest)
+is_number (b ∷ rest) = digits_alone (b ∷ rest)
 
 -- what digits are worth: the first weighs most, and the last 1
 unfoldable pub value : List ℕ → ℕ

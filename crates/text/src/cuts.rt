@@ -1,6 +1,6 @@
 // A text cut at its first separator, as parts of what is lent.
 ghost use Rattle.std.specs.Prelude.{◌≡◌, ◌+◌, ◌≤◌, length, drop};
-ghost use Rattle.text.specs.Lines.{after, before, newline, plain, plainLength, space};
+ghost use Rattle.text.specs.Lines.{after, before, newline, plain, plain_length, space};
 
 // Where the first separator stands from `at` on: at the text's end, where there is none.
 pub fn end_of(text: &[u8], at: usize, separator: u8) -> usize
@@ -49,7 +49,7 @@ pub fn rest(line: &[u8]) -> &[u8]
 
 // How many bytes a line has without the CR that may end it.
 fn plain_length(line: &[u8]) -> usize
-    ensures { (result ≡ plainLength line.now) × (result ≤ length line.now) }
+    ensures { (result ≡ plain_length line.now) × (result ≤ length line.now) }
 {
     let n = line.len();
     if n == 0 {

@@ -12,8 +12,8 @@ use Rattle.bits.specs.Tests.{all}
 use Rattle.bits.proofs.Tests.{all-at}
 use Rattle.bits.proofs.Numbers.{digit, number-cong, number_lt, number-digit}
 use Rattle.trellis.specs.Cells.{distance}
-use Rattle.trellis.specs.Paths.{start, pathDistance}
-use Rattle.trellis.specs.Trellis.{next, cost, best, ended, chosen, walked, walk, leastFrom, least}
+use Rattle.trellis.specs.Paths.{start, path_distance}
+use Rattle.trellis.specs.Trellis.{next, cost, best, ended, chosen, walked, walk, least_from, least}
 use Rattle.trellis.proofs.Windows.{reg, win-reg, reg-next}
 use Rattle.trellis.proofs.Optimal.{BitsTo, choice, choice-bit, ahead, Greedy, best-under, greedy-best, greedy-lowest}
 use Rattle.trellis.proofs.Distances.{closed, along-distance, closed-distance, path-cong, distance-low}
@@ -68,20 +68,20 @@ module _ (cells : List ℕ) (final : ℕ → ℕ) (e : ℕ) (low : e < 64) where
   stream-greedy j h = stream-rest cells final e (j + 6) j refl ∙ ap (choice (ahead (cost cells) final (79 - j) j)) (sym (stream-reg j))
 
   -- the walk has the least sum
-  pub stream-best : pathDistance cells x + final (reg x 80) ≡ leastFrom (cost cells) final e
+  pub stream-best : path_distance cells x + final (reg x 80) ≡ least_from (cost cells) final e
   stream-best =
       ap (λ (d : ℕ). d + final (reg x 80)) (sym (along-distance cells x (λ i l. stream-bit i)))
       ∙ greedy-best (cost cells) final x 80 stream-greedy 80 0 refl (λ i l. stream-bit i)
       ∙ ap (best (cost cells) final 80 0) stream-start
 
   -- no path from the same register has a lower one
-  pub stream-under : (z : ℕ → ℕ) → BitsTo 86 z → reg z 0 ≡ e → leastFrom (cost cells) final e ≤ pathDistance cells z + final (reg z 80)
+  pub stream-under : (z : ℕ → ℕ) → BitsTo 86 z → reg z 0 ≡ e → least_from (cost cells) final e ≤ path_distance cells z + final (reg z 80)
   stream-under z h s =
       let a : best (cost cells) final 80 0 (reg z 0) ≡ best (cost cells) final 80 0 e = ap (best (cost cells) final 80 0) s in
       omega (arith, best-under (cost cells) final z 80 0 h, along-distance cells z h)
 
   -- of those with the same sum none is lower as a number
-  pub stream-lowest : (z : ℕ → ℕ) → BitsTo 86 z → reg z 0 ≡ e → pathDistance cells z + final (reg z 80) ≤ leastFrom (cost cells) final e
+  pub stream-lowest : (z : ℕ → ℕ) → BitsTo 86 z → reg z 0 ≡ e → path_distance cells z + final (reg z 80) ≤ least_from (cost cells) final e
       → number 80 (walk (cost cells) final e) ≤ number 80 (λ i. z (6 + i))
   stream-lowest z h s t =
       let a : best (cost cells) final 80 0 (reg z 0) ≡ best (cost cells) final 80 0 e = ap (best (cost cells) final 80 0) s in
@@ -120,7 +120,7 @@ pub start-lt : (s : ℕ → ℕ) → BitsTo 80 s → start s < 64
 unfolding start
 start-lt s h = number_lt 6 _ (λ i l. h (74 + i) (omega arith))
 
-closed-sum : (cells : List ℕ) (s : ℕ → ℕ) (e : ℕ) → start s ≡ e → pathDistance cells (closed s) + ended e (reg (closed s) 80) ≡ distance cells s
+closed-sum : (cells : List ℕ) (s : ℕ → ℕ) (e : ℕ) → start s ≡ e → path_distance cells (closed s) + ended e (reg (closed s) 80) ≡ distance cells s
 closed-sum cells s e h =
     let z : ended e (reg (closed s) 80) ≡ 0 = ap (ended e) (closed-end s ∙ h) ∙ ended_same e in
     omega (arith, closed-distance cells s)

@@ -12,9 +12,9 @@ use Rattle.bits.specs.Bits.{number}
 use Rattle.bits.proofs.Numbers.{digit, number-digit}
 use Rattle.coding.specs.Coder.{back, output, kept, rate25, coded}
 use Rattle.coding.proofs.Coder.{tapped-same, coded-same}
-use Rattle.trellis.specs.Cells.{codedBits, differs, apart, distance}
-use Rattle.trellis.specs.Paths.{pathCoded, pathDistance}
-use Rattle.trellis.specs.Trellis.{outputOf, cost}
+use Rattle.trellis.specs.Cells.{coded_bits, differs, apart, distance}
+use Rattle.trellis.specs.Paths.{path_coded, path_distance}
+use Rattle.trellis.specs.Trellis.{output_of, cost}
 use Rattle.trellis.proofs.Windows.{win}
 use Rattle.trellis.proofs.Optimal.{BitsTo, along}
 
@@ -32,16 +32,16 @@ back-plain : (m d : ℕ) → 6 ≤ m → m < 86 → d ≤ 6 → back 86 m d ≡ 
 unfolding back
 back-plain m d h l k = omega arith
 
-window-output : (g : ℕ) (x : ℕ → ℕ) (j m : ℕ) → j < 80 → m ≡ 6 + j → ((i : ℕ) → i < 7 → x (j + i) < 2) → output g 86 x m ≡ outputOf g (win x j)
-unfolding output outputOf
+window-output : (g : ℕ) (x : ℕ → ℕ) (j m : ℕ) → j < 80 → m ≡ 6 + j → ((i : ℕ) → i < 7 → x (j + i) < 2) → output g 86 x m ≡ output_of g (win x j)
+unfolding output output_of
 window-output g x j m l e h =
     ap (λ (n : ℕ). n % 2)
     (tapped-same g (λ d. x (back 86 m d)) (λ d. win x j / 2 ^ d % 2)
     (λ d k. ap x (back-plain m d (omega arith) (omega arith) k ∙ omega arith) ∙ sym (win-digit x j d h k)))
 
 path-at : (x : ℕ → ℕ) → BitsTo 86 x → (Q k : ℕ) → Q < 40 → k < 5 → (kept rate25 k).0 ≤ 1
-    → pathCoded x (Q * 5 + k) ≡ outputOf (kept rate25 k).1 (win x (2 * Q + (kept rate25 k).0))
-unfolding pathCoded coded
+    → path_coded x (Q * 5 + k) ≡ output_of (kept rate25 k).1 (win x (2 * Q + (kept rate25 k).0))
+unfolding path_coded coded
 path-at x h Q k q l c =
     let e : 15 + (Q * 5 + k) ≡ (3 + Q) * 5 + k = omega arith in
     ap (λ (n : ℕ). output (kept rate25 (n % 5)).1 86 x (2 * (n / 5) + (kept rate25 (n % 5)).0)) e
@@ -57,14 +57,14 @@ term cells y n = differs (get_or cells n 0) (y n)
 
 cost-at : (cells : List ℕ) (j w at odd : ℕ) → j / 2 * 5 + j % 2 * 3 ≡ at → j % 2 ≡ odd
     → cost cells j w
-    ≡ differs (get_or cells at 0) (outputOf 0o133 w) + differs (get_or cells (at + 1) 0) (outputOf 0o171 w)
-    + cond (eqb odd 0) (differs (get_or cells (at + 2) 0) (outputOf 0o165 w)) 0
+    ≡ differs (get_or cells at 0) (output_of 0o133 w) + differs (get_or cells (at + 1) 0) (output_of 0o171 w)
+    + cond (eqb odd 0) (differs (get_or cells (at + 2) 0) (output_of 0o165 w)) 0
 unfolding cost
 cost-at cells j w at odd e o =
     ap₂
     (λ (a b : ℕ).
-    differs (get_or cells a 0) (outputOf 0o133 w) + differs (get_or cells (a + 1) 0) (outputOf 0o171 w)
-    + cond (eqb b 0) (differs (get_or cells (a + 2) 0) (outputOf 0o165 w)) 0)
+    differs (get_or cells a 0) (output_of 0o133 w) + differs (get_or cells (a + 1) 0) (output_of 0o171 w)
+    + cond (eqb b 0) (differs (get_or cells (a + 2) 0) (output_of 0o165 w)) 0)
     e
     o
 
@@ -81,10 +81,10 @@ along-more cost x (suc k) j =
 
 module _ (cells : List ℕ) (x : ℕ → ℕ) (h : BitsTo 86 x) where
   abbrev y : ℕ → ℕ
-  y = pathCoded x
+  y = path_coded x
 
   same-term : (n at k Q : ℕ) → n ≡ at → at ≡ Q * 5 + k → Q < 40 → k < 5 → (kept rate25 k).0 ≤ 1
-      → differs (get_or cells n 0) (outputOf (kept rate25 k).1 (win x (2 * Q + (kept rate25 k).0))) ≡ term cells y at
+      → differs (get_or cells n 0) (output_of (kept rate25 k).1 (win x (2 * Q + (kept rate25 k).0))) ≡ term cells y at
   same-term n at k Q e f q l c =
       ap₂ (λ (a b : ℕ). differs (get_or cells a 0) b) e (sym (ap y f ∙ path-at x h Q k q l c))
 
@@ -135,8 +135,8 @@ module _ (cells : List ℕ) (x : ℕ → ℕ) (h : BitsTo 86 x) where
         apart-suc cells y (Q * 5 + 4) (suc Q * 5) (omega arith),
       )
 
-  pub along-distance : along (cost cells) x 80 0 ≡ pathDistance cells x
-  unfolding pathDistance
+  pub along-distance : along (cost cells) x 80 0 ≡ path_distance cells x
+  unfolding path_distance
   along-distance = steps 40 (omega arith)
 
 -- ---- a frame as a closed path
@@ -169,8 +169,8 @@ kept_low (suc (suc (suc zero))) h = omega arith
 kept_low (suc (suc (suc (suc zero)))) h = omega arith
 kept_low (suc (suc (suc (suc (suc k))))) h = absurd (omega arith)
 
-closed-coded : (s : ℕ → ℕ) (n : ℕ) → n < 200 → pathCoded (closed s) n ≡ codedBits s n
-unfolding pathCoded coded
+closed-coded : (s : ℕ → ℕ) (n : ℕ) → n < 200 → path_coded (closed s) n ≡ coded_bits s n
+unfolding path_coded coded
 closed-coded s n h =
     let low : (kept rate25 (n % 5)).0 ≤ 1 = kept_low (n % 5) (omega arith) in
     let a : (15 + n) % 5 ≡ n % 5 = omega arith in
@@ -178,12 +178,12 @@ closed-coded s n h =
     ap₂ (λ (u v : ℕ). output (kept rate25 u).1 86 (closed s) (2 * v + (kept rate25 u).0)) a b
     ∙ closed-output (kept rate25 (n % 5)).1 s (2 * (n / 5) + (kept rate25 (n % 5)).0) _ (omega arith) (omega arith)
 
-pub closed-distance : (cells : List ℕ) (s : ℕ → ℕ) → pathDistance cells (closed s) ≡ distance cells s
-unfolding pathDistance distance
-closed-distance cells s = apart-cong cells (pathCoded (closed s)) (codedBits s) 200 (closed-coded s)
+pub closed-distance : (cells : List ℕ) (s : ℕ → ℕ) → path_distance cells (closed s) ≡ distance cells s
+unfolding path_distance distance
+closed-distance cells s = apart-cong cells (path_coded (closed s)) (coded_bits s) 200 (closed-coded s)
 
-pub path-cong : (cells : List ℕ) (x z : ℕ → ℕ) → ((i : ℕ) → i < 86 → x i ≡ z i) → pathDistance cells x ≡ pathDistance cells z
-unfolding pathDistance pathCoded
+pub path-cong : (cells : List ℕ) (x z : ℕ → ℕ) → ((i : ℕ) → i < 86 → x i ≡ z i) → path_distance cells x ≡ path_distance cells z
+unfolding path_distance path_coded
 path-cong cells x z h = apart-cong cells _ _ 200 (λ n l. coded-same rate25 86 x z (omega arith) h (15 + n))
 
 pub distance-cong : (cells : List ℕ) (s t : ℕ → ℕ) → ((i : ℕ) → i < 80 → s i ≡ t i) → distance cells s ≡ distance cells t
@@ -206,10 +206,10 @@ apart_low cells y (suc n) = omega (arith, apart_low cells y n, differs-low (get_
 
 pub distance-low : (cells : List ℕ) (s : ℕ → ℕ) → distance cells s ≤ 200
 unfolding distance
-distance-low cells s = apart_low cells (codedBits s) 200
+distance-low cells s = apart_low cells (coded_bits s) 200
 
 -- a path whose end meets its start is a frame
-pub path-closed : (cells : List ℕ) (x : ℕ → ℕ) → ((i : ℕ) → i < 6 → x (80 + i) ≡ x i) → pathDistance cells x ≡ distance cells (λ i. x (6 + i))
+pub path-closed : (cells : List ℕ) (x : ℕ → ℕ) → ((i : ℕ) → i < 6 → x (80 + i) ≡ x i) → path_distance cells x ≡ distance cells (λ i. x (6 + i))
 path-closed cells x h = path-cong cells x (closed (λ i. x (6 + i))) met ∙ closed-distance cells (λ i. x (6 + i))
   where
     met : (i : ℕ) → i < 86 → x i ≡ x (6 + (i + 74) % 80)

@@ -10,7 +10,7 @@ use lib.Seq.{get_or-set_same, get_or-set_other}
 use native.Mathlib.Decide.{dec_lt, ℕ_discrete}
 use borrow.Author.Tests.{le-leb, lt-leb, eq-eqb, ne_eqb}
 use Rattle.trellis.specs.declared.Scores.{Scores}
-use Rattle.trellis.specs.Trellis.{next, outputOf, cost, best, tabled, Tabled, after, Cheap, Before, Scored, Stored, Kept, chosen, lower, ended}
+use Rattle.trellis.specs.Trellis.{next, output_of, cost, best, tabled, Tabled, after, Cheap, Before, Scored, Stored, Kept, chosen, lower, ended}
 use Rattle.trellis.proofs.Distances.{differs-low}
 
 cond-low : (t : Bool) (n : ℕ) → n ≤ 1 → cond t n 0 ≤ 1
@@ -23,9 +23,9 @@ cost-low cells j w =
     let at : ℕ = j / 2 * 5 + j % 2 * 3 in
     omega (
       arith,
-      differs-low (get_or cells at 0) (outputOf 0o133 w),
-      differs-low (get_or cells (at + 1) 0) (outputOf 0o171 w),
-      cond-low (eqb (j % 2) 0) _ (differs-low (get_or cells (at + 2) 0) (outputOf 0o165 w)),
+      differs-low (get_or cells at 0) (output_of 0o133 w),
+      differs-low (get_or cells (at + 1) 0) (output_of 0o171 w),
+      cond-low (eqb (j % 2) 0) _ (differs-low (get_or cells (at + 2) 0) (output_of 0o165 w)),
     )
 
 pub tabled-cheap : (cells costs : List ℕ) → Tabled cells costs → Cheap costs

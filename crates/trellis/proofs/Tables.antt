@@ -4,7 +4,7 @@ use mathlib.Core.Bool.{cond}
 use Prim.Native.Nat.{ℕ, zero, suc, ◌+◌, ◌-◌, ◌*◌, ◌<◌, ◌≤◌, min}
 use native.Mathlib.Omega.{arith}
 use lib.Dec.{leb}
-use Rattle.trellis.specs.Trellis.{next, best, chosen, walked, walk, leastFrom, LeastOf}
+use Rattle.trellis.specs.Trellis.{next, best, chosen, walked, walk, least_from, LeastOf}
 
 module _ (c d : ℕ → ℕ → ℕ) (same : (j w : ℕ) → j < 80 → w < 128 → c j w ≡ d j w) (final : ℕ → ℕ) where
   best-same : (k j r : ℕ) → j + k ≤ 80 → r < 64 → best c final k j r ≡ best d final k j r
@@ -15,7 +15,7 @@ module _ (c d : ℕ → ℕ → ℕ) (same : (j w : ℕ) → j < 80 → w < 128 
       (ap₂ (λ (x y : ℕ). x + y) (same j (2 * r) (omega arith) (omega arith)) (best-same k (suc j) (next (2 * r)) (omega arith) (omega arith)))
       (ap₂ (λ (x y : ℕ). x + y) (same j (2 * r + 1) (omega arith) (omega arith)) (best-same k (suc j) (next (2 * r + 1)) (omega arith) (omega arith)))
 
-  pub least-same : (r : ℕ) → r < 64 → leastFrom c final r ≡ leastFrom d final r
+  pub least-same : (r : ℕ) → r < 64 → least_from c final r ≡ least_from d final r
   least-same r l = best-same 80 0 r (omega arith) l
 
   chosen-same : (j r : ℕ) → j < 80 → r < 64 → chosen c final j r ≡ chosen d final j r

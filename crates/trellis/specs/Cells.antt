@@ -10,12 +10,12 @@ pub record Frame (frame : List ℕ) : Type 0 where
   pub bytes : Bytes frame
 
 -- its bits, scrambled (8.2)
-abbrev pub scrambledOf : List ℕ → ℕ → ℕ
-scrambledOf frame = scrambled (bit_at frame)
+abbrev pub scrambled_of : List ℕ → ℕ → ℕ
+scrambled_of frame = scrambled (bit_at frame)
 
 -- the 200 coded bits of a scrambled frame s (9.3)
-abbrev pub codedBits : (ℕ → ℕ) → ℕ → ℕ
-codedBits s = coded rate25 80 s
+abbrev pub coded_bits : (ℕ → ℕ) → ℕ → ℕ
+coded_bits s = coded rate25 80 s
 
 -- 1 where a cell was read and is not the bit b, else 0
 unfoldable pub differs : ℕ → ℕ → ℕ
@@ -28,4 +28,4 @@ apart cells y (suc n) = apart cells y n + differs (get_or cells n 0) (y n)
 
 -- S-12, the distance of a scrambled frame s
 unfoldable pub distance : List ℕ → (ℕ → ℕ) → ℕ
-distance cells s = apart cells (codedBits s) 200
+distance cells s = apart cells (coded_bits s) 200

@@ -6,31 +6,31 @@ use Rattle.trellis.specs.declared.Scores.{Scores}
 use Rattle.trellis.specs.Cells.{differs}
 
 -- the output of the generator g for a window
-unfoldable pub outputOf : ℕ → ℕ → ℕ
-outputOf g w = tapped g (λ d. w / 2 ^ d % 2) % 2
+unfoldable pub output_of : ℕ → ℕ → ℕ
+output_of g w = tapped g (λ d. w / 2 ^ d % 2) % 2
 
 -- how many of the read cells of step j differ from the outputs of the window w: an even step has three cells, an odd one the two after them
 unfoldable pub cost : List ℕ → ℕ → ℕ → ℕ
 cost cells j w =
-    differs (get_or cells (j / 2 * 5 + j % 2 * 3) 0) (outputOf 0o133 w) + differs (get_or cells (j / 2 * 5 + j % 2 * 3 + 1) 0) (outputOf 0o171 w)
-    + cond (eqb (j % 2) 0) (differs (get_or cells (j / 2 * 5 + j % 2 * 3 + 2) 0) (outputOf 0o165 w)) 0
+    differs (get_or cells (j / 2 * 5 + j % 2 * 3) 0) (output_of 0o133 w) + differs (get_or cells (j / 2 * 5 + j % 2 * 3 + 1) 0) (output_of 0o171 w)
+    + cond (eqb (j % 2) 0) (differs (get_or cells (j / 2 * 5 + j % 2 * 3 + 2) 0) (output_of 0o165 w)) 0
 
 -- the outputs of a window as a number below 8, the first weighing 4, and those of all windows in one list
-unfoldable pub outputsOf : ℕ → ℕ
-outputsOf w = outputOf 0o133 w * 4 + outputOf 0o171 w * 2 + outputOf 0o165 w
+unfoldable pub outputs_of : ℕ → ℕ
+outputs_of w = output_of 0o133 w * 4 + output_of 0o171 w * 2 + output_of 0o165 w
 
 pub record Outputs (all : List ℕ) : Type 0 where
-  pub at : (w : ℕ) → w < 128 → get_or all w 0 ≡ outputsOf w
+  pub at : (w : ℕ) → w < 128 → get_or all w 0 ≡ outputs_of w
 
 -- the cost of the outputs y
-unfoldable pub costBy : List ℕ → ℕ → ℕ → ℕ
-costBy cells j y =
+unfoldable pub cost_by : List ℕ → ℕ → ℕ → ℕ
+cost_by cells j y =
     differs (get_or cells (j / 2 * 5 + j % 2 * 3) 0) (y / 4) + differs (get_or cells (j / 2 * 5 + j % 2 * 3 + 1) 0) (y / 2 % 2)
     + cond (eqb (j % 2) 0) (differs (get_or cells (j / 2 * 5 + j % 2 * 3 + 2) 0) (y % 2)) 0
 
 -- those of the eight outputs in one list
 pub record Eight (cells : List ℕ) (j : ℕ) (costs : List ℕ) : Type 0 where
-  pub at : (y : ℕ) → y < 8 → get_or costs y 0 ≡ costBy cells j y
+  pub at : (y : ℕ) → y < 8 → get_or costs y 0 ≡ cost_by cells j y
 
 -- the register after a window
 abbrev pub next : ℕ → ℕ
@@ -59,7 +59,7 @@ pub record Tabled (cells costs : List ℕ) : Type 0 where
 
 -- the costs of step j are written, by the outputs of its windows, and those of earlier steps stay
 pub record Filled (costs old new : List ℕ) (j : ℕ) : Type 0 where
-  pub there : (w : ℕ) → w < 128 → tabled new j w ≡ get_or costs (outputsOf w) 0
+  pub there : (w : ℕ) → w < 128 → tabled new j w ≡ get_or costs (outputs_of w) 0
   pub earlier : (n : ℕ) → n < 128 * j → get_or new n 0 ≡ get_or old n 0
 
 -- the scores after all steps in one list: that of the register r after step j stands at 64 j + r
@@ -77,12 +77,12 @@ abbrev pub AllLow : List ℕ → Type 0
 AllLow kept = (j r : ℕ) → j < 80 → r < 64 → after kept j r ≤ 1000
 
 -- the score of the register r before step j from those after it, and the scores of all
-abbrev pub scoreBefore : List ℕ → ℕ → List ℕ → ℕ → ℕ
-scoreBefore costs j late r =
+abbrev pub score_before : List ℕ → ℕ → List ℕ → ℕ → ℕ
+score_before costs j late r =
     min (tabled costs j (2 * r) + get_or late (next (2 * r)) 0) (tabled costs j (2 * r + 1) + get_or late (next (2 * r + 1)) 0)
 
 abbrev pub Before : List ℕ → ℕ → List ℕ → List ℕ → Type 0
-Before costs j scores late = (r : ℕ) → r < 64 → get_or scores r 0 ≡ scoreBefore costs j late r
+Before costs j scores late = (r : ℕ) → r < 64 → get_or scores r 0 ≡ score_before costs j late r
 
 -- the scores of the 64 registers at a step: the least sums over the k steps from there to the end
 pub record Scored (cost : ℕ → ℕ → ℕ) (final : ℕ → ℕ) (k : ℕ) (s : Scores) : Type 0 where
@@ -126,19 +126,19 @@ unfoldable pub walk : (ℕ → ℕ → ℕ) → (ℕ → ℕ) → ℕ → ℕ �
 walk cost final e j = chosen cost final j (walked cost final e j)
 
 -- the least sum over the 80 steps from a register on
-abbrev pub leastFrom : (ℕ → ℕ → ℕ) → (ℕ → ℕ) → ℕ → ℕ
-leastFrom cost final r = best cost final 80 0 r
+abbrev pub least_from : (ℕ → ℕ → ℕ) → (ℕ → ℕ) → ℕ → ℕ
+least_from cost final r = best cost final 80 0 r
 
 -- the same over the paths that start and end at e
 abbrev pub least : (ℕ → ℕ → ℕ) → ℕ → ℕ
-least cost e = leastFrom cost (ended e) e
+least cost e = least_from cost (ended e) e
 
 -- the least of the sums of all registers
 pub record LeastOf (cost : ℕ → ℕ → ℕ) (final : ℕ → ℕ) (m : ℕ) : Type 0 where
   pub at : ℕ
   pub inside : at < 64
-  pub reached : leastFrom cost final at ≡ m
-  pub under : (r : ℕ) → r < 64 → m ≤ leastFrom cost final r
+  pub reached : least_from cost final at ≡ m
+  pub under : (r : ℕ) → r < 64 → m ≤ least_from cost final r
 
 -- the least of the first n scores
 pub record LeastScore (scores : List ℕ) (n m : ℕ) : Type 0 where

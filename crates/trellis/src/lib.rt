@@ -4,7 +4,7 @@ ghost use Rattle.std.specs.Prelude.{◌≡◌, ℕ, ◌+◌, ◌-◌, ◌*◌, �
 ghost use Rattle.bits.specs.Bits.{packed};
 ghost use Rattle.coding.specs.Coder.{generators};
 ghost use Rattle.trellis.specs.Cells.{differs as «differs-of»};
-ghost use Rattle.trellis.specs.Trellis.{outputOf, outputsOf, Outputs, costBy, Eight, Filled, next, ended, anywhere, tabled, Tabled, after, Cheap, Low, AllLow, scoreBefore, Before, Scored, Stored, Kept, lower, walk as «walk_of», least, LeastScore, LeastOf};
+ghost use Rattle.trellis.specs.Trellis.{output_of, outputs_of, Outputs, cost_by, Eight, Filled, next, ended, anywhere, tabled, Tabled, after, Cheap, Low, AllLow, score_before, Before, Scored, Stored, Kept, lower, walk as «walk_of», least, LeastScore, LeastOf};
 
 // The scores of the 64 states of the register at a step.
 #[derive(Drop)]
@@ -19,7 +19,7 @@ const MASKS: [u64; 3] = [0o155, 0o117, 0o127];
 // The output of generator k for a window.
 fn output(w: usize, k: usize) -> u8
     requires { (w < 128) × (k < 3) }
-    ensures { result ≡ outputOf (get_or generators k 0) w }
+    ensures { result ≡ output_of (get_or generators k 0) w }
 {
     (u64::count_ones((w as u64) & MASKS[k]) & 1) as u8
 }
@@ -40,7 +40,7 @@ fn differs(cell: u8, b: u8) -> u16
 // The outputs of a window as a number below 8, the first weighing 4.
 fn window_outputs(w: usize) -> u8
     requires { w < 128 }
-    ensures { result ≡ outputsOf w }
+    ensures { result ≡ outputs_of w }
 {
     output(w, 0) * 4 + output(w, 1) * 2 + output(w, 2)
 }
@@ -61,7 +61,7 @@ pub fn all_outputs() -> [u8; 128]
 // How many of the read cells of step j differ from the outputs y.
 fn cost(cells: &[u8], j: usize, y: usize) -> u16
     requires { (length cells.now ≡ 200) × (j < 80) × (y < 8) }
-    ensures { result ≡ costBy cells.now j y }
+    ensures { result ≡ cost_by cells.now j y }
 {
     let at = j / 2 * 5 + j % 2 * 3;
     let two = differs(cells[at], (y / 4) as u8) + differs(cells[at + 1], (y / 2 % 2) as u8);
@@ -144,7 +144,7 @@ fn lesser(a: u16, b: u16) -> u16
 // The score of the register r before step j, from those after it.
 fn better(costs: &[u16; 10240], j: usize, r: usize, late: &[u16; 64]) -> u16
     requires { (j < 80) × (r < 64) × Cheap costs.now × Low late.now }
-    ensures { result ≡ scoreBefore costs.now j late.now r }
+    ensures { result ≡ score_before costs.now j late.now r }
 {
     lesser(
         through(costs, j, 2 * r, late),

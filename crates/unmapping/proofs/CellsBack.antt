@@ -6,7 +6,7 @@ use Prim.Native.Nat.{ℕ, ◌+◌, ◌*◌, ◌<◌}
 use lib.Dec.{ltb}
 use lib.Ieee.{Float}
 use Rattle.bits.specs.Bits.{bit_at}
-use Rattle.bits.proofs.Listed.{getD-listed}
+use Rattle.bits.proofs.Listed.{get_or-listed}
 use Rattle.bits.proofs.Packed.{bit_at_lt}
 use Rattle.runs.specs.declared.Extended.TheVariants.{P3, P4}
 use Rattle.runs.specs.Answers.{number_of}
@@ -15,10 +15,10 @@ use Rattle.runs.specs.Lent.{Signal}
 use Rattle.points.specs.declared.Point.{Point}
 use Rattle.subcarriers.specs.declared.Source.{Source}
 use Rattle.subcarriers.specs.declared.Source.TheVariants.{Pm, Px1, Px2, Control}
-use Rattle.unmapping.specs.Back.{At, CellsBack, columnAt, elementAt, referenceAt, signs}
-use Rattle.points.specs.Points.{by_sign, point_of, usable, zeroPart}
-use Rattle.subcarriers.specs.Tables.{mapped, sourceOf}
-use Rattle.mapping.specs.Vector.{Vector, filled, imaginaryParts, pointAt, pointFor, points, realParts, scale_at, width}
+use Rattle.unmapping.specs.Back.{At, CellsBack, column_at, element_at, reference_at, signs}
+use Rattle.points.specs.Points.{by_sign, point_of, usable, zero_part}
+use Rattle.subcarriers.specs.Tables.{mapped, source_of}
+use Rattle.mapping.specs.Vector.{Vector, filled, imaginary_parts, point_at, point_for, points, real_parts, scale_at, width}
 use Rattle.unmapping.proofs.Signs.{sign-back}
 use Rattle.unmapping.proofs.TablesOnce.{at-most-once, pm-at, px1-at, px2-at}
 use Rattle.mapping.proofs.VectorCases.{on-success}
@@ -32,60 +32,60 @@ module _ (mode symbol : ℕ) (lower upper : Float) (g : Signal) (l : usable lowe
       go false = u
 
   -- an element's signs are the bits of what it carries
-  module _ (k i q : ℕ) (h : k < points) (a : i < 2) (b : q < 2) (e : pointAt mode symbol lower upper g k ≡ point_of i q (scale_at lower upper k)) where
-    real-sign : signs (realParts mode symbol lower upper g) k ≡ i
+  module _ (k i q : ℕ) (h : k < points) (a : i < 2) (b : q < 2) (e : point_at mode symbol lower upper g k ≡ point_of i q (scale_at lower upper k)) where
+    real-sign : signs (real_parts mode symbol lower upper g) k ≡ i
     unfolding point_of
     real-sign =
-        ap by_sign (getD-listed points (λ j. (pointAt mode symbol lower upper g j).re) k zeroPart h ∙ ap (λ (p : Point). p.re) e)
+        ap by_sign (get_or-listed points (λ j. (point_at mode symbol lower upper g j).re) k zero_part h ∙ ap (λ (p : Point). p.re) e)
         ∙ sign-back (scale_at lower upper k) (usable_at k) i a
 
-    imaginary-sign : signs (imaginaryParts mode symbol lower upper g) k ≡ q
+    imaginary-sign : signs (imaginary_parts mode symbol lower upper g) k ≡ q
     unfolding point_of
     imaginary-sign =
-        ap by_sign (getD-listed points (λ j. (pointAt mode symbol lower upper g j).im) k zeroPart h ∙ ap (λ (p : Point). p.im) e)
+        ap by_sign (get_or-listed points (λ j. (point_at mode symbol lower upper g j).im) k zero_part h ∙ ap (λ (p : Point). p.im) e)
         ∙ sign-back (scale_at lower upper k) (usable_at k) q b
 
-  point-is : (k : ℕ) (s : Source) → sourceOf mode k ≡ s
-      → pointAt mode symbol lower upper g k ≡ pointFor symbol (width (kind_of mode P3)) (width (kind_of mode P4)) g s (scale_at lower upper k)
-  unfolding pointAt
-  point-is k s e = ap (λ (x : Source). pointFor symbol (width (kind_of mode P3)) (width (kind_of mode P4)) g x (scale_at lower upper k)) e
+  point-is : (k : ℕ) (s : Source) → source_of mode k ≡ s
+      → point_at mode symbol lower upper g k ≡ point_for symbol (width (kind_of mode P3)) (width (kind_of mode P4)) g s (scale_at lower upper k)
+  unfolding point_at
+  point-is k s e = ap (λ (x : Source). point_for symbol (width (kind_of mode P3)) (width (kind_of mode P4)) g x (scale_at lower upper k)) e
 
   abbrev Signs : (k i q : ℕ) → Type 0
-  Signs k i q = (signs (realParts mode symbol lower upper g) k ≡ i) × (signs (imaginaryParts mode symbol lower upper g) k ≡ q)
+  Signs k i q = (signs (real_parts mode symbol lower upper g) k ≡ i) × (signs (imaginary_parts mode symbol lower upper g) k ≡ q)
 
   at-pm : (c : ℕ) (p : At mode (Pm c)) → Signs p.place (bit_at g.matrices.pm (symbol * 720 + c)) (bit_at g.matrices.pm (symbol * 720 + c + 1))
-  unfolding pointFor
+  unfolding point_for
   at-pm c p =
       let e = point-is p.place (Pm c) p.carries in
       (real-sign p.place _ _ p.inside (bit_at_lt _ _) (bit_at_lt _ _) e, imaginary-sign p.place _ _ p.inside (bit_at_lt _ _) (bit_at_lt _ _) e)
 
   at-px1 : (c : ℕ) (p : At mode (Px1 c))
       → Signs p.place (bit_at g.matrices.px1 (symbol * width (kind_of mode P3) + c)) (bit_at g.matrices.px1 (symbol * width (kind_of mode P3) + c + 1))
-  unfolding pointFor
+  unfolding point_for
   at-px1 c p =
       let e = point-is p.place (Px1 c) p.carries in
       (real-sign p.place _ _ p.inside (bit_at_lt _ _) (bit_at_lt _ _) e, imaginary-sign p.place _ _ p.inside (bit_at_lt _ _) (bit_at_lt _ _) e)
 
   at-px2 : (c : ℕ) (p : At mode (Px2 c))
       → Signs p.place (bit_at g.matrices.px2 (symbol * width (kind_of mode P4) + c)) (bit_at g.matrices.px2 (symbol * width (kind_of mode P4) + c + 1))
-  unfolding pointFor
+  unfolding point_for
   at-px2 c p =
       let e = point-is p.place (Px2 c) p.carries in
       (real-sign p.place _ _ p.inside (bit_at_lt _ _) (bit_at_lt _ _) e, imaginary-sign p.place _ _ p.inside (bit_at_lt _ _) (bit_at_lt _ _) e)
 
-  at-control : (k c : ℕ) → k < points → sourceOf mode k ≡ Control c → Signs k (bit_at g.control (symbol * 64 + c)) (bit_at g.control (symbol * 64 + c))
-  unfolding pointFor
+  at-control : (k c : ℕ) → k < points → source_of mode k ≡ Control c → Signs k (bit_at g.control (symbol * 64 + c)) (bit_at g.control (symbol * 64 + c))
+  unfolding point_for
   at-control k c h s =
       let e = point-is k (Control c) s in
       (real-sign k _ _ h (bit_at_lt _ _) (bit_at_lt _ _) e, imaginary-sign k _ _ h (bit_at_lt _ _) (bit_at_lt _ _) e)
 
-  pub back-by-sign : mapped mode ≡ true → CellsBack mode symbol g (realParts mode symbol lower upper g) (imaginaryParts mode symbol lower upper g)
+  pub back-by-sign : mapped mode ≡ true → CellsBack mode symbol g (real_parts mode symbol lower upper g) (imaginary_parts mode symbol lower upper g)
   back-by-sign v =
       record {
         pm-back = λ c h. let p = pm-at mode v c h in let (a, b) = at-pm (2 * c) p in (p, a, b);
         px1-back = λ c h. let p = px1-at mode v c h in let (a, b) = at-px1 (2 * c) p in (p, a, b);
         px2-back = λ c h. let p = px2-at mode v c h in let (a, b) = at-px2 (2 * c) p in (p, a, b);
-        control-back = λ n h. let (a, s) = (at-most-once mode v).references n h in at-control (elementAt (referenceAt mode n)) (columnAt (referenceAt mode n)) a s;
+        control-back = λ n h. let (a, s) = (at-most-once mode v).references n h in at-control (element_at (reference_at mode n)) (column_at (reference_at mode n)) a s;
       }
 
 -- what a call that succeeds leaves

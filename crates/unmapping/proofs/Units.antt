@@ -13,7 +13,7 @@ use lib.Ieee.Bits.{of_bits-to_bits}
 use lib.Ieee.Exact.{HasValue, round_exact}
 use lib.Ieee.Fits.{and_l, and_r, down_pos, reach, round-fits}
 use lib.Ieee.Nearest.{div_same}
-use Rattle.points.specs.Points.{part, unit, usable, zeroPart}
+use Rattle.points.specs.Points.{part, unit, usable, zero_part}
 use Rattle.unmapping.proofs.Signs.{above_zero, finite, single}
 
 -- ---- a value that fits is written in one way
@@ -110,12 +110,12 @@ other_sign : (u : Bool) → unlike true u ≡ not u
 other_sign true = refl
 other_sign false = refl
 
-zero-not-above : (s : Bool) (e : ℤ) → lt zeroPart (fin s zero e) ≡ true → ⊥
+zero-not-above : (s : Bool) (e : ℤ) → lt zero_part (fin s zero e) ≡ true → ⊥
 unfolding lt
 zero-not-above true e h = true≢false (sym h)
 zero-not-above false e h = omega (arith, ltb-true (0 * 1 * down e) (0 * up e * 1) h, zero-mul (up e))
 
-product : (scale : Float) (b : Bool) → T (fits binary32 scale) → lt zeroPart scale ≡ true → lt scale (inf false) ≡ true
+product : (scale : Float) (b : Bool) → T (fits binary32 scale) → lt zero_part scale ≡ true → lt scale (inf false) ≡ true
     → cond b (neg scale) scale ≡ mul binary32 (fin b 1 (pos 0)) scale
 unfolding neg lt
 product nan b t a h = absurd (true≢false (sym a))

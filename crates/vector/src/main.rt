@@ -1,7 +1,7 @@
 // vector MODE SYMBOL LOWER UPPER: reads PM, PX1, PX2 and control of an L1 frame, and prints for each subcarrier of a symbol its number, its real and its
 // imaginary part and what they come from (document 02, S-7).
 ghost use Rattle.std.specs.Prelude.{◌≡◌, true, ℕ};
-ghost use Rattle.scales.specs.Scales.{isSingle};
+ghost use Rattle.scales.specs.Scales.{is_single};
 ghost use Rattle.scales.specs.declared.Typed.TheVariants.{Times};
 
 use argument_words::{fourth_word, third_word};
@@ -11,7 +11,7 @@ use scales::{Typed, scale_of, value_of};
 
 // Reads the L1 frame, and writes what is printed of the symbol, or said.
 fn answer(mode: u8, symbol: usize, lower: u32, upper: u32, input: &mut [u8])
-    requires { (isSingle lower ≡ true) × (isSingle upper ≡ true) }
+    requires { (is_single lower ≡ true) × (is_single upper ≡ true) }
 {
     let mut out = [0u8; 136625];
     let n = io::read_full(STDIN_FILENO, input);
@@ -31,7 +31,7 @@ fn answer(mode: u8, symbol: usize, lower: u32, upper: u32, input: &mut [u8])
 
 // The buffer of an L1 frame, of its length in this mode.
 fn run(mode: u8, symbol: usize, lower: u32, upper: u32)
-    requires { (isSingle lower ≡ true) × (isSingle upper ≡ true) }
+    requires { (is_single lower ≡ true) × (is_single upper ≡ true) }
 {
     let mut input = [0u8; 68608];
     let n = programs::within(layout::frame_bytes(mode), &input);
@@ -40,14 +40,14 @@ fn run(mode: u8, symbol: usize, lower: u32, upper: u32)
 
 // The scale that a word gives.
 fn scale(word: &[u8]) -> Typed
-    ensures { (times : ℕ) → result ≡ Times times → isSingle times ≡ true }
+    ensures { (times : ℕ) → result ≡ Times times → is_single times ≡ true }
 {
     scale_of(word)
 }
 
 // Goes on with both scales.
 fn with_scales(mode: u8, symbol: u64, lower: Typed, upper: Typed, line: &[u8])
-    requires { ((times : ℕ) → lower ≡ Times times → isSingle times ≡ true) × ((times : ℕ) → upper ≡ Times times → isSingle times ≡ true) }
+    requires { ((times : ℕ) → lower ≡ Times times → is_single times ≡ true) × ((times : ℕ) → upper ≡ Times times → is_single times ≡ true) }
 {
     match lower {
         Typed::Times(a) => {

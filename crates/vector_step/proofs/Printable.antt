@@ -14,15 +14,15 @@ use borrow.Author.Tests.{ltb-true}
 use Rattle.bits.proofs.Tests.{and-true}
 use Rattle.runs.specs.Answers.{number_of}
 use Rattle.runs.specs.Lent.{Signal}
-use Rattle.points.specs.Points.{usable, zeroPart}
+use Rattle.points.specs.Points.{usable, zero_part}
 use Rattle.subcarriers.specs.declared.Source.{Source}
 use Rattle.subcarriers.specs.declared.Source.TheVariants.{Unused, Pm, Px1, Px2, Control}
-use Rattle.subcarriers.specs.Tables.{sourceOf}
+use Rattle.subcarriers.specs.Tables.{source_of}
 use Rattle.mapping.specs.Vector.{Vector, filled, scale_at}
 use Rattle.mapping.proofs.VectorCases.{on-success}
 use Rattle.unmapping.specs.Exact.{Exact, ScaleOrNegation}
 use Rattle.unmapping.proofs.Exact.{parts-exact}
-use Rattle.vector_step.specs.Shown.{Printable, Shows, timesAt}
+use Rattle.vector_step.specs.Shown.{Printable, Shows, times_at}
 
 -- a usable scale is above zero
 above : (times : ℕ) (scale : Float) → usable scale ≡ true → HasValue scale false times 65536 → 0 < times
@@ -33,7 +33,7 @@ above times (fin true m e) u h = absurd (true≢false h.0)
 above zero (fin false m e) u h =
     let s : Float = fin false m e in
     let t : 0 * 1 * down e < m * up e * 1
-    = ltb-true _ _ (and-true (lt zeroPart s) (lt s (inf false)) (and-true (fits binary32 s) (lt zeroPart s && lt s (inf false)) u).1).0 in
+    = ltb-true _ _ (and-true (lt zero_part s) (lt s (inf false)) (and-true (fits binary32 s) (lt zero_part s && lt s (inf false)) u).1).0 in
     absurd (omega (arith, t, h.1, zero-mul (down e)))
 above (suc times) (fin false m e) u h = omega arith
 
@@ -70,7 +70,7 @@ module _ (mode symbol : ℕ) (lower upper : Float) (g : Signal) (re im : List Fl
   x : Exact mode lower upper (filled mode symbol lower upper g re im).re (filled mode symbol lower upper g re im).im
   x = parts-exact mode symbol lower upper g re im n
 
-  by_side : (k : ℕ) (part : Float) → ScaleOrNegation (scale_at lower upper k) part → Shows (timesAt times1 times2 k) part
+  by_side : (k : ℕ) (part : Float) → ScaleOrNegation (scale_at lower upper k) part → Shows (times_at times1 times2 k) part
   by_side k part e =
       let (m, l, u, v) = on-success mode symbol lower upper g re im n in
       go (ltb k 546) l u e
@@ -80,13 +80,13 @@ module _ (mode symbol : ℕ) (lower upper : Float) (g : Signal) (re im : List Fl
       go false l u e = either-sign times2 upper u high part e
 
   printable : Printable times1 times2 (filled mode symbol lower upper g re im).re (filled mode symbol lower upper g re im).im
-  printable = record { real = λ k h. real k h (is-unused (sourceOf mode k)); imaginary = λ k h. imaginary k h (is-unused (sourceOf mode k)) }
+  printable = record { real = λ k h. real k h (is-unused (source_of mode k)); imaginary = λ k h. imaginary k h (is-unused (source_of mode k)) }
     where
-      real : (k : ℕ) → k < 1093 → (sourceOf mode k ≡ Unused) ⊎ (sourceOf mode k ≢ Unused) → Shows (timesAt times1 times2 k) (get_or (filled mode symbol lower upper g re im).re k nan)
+      real : (k : ℕ) → k < 1093 → (source_of mode k ≡ Unused) ⊎ (source_of mode k ≢ Unused) → Shows (times_at times1 times2 k) (get_or (filled mode symbol lower upper g re im).re k nan)
       real k h (inl e) = inl (x.unused k h e nan).0
       real k h (inr ne) = by_side k _ (x.used k h ne nan).0
 
-      imaginary : (k : ℕ) → k < 1093 → (sourceOf mode k ≡ Unused) ⊎ (sourceOf mode k ≢ Unused) → Shows (timesAt times1 times2 k) (get_or (filled mode symbol lower upper g re im).im k nan)
+      imaginary : (k : ℕ) → k < 1093 → (source_of mode k ≡ Unused) ⊎ (source_of mode k ≢ Unused) → Shows (times_at times1 times2 k) (get_or (filled mode symbol lower upper g re im).im k nan)
       imaginary k h (inl e) = inl (x.unused k h e nan).1
       imaginary k h (inr ne) = by_side k _ (x.used k h ne nan).1
 

@@ -10,7 +10,7 @@ use lib.ListN.{get_or, length, take}
 use Rattle.io.specs.Counts.{IsPrefixLen}
 use Rattle.io.proofs.Counting.{prefix_len_of_le}
 use lib.Ieee.{Float, nan}
-use Rattle.runs.specs.Answers.{number_of, onSuccess, place_of}
+use Rattle.runs.specs.Answers.{number_of, on_success, place_of}
 use Rattle.runs.proofs.Answered.{not-success, success-is}
 use Rattle.text.specs.Put.{Put}
 use Rattle.messages.specs.Lines.{in_words}
@@ -33,9 +33,9 @@ lines-done mode re im k old out end h l m same room e = (prefix_len_of_le _ _ (o
 
 module _ (mode : ℕ) (v : Vector) (t : List ℕ) where
   was-filled : number_of v.answer ≡ 0 → t ≡ lines mode v.re v.im points → text true t ≡ text_of mode v
-  unfolding text_of onSuccess
+  unfolding text_of on_success
   was-filled z e =
-      λ i. text (sym (eq-eqb (number_of v.answer) 0 z) i) ((e ∙ sym (ap (λ a. onSuccess a (lines mode v.re v.im points) (in_words (number_of v.answer) (place_of v.answer) 0)) (success-is v.answer z))) i)
+      λ i. text (sym (eq-eqb (number_of v.answer) 0 z) i) ((e ∙ sym (ap (λ a. on_success a (lines mode v.re v.im points) (in_words (number_of v.answer) (place_of v.answer) 0)) (success-is v.answer z))) i)
 
   was-refused : (number_of v.answer ≡ 0 → ⊥) → t ≡ in_words (number_of v.answer) (place_of v.answer) 0 → text false t ≡ text_of mode v
   unfolding text_of

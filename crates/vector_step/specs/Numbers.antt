@@ -4,13 +4,13 @@ use Rattle.std.specs.Float.{nan, inf, fin}
 use Rattle.std.specs.Float.Ieee.{up, down, lt}
 use Rattle.text.specs.Letters.{ascii}
 use Rattle.text.specs.Numbers.{decimal}
-use Rattle.points.specs.Points.{zeroPart}
+use Rattle.points.specs.Points.{zero_part}
 
 -- how many times 2^-16 a number of single precision is, without its sign; of a scale and its negation there is no rest
-unfoldable pub timesIn : Float → ℕ
-timesIn nan = 0
-timesIn (inf s) = 0
-timesIn (fin s m e) = m * up e * 65536 / down e
+unfoldable pub times_in : Float → ℕ
+times_in nan = 0
+times_in (inf s) = 0
+times_in (fin s m e) = m * up e * 65536 / down e
 
 -- n in k decimal digits, without the zeros at its end
 unfoldable pub digits : (k n : ℕ) → List ℕ
@@ -26,5 +26,5 @@ unfoldable pub exactly : ℕ → List ℕ
 exactly n = decimal (n / 65536) ++ fraction (n % 65536)
 
 -- a part, with a minus where it is below zero
-unfoldable pub partText : Float → List ℕ
-partText part = cond (lt part zeroPart) (ascii "-" ++ exactly (timesIn part)) (exactly (timesIn part))
+unfoldable pub part_text : Float → List ℕ
+part_text part = cond (lt part zero_part) (ascii "-" ++ exactly (times_in part)) (exactly (times_in part))

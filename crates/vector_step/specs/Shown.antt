@@ -2,7 +2,7 @@
 use Rattle.std.specs.Prelude.{◌≡◌, Bool, cond, List, ◌⊎◌, ℕ, ◌<◌, ltb, get_or, Float}
 use Rattle.std.specs.Float.{nan}
 use Rattle.std.specs.Float.Ieee.Exact.{HasValue}
-use Rattle.points.specs.Points.{zeroPart}
+use Rattle.points.specs.Points.{zero_part}
 
 pub record Signed (times : ℕ) (part : Float) : Type 0 where
   pub sign : Bool
@@ -10,13 +10,13 @@ pub record Signed (times : ℕ) (part : Float) : Type 0 where
   pub worth : HasValue part sign times 65536
 
 abbrev pub Shows : ℕ → Float → Type 0
-Shows times part = (part ≡ zeroPart) ⊎ Signed times part
+Shows times part = (part ≡ zero_part) ⊎ Signed times part
 
 -- by the scale of its sideband
-abbrev pub timesAt : (lower upper k : ℕ) → ℕ
-timesAt lower upper k = cond (ltb k 546) lower upper
+abbrev pub times_at : (lower upper k : ℕ) → ℕ
+times_at lower upper k = cond (ltb k 546) lower upper
 
 -- every part of the vector
 pub record Printable (lower upper : ℕ) (re im : List Float) : Type 0 where
-  pub real : (k : ℕ) → k < 1093 → Shows (timesAt lower upper k) (get_or re k nan)
-  pub imaginary : (k : ℕ) → k < 1093 → Shows (timesAt lower upper k) (get_or im k nan)
+  pub real : (k : ℕ) → k < 1093 → Shows (times_at lower upper k) (get_or re k nan)
+  pub imaginary : (k : ℕ) → k < 1093 → Shows (times_at lower upper k) (get_or im k nan)

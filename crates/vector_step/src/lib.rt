@@ -5,9 +5,9 @@ mod numbers;
 ghost use Rattle.std.specs.Prelude.{◌≡◌, false, ◌≤◌, length, take};
 ghost use Rattle.std.specs.Float.Ieee.Exact.{HasValue};
 ghost use Rattle.io.specs.Counts.{IsPrefixLen};
-ghost use Rattle.layout.specs.Layout.{signalIn};
+ghost use Rattle.layout.specs.Layout.{signal_in};
 ghost use Rattle.mapping.specs.Vector.{filled, vector};
-ghost use Rattle.vector_step.specs.Printed.{text, vectorText};
+ghost use Rattle.vector_step.specs.Printed.{text, vector_text};
 
 use layout::end_of;
 use lines::put_lines;
@@ -31,7 +31,7 @@ fn fill(
     im: &mut [f32],
 ) -> Answer
     ensures { vector result re.new im.new
-        ≡ filled mode symbol lower upper (signalIn mode bytes.now) re.old im.old }
+        ≡ filled mode symbol lower upper (signal_in mode bytes.now) re.old im.old }
 {
     let n = bytes.len();
     let want = modes::reader_lengths(mode);
@@ -66,7 +66,7 @@ pub fn print_symbol(
 ) -> Printed
     requires { HasValue lower false times1 65536 × HasValue upper false times2 65536 × (136625 ≤ length out.old) }
     ensures { IsPrefixLen result.length out.new
-        × (text result.done (take result.length out.new) ≡ vectorText mode symbol lower upper bytes.now) }
+        × (text result.done (take result.length out.new) ≡ vector_text mode symbol lower upper bytes.now) }
 {
     let mut re = [0.0f32; 1093];
     let mut im = [0.0f32; 1093];

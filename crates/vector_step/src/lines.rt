@@ -2,8 +2,8 @@
 ghost use Rattle.std.specs.Prelude.{◌≡◌, ◌+◌, ◌≤◌, length, take};
 ghost use Rattle.io.specs.Counts.{IsPrefixLen};
 ghost use Rattle.text.specs.Put.{Put};
-ghost use Rattle.vector_step.specs.Printed.{line, lines, sourceText, subcarrier};
-ghost use Rattle.vector_step.specs.Shown.{Printable, Shows, timesAt};
+ghost use Rattle.vector_step.specs.Printed.{line, lines, source_text, subcarrier};
+ghost use Rattle.vector_step.specs.Shown.{Printable, Shows, times_at};
 
 use crate::numbers::put_part;
 use subcarriers::Source;
@@ -24,7 +24,7 @@ fn put_subcarrier(out: &mut [u8], at: usize, k: usize) -> usize
 // Puts what a subcarrier carries.
 fn put_source(out: &mut [u8], at: usize, source: Source) -> usize
     requires { at + 25 ≤ length out.old }
-    ensures { Put out.old out.new at result 25 (sourceText source) }
+    ensures { Put out.old out.new at result 25 (source_text source) }
 {
     match source {
         Source::Unused => put(out, at, b"-\n"),
@@ -62,7 +62,7 @@ fn put_line(out: &mut [u8], at: usize, mode: u8, k: usize, re: f32, im: f32, tim
 
 // How many times 2^-16 the scale of element k's sideband is.
 fn times_at(lower: u32, upper: u32, k: usize) -> u64
-    ensures { result ≡ timesAt lower upper k }
+    ensures { result ≡ times_at lower upper k }
 {
     if k < 546 {
         return lower as u64;

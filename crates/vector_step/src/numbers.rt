@@ -1,7 +1,7 @@
 // A part of the vector in decimal digits, exactly.
 ghost use Rattle.std.specs.Prelude.{◌≡◌, ◌+◌, ◌^◌, ◌≤◌, ◌<◌, length};
 ghost use Rattle.text.specs.Put.{Put};
-ghost use Rattle.vector_step.specs.Numbers.{digits, exactly, fraction, partText, timesIn};
+ghost use Rattle.vector_step.specs.Numbers.{digits, exactly, fraction, part_text, times_in};
 ghost use Rattle.vector_step.specs.Shown.{Shows};
 
 const POWERS: [u64; 16] = [
@@ -84,7 +84,7 @@ fn put_times(out: &mut [u8], at: usize, n: u64) -> usize
 // How many times 2^-16 a part is: none, or as many as its scale.
 fn times_of(part: f32, times: u64) -> u64
     requires { Shows times part }
-    ensures { result ≡ timesIn part }
+    ensures { result ≡ times_in part }
 {
     if part == 0.0 {
         return 0;
@@ -95,7 +95,7 @@ fn times_of(part: f32, times: u64) -> u64
 // Puts a part.
 pub fn put_part(out: &mut [u8], at: usize, part: f32, times: u64) -> usize
     requires { Shows times part × (at + 38 ≤ length out.old) }
-    ensures { Put out.old out.new at result 38 (partText part) }
+    ensures { Put out.old out.new at result 38 (part_text part) }
 {
     let n = times_of(part, times);
     if part < 0.0 {

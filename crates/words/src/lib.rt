@@ -4,12 +4,12 @@ ghost use Rattle.runs.specs.Answers.{number_of, place_of};
 ghost use Rattle.queries.specs.Finder.{values};
 ghost use Rattle.queries.specs.Places.{values as valuesOfPlace};
 ghost use Rattle.interleaving.specs.Matrix.{Inside};
-ghost use Rattle.queries.specs.FinderPX.{values as valuesPX};
+ghost use Rattle.queries.specs.FinderPX.{values as values_px};
 ghost use Rattle.locating.specs.Locator.{values as valuesOfBit};
 ghost use Rattle.locating.specs.LocatorPX.{values as valuesOfBitPX};
-ghost use Rattle.queries.specs.Lookup.{values as valuesOfBlock};
-ghost use Rattle.queries.specs.LookupFrame.{values as valuesOfFrame};
-ghost use Rattle.words.specs.Words.{answerWord, decodedWord, eightOf, foundPxWord, foundWord, locatedPxWord, locatedWord, lookedUpFrameWord, lookedUpWord, numberRead, outcomeWord, placedWord, rowWord, verdictWord};
+ghost use Rattle.queries.specs.Lookup.{values as values_of_block};
+ghost use Rattle.queries.specs.LookupFrame.{values as values_of_frame};
+ghost use Rattle.words.specs.Words.{answer_word, decoded_word, eight_of, found_px_word, found_word, located_px_word, located_word, looked_up_frame_word, looked_up_word, number_read, outcome_word, placed_word, row_word, verdict_word};
 
 use causes::{number, place};
 use decoding::Decoded;
@@ -21,7 +21,7 @@ use runs::{Answer, State};
 // The word of an answer alone, and so of any refusal.
 pub fn answer_word(answer: Answer) -> u64
     requires { place_of answer < 2 ^ 32 }
-    ensures { result ≡ answerWord answer }
+    ensures { result ≡ answer_word answer }
 {
     let cause = number(answer) as u64;
     let at = place(answer) as u64;
@@ -31,7 +31,7 @@ pub fn answer_word(answer: Answer) -> u64
 // The word of a start, a sending or a reading.
 pub fn outcome_word(answer: Answer, state: State) -> u64
     requires { place_of answer < 2 ^ 24 }
-    ensures { (result ≡ outcomeWord answer state) × (numberRead result ≡ cond (eqb (number_of answer) 0) state.reserved 0) }
+    ensures { (result ≡ outcome_word answer state) × (number_read result ≡ cond (eqb (number_of answer) 0) state.reserved 0) }
 {
     let low = number(answer) as u64 + 256 * (state.mode as u64);
     let high = 65536 * (state.half as u64) + 16777216 * (state.age as u64);
@@ -42,7 +42,7 @@ pub fn outcome_word(answer: Answer, state: State) -> u64
 // The word of a finding in PM.
 pub fn found_word(cell: Found) -> u64
     requires { ((values cell).place < 2 ^ 8) × ((values cell).frame < 2 ^ 8) × ((values cell).bit < 2 ^ 24) }
-    ensures { result ≡ foundWord (values cell) }
+    ensures { result ≡ found_word (values cell) }
 {
     match cell {
         Found::P1 { bit } => 256 + 1099511627776 * (bit as u64),
@@ -56,7 +56,7 @@ pub fn found_word(cell: Found) -> u64
 // The word of a position.
 pub fn placed_word(found: Placed) -> u64
     requires { ((valuesOfPlace found).place < 2 ^ 8) × Inside 20 16 36 (valuesOfPlace found).position }
-    ensures { result ≡ placedWord (valuesOfPlace found) }
+    ensures { result ≡ placed_word (valuesOfPlace found) }
 {
     match found {
         Placed::At { position } => {
@@ -70,8 +70,8 @@ pub fn placed_word(found: Placed) -> u64
 
 // The word of a finding in PX1 or PX2.
 pub fn found_px_word(cell: FoundPx) -> u64
-    requires { ((valuesPX cell).place < 2 ^ 8) × ((valuesPX cell).frame < 2 ^ 8) × ((valuesPX cell).before < 2 ^ 8) × ((valuesPX cell).bit < 2 ^ 24) }
-    ensures { result ≡ foundPxWord (valuesPX cell) }
+    requires { ((values_px cell).place < 2 ^ 8) × ((values_px cell).frame < 2 ^ 8) × ((values_px cell).before < 2 ^ 8) × ((values_px cell).bit < 2 ^ 24) }
+    ensures { result ≡ found_px_word (values_px cell) }
 {
     match cell {
         FoundPx::Coded {
@@ -90,7 +90,7 @@ pub fn found_px_word(cell: FoundPx) -> u64
 // The word of where a coded bit of P1 or PIDS goes.
 pub fn located_word(cell: Located) -> u64
     requires { ((valuesOfBit cell).place < 2 ^ 8) × Inside 20 16 36 (valuesOfBit cell).position }
-    ensures { result ≡ locatedWord (valuesOfBit cell) }
+    ensures { result ≡ located_word (valuesOfBit cell) }
 {
     match cell {
         Located::At {
@@ -106,7 +106,7 @@ pub fn located_word(cell: Located) -> u64
 pub fn located_px_word(cell: LocatedPx) -> u64
     requires { ((valuesOfBitPX cell).place < 2 ^ 8) × ((valuesOfBitPX cell).after < 2 ^ 8) × ((valuesOfBitPX cell).pair < 2 ^ 8)
         × ((valuesOfBitPX cell).row < 2 ^ 8) × ((valuesOfBitPX cell).column < 2 ^ 24) }
-    ensures { result ≡ locatedPxWord (valuesOfBitPX cell) }
+    ensures { result ≡ located_px_word (valuesOfBitPX cell) }
 {
     match cell {
         LocatedPx::At {
@@ -124,8 +124,8 @@ pub fn located_px_word(cell: LocatedPx) -> u64
 
 // The word of a lookup.
 pub fn looked_up_word(said: LookedUp) -> u64
-    requires { (valuesOfBlock said).place < 2 ^ 8 }
-    ensures { result ≡ lookedUpWord (valuesOfBlock said) }
+    requires { (values_of_block said).place < 2 ^ 8 }
+    ensures { result ≡ looked_up_word (values_of_block said) }
 {
     match said {
         LookedUp::Found {
@@ -139,8 +139,8 @@ pub fn looked_up_word(said: LookedUp) -> u64
 
 // The word of a lookup of an L1 frame's control.
 pub fn looked_up_frame_word(said: LookedUpFrame) -> u64
-    requires { (valuesOfFrame said).place < 2 ^ 8 }
-    ensures { result ≡ lookedUpFrameWord (valuesOfFrame said) }
+    requires { (values_of_frame said).place < 2 ^ 8 }
+    ensures { result ≡ looked_up_frame_word (values_of_frame said) }
 {
     match said {
         LookedUpFrame::Found { mode, reserved } => {
@@ -153,7 +153,7 @@ pub fn looked_up_frame_word(said: LookedUpFrame) -> u64
 // The word of a search for the nearest frame.
 pub fn decoded_word(decoded: Decoded) -> u64
     requires { (decoded.distance < 2 ^ 8) × (decoded.margin < 2 ^ 8) × (place_of decoded.answer < 2 ^ 32) }
-    ensures { result ≡ decodedWord decoded }
+    ensures { result ≡ decoded_word decoded }
 {
     let answer = decoded.answer;
     let low = number(answer) as u64 + 256 * (decoded.distance as u64);
@@ -164,7 +164,7 @@ pub fn decoded_word(decoded: Decoded) -> u64
 // The word of a verdict.
 pub fn verdict_word(verdict: Verdict) -> u64
     requires { (verdict.frame < 2 ^ 16) × (place_of verdict.answer < 2 ^ 24) }
-    ensures { result ≡ verdictWord verdict }
+    ensures { result ≡ verdict_word verdict }
 {
     let answer = verdict.answer;
     let low = number(answer) as u64 + 65536 * (verdict.frame as u64);
@@ -174,7 +174,7 @@ pub fn verdict_word(verdict: Verdict) -> u64
 // The word of a row of n bytes.
 pub fn row_word(n: usize, row: usize, part: &[u8]) -> u64
     requires { (n < 256) × (length part.now < 256) × (0 < length part.now → row < 512) }
-    ensures { result ≡ rowWord n row part.now }
+    ensures { result ≡ row_word n row part.now }
 {
     if part.len() == 0 {
         return 0;
@@ -184,7 +184,7 @@ pub fn row_word(n: usize, row: usize, part: &[u8]) -> u64
 
 // The eight numbers that cross in a word.
 pub fn eight(word: u64) -> [u8; 8]
-    ensures { result ≡ eightOf word }
+    ensures { result ≡ eight_of word }
 {
     let mut numbers = [0u8; 8];
     let mut d: usize = 0;

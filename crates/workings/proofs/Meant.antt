@@ -8,21 +8,21 @@ use lib.ListN.{length, replicate, take, length-replicate}
 use Rattle.runs.specs.declared.Kind.{Kind}
 use Rattle.runs.specs.declared.State.{State}
 use Rattle.runs.specs.declared.Kind.TheVariants.{Unused, Narrow, Wide}
-use Rattle.runs.specs.Lengths.{frameBits}
-use Rattle.runs.specs.Lent.{orZeros}
-use Rattle.queries.specs.FinderPX.{kindOfNumber}
-use Rattle.workings.specs.Shown.{framesOf, bits_of, workedOf, meant, worked}
+use Rattle.runs.specs.Lengths.{frame_bits}
+use Rattle.runs.specs.Lent.{or_zeros}
+use Rattle.queries.specs.FinderPX.{kind_of_number}
+use Rattle.workings.specs.Shown.{frames_of, bits_of, worked_of, meant, worked}
 use Rattle.workings.proofs.Sizes.{frames-extended}
 
-or_some : (n : ℕ) (frames : List ℕ) → (length frames ≡ 0 → ⊥) → frames ≡ orZeros n frames
+or_some : (n : ℕ) (frames : List ℕ) → (length frames ≡ 0 → ⊥) → frames ≡ or_zeros n frames
 or_some n [] h = absurd (h refl)
 or_some n (x ∷ frames) h = refl
 
-or-none : (n : ℕ) (frames : List ℕ) → length frames ≡ 0 → replicate n 0 ≡ orZeros n frames
+or-none : (n : ℕ) (frames : List ℕ) → length frames ≡ 0 → replicate n 0 ≡ or_zeros n frames
 or-none n [] h = refl
 or-none n (x ∷ frames) h = absurd (omega arith)
 
-few : (k : Kind) → frameBits k ≤ 4608
+few : (k : Kind) → frame_bits k ≤ 4608
 few Unused = omega arith
 few Narrow = omega arith
 few Wide = omega arith
@@ -35,9 +35,9 @@ module _ (mode channel : ℕ) where
   module _ (h : 3 ≤ channel) where
     pub bits-few : bits_of mode channel ≤ 4608
     unfolding bits_of
-    bits-few = rw (ne_eqb channel 1 (λ e. omega arith), ne_eqb channel 2 (λ e. omega arith)) (few (kindOfNumber mode channel))
+    bits-few = rw (ne_eqb channel 1 (λ e. omega arith), ne_eqb channel 2 (λ e. omega arith)) (few (kind_of_number mode channel))
 
-    bytes : framesOf channel * bits_of mode channel / 8 ≡ bits_of mode channel
+    bytes : frames_of channel * bits_of mode channel / 8 ≡ bits_of mode channel
     bytes = rw (← frames-extended channel (λ e. omega arith) (λ e. omega arith)) (omega arith)
 
     pub meant-some : (frames : List ℕ) → (length frames ≡ 0 → ⊥) → frames ≡ meant mode channel frames
@@ -49,9 +49,9 @@ module _ (mode channel : ℕ) where
     meant-none frames e n n-is = rw (le-ltb channel 3 h, bytes, n-is) (or-none _ frames e)
 
 pub worked-by : (s : State) (channel : ℕ) (lent frames : List ℕ) (frame bit : ℕ) → lent ≡ meant s.mode channel frames
-    → workedOf s channel lent frame bit ≡ worked s channel frames frame bit
+    → worked_of s channel lent frame bit ≡ worked s channel frames frame bit
 unfolding worked
-worked-by s channel lent frames frame bit e = ap (λ (l : List ℕ). workedOf s channel l frame bit) e
+worked-by s channel lent frames frame bit e = ap (λ (l : List ℕ). worked_of s channel l frame bit) e
 
 -- ---- the front of a buffer of zeros
 

@@ -8,11 +8,11 @@ use lib.Dec.{eqb}
 use borrow.Author.Tests.{eq-eqb, ne_eqb}
 use Rattle.runs.specs.declared.Kind.{Kind}
 use Rattle.runs.specs.declared.Kind.TheVariants.{Unused, Narrow, Wide}
-use Rattle.runs.specs.Lengths.{frameBits}
-use Rattle.queries.specs.FinderPX.{kindOfNumber, columnsOf}
-use Rattle.workings.specs.Shown.{framesOf, bits_of}
+use Rattle.runs.specs.Lengths.{frame_bits}
+use Rattle.queries.specs.FinderPX.{kind_of_number, columns_of}
+use Rattle.workings.specs.Shown.{frames_of, bits_of}
 
-frame-bits : (k : Kind) → 32 * columnsOf k ≡ frameBits k
+frame-bits : (k : Kind) → 32 * columns_of k ≡ frame_bits k
 frame-bits Unused = refl
 frame-bits Narrow = refl
 frame-bits Wide = refl
@@ -26,7 +26,7 @@ module _ (mode channel : ℕ) where
   unfolding bits_of
   bits-pids n e = rw (ne_eqb channel 1 n, eq-eqb channel 2 e)
 
-  pub bits-extended : (channel ≡ 1 → ⊥) → (channel ≡ 2 → ⊥) → (k : Kind) → k ≡ kindOfNumber mode channel → (c : ℕ) → c ≡ columnsOf k → 32 * c ≡ bits_of mode channel
+  pub bits-extended : (channel ≡ 1 → ⊥) → (channel ≡ 2 → ⊥) → (k : Kind) → k ≡ kind_of_number mode channel → (c : ℕ) → c ≡ columns_of k → 32 * c ≡ bits_of mode channel
   unfolding bits_of
   bits-extended n m k k-is c c-is = rw (ne_eqb channel 1 n, ne_eqb channel 2 m, ← k-is, c-is) (frame-bits k)
 
@@ -35,32 +35,32 @@ module _ (mode channel : ℕ) where
     pub enough : 7 ≤ n
     pub bytes : n % 8 ≡ 0
 
-  extended-whole : (k : Kind) → (frameBits k ≡ 0 → ⊥) → Whole (frameBits k)
+  extended-whole : (k : Kind) → (frame_bits k ≡ 0 → ⊥) → Whole (frame_bits k)
   extended-whole Unused h = absurd (h refl)
   extended-whole Narrow h = record { enough = omega arith; bytes = refl }
   extended-whole Wide h = record { enough = omega arith; bytes = refl }
 
-  whole_by : (a b : Bool) → (cond a 146176 (cond b 80 (frameBits (kindOfNumber mode channel))) ≡ 0 → ⊥)
-      → Whole (cond a 146176 (cond b 80 (frameBits (kindOfNumber mode channel))))
+  whole_by : (a b : Bool) → (cond a 146176 (cond b 80 (frame_bits (kind_of_number mode channel))) ≡ 0 → ⊥)
+      → Whole (cond a 146176 (cond b 80 (frame_bits (kind_of_number mode channel))))
   whole_by true b h = record { enough = omega arith; bytes = refl }
   whole_by false true h = record { enough = omega arith; bytes = refl }
-  whole_by false false h = extended-whole (kindOfNumber mode channel) h
+  whole_by false false h = extended-whole (kind_of_number mode channel) h
 
   pub whole : (bits_of mode channel ≡ 0 → ⊥) → Whole (bits_of mode channel)
   unfolding bits_of
   whole h = whole_by (eqb channel 1) (eqb channel 2) h
 
 module _ (channel : ℕ) where
-  pub frames-p1 : channel ≡ 1 → 1 ≡ framesOf channel
-  unfolding framesOf
+  pub frames-p1 : channel ≡ 1 → 1 ≡ frames_of channel
+  unfolding frames_of
   frames-p1 e = rw (eq-eqb channel 1 e)
 
-  pub frames-pids : (channel ≡ 1 → ⊥) → channel ≡ 2 → 16 ≡ framesOf channel
-  unfolding framesOf
+  pub frames-pids : (channel ≡ 1 → ⊥) → channel ≡ 2 → 16 ≡ frames_of channel
+  unfolding frames_of
   frames-pids n e = rw (ne_eqb channel 1 n, eq-eqb channel 2 e)
 
-  pub frames-extended : (channel ≡ 1 → ⊥) → (channel ≡ 2 → ⊥) → 8 ≡ framesOf channel
-  unfolding framesOf
+  pub frames-extended : (channel ≡ 1 → ⊥) → (channel ≡ 2 → ⊥) → 8 ≡ frames_of channel
+  unfolding frames_of
   frames-extended n m = rw (ne_eqb channel 1 n, ne_eqb channel 2 m)
 
 -- a transfer frame of n bits lies within the lent frames

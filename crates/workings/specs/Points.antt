@@ -17,8 +17,8 @@ point mode channel frames frame bit = row (worked (fresh mode) channel frames fr
 abbrev zeros : Numbers
 zeros = replicate 160 0
 
-unfoldable pub workedPoints : List (Numbers × Numbers)
-workedPoints =
+unfoldable pub worked_points : List (Numbers × Numbers)
+worked_points =
     (point 1 2 zeros 0 0, 0 ∷ 91 ∷ 1 ∷ 1 ∷ 0 ∷ 0 ∷ 1 ∷ 0 ∷ 1 ∷ 0 ∷ 0 ∷ [])
     ∷ (point 1 2 zeros 0 2, 0 ∷ 117 ∷ 2 ∷ 0 ∷ 0 ∷ 0 ∷ 1 ∷ 0 ∷ 1 ∷ 0 ∷ 0 ∷ [])
     ∷ (point 11 2 zeros 15 199, 79 ∷ 121 ∷ 2 ∷ 0 ∷ 0 ∷ 1 ∷ 0 ∷ 1 ∷ 0 ∷ 0 ∷ 0 ∷ [])

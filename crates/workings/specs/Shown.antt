@@ -7,19 +7,19 @@ use Rattle.scrambling.specs.Scrambler.{sequence}
 use Rattle.coding.specs.declared.Rate.{Rate}
 use Rattle.coding.specs.declared.Rate.TheVariants.{TwoFifths, Half}
 use Rattle.coding.specs.Coder.{back, tapped, kept}
-use Rattle.coding.specs.Rates.{patternOf, codedLength}
+use Rattle.coding.specs.Rates.{pattern_of, coded_length}
 use Rattle.coding.specs.Channel.{part}
 use Rattle.control.specs.Modes.{one_of}
 use Rattle.runs.specs.declared.Answer.{Answer}
 use Rattle.runs.specs.declared.Answer.TheVariants.{Success, StateNotValid, WrongLength}
 use Rattle.runs.specs.declared.State.{State}
-use Rattle.runs.specs.Lengths.{frameBits, tableRow}
-use Rattle.runs.specs.Lent.{orZeros}
+use Rattle.runs.specs.Lengths.{frame_bits, table_row}
+use Rattle.runs.specs.Lent.{or_zeros}
 use Rattle.runs.specs.Starting.{valid}
 use Rattle.interleaving.specs.PX.{step_of}
-use Rattle.queries.specs.FinderPX.{kindOfNumber, frameCoded}
+use Rattle.queries.specs.FinderPX.{kind_of_number, frame_coded}
 use Rattle.locating.specs.declared.writing.Writing.{Writing}
-use Rattle.locating.specs.Writing.{p1Writing, pidsWriting, pxWriting}
+use Rattle.locating.specs.Writing.{p1_writing, pids_writing, px_writing}
 use Rattle.workings.specs.declared.Worked.{Worked}
 
 -- ---- the channels by number: 1 P1, 2 PIDS, 3 P3, 4 P4
@@ -27,40 +27,40 @@ use Rattle.workings.specs.declared.Worked.{Worked}
 unfoldable pub older : ℕ → Bool
 older mode = one_of (1 ∷ 2 ∷ 3 ∷ 11 ∷ []) mode
 
-unfoldable pub rateOf : ℕ → Rate
-rateOf channel = cond (ltb channel 3) TwoFifths Half
+unfoldable pub rate_of : ℕ → Rate
+rate_of channel = cond (ltb channel 3) TwoFifths Half
 
 -- the transfer frames of an L1 frame, and the bits of each; 0 bits of a channel that the mode does not send
-unfoldable pub framesOf : ℕ → ℕ
-framesOf channel = cond (eqb channel 1) 1 (cond (eqb channel 2) 16 8)
+unfoldable pub frames_of : ℕ → ℕ
+frames_of channel = cond (eqb channel 1) 1 (cond (eqb channel 2) 16 8)
 
 unfoldable pub bits_of : (mode channel : ℕ) → ℕ
-bits_of mode channel = cond (eqb channel 1) 146176 (cond (eqb channel 2) 80 (frameBits (kindOfNumber mode channel)))
+bits_of mode channel = cond (eqb channel 1) 146176 (cond (eqb channel 2) 80 (frame_bits (kind_of_number mode channel)))
 
 -- ---- the working
 
 -- 9.3.2 and 9.3.3: coded bit m is the output of this generator for this bit of the frame
-abbrev pub generatorOf : Rate → ℕ → ℕ
-generatorOf rate m = (kept (patternOf rate) (m % length (patternOf rate))).1
+abbrev pub generator_of : Rate → ℕ → ℕ
+generator_of rate m = (kept (pattern_of rate) (m % length (pattern_of rate))).1
 
 abbrev pub number_of : Rate → ℕ → ℕ
-number_of rate m = 2 * (m / length (patternOf rate)) + (kept (patternOf rate) (m % length (patternOf rate))).0
+number_of rate m = 2 * (m / length (pattern_of rate)) + (kept (pattern_of rate) (m % length (pattern_of rate))).0
 
 -- what the generator g takes of seven bits and of the seven that the scrambler adds to them
 unfoldable pub weighed : (g : ℕ) (bits scrambling : List ℕ) → ℕ
 weighed g bits scrambling = tapped g (λ d. get_or bits d 0 + get_or scrambling d 0)
 
 -- 10.2: how the interleaver of its channel writes the coded bit of a transfer frame, in the half of the L1 frame
-unfoldable pub writingOf : (mode half channel frame bit : ℕ) → Writing
-writingOf mode half channel frame bit =
-    let k = kindOfNumber mode channel in
-    cond (eqb channel 1) (p1Writing bit)
-    (cond (eqb channel 2) (pidsWriting (frame * 200 + bit)) (pxWriting (tableRow k) (step_of (tableRow k) half (frame * frameCoded k + bit))))
+unfoldable pub writing_of : (mode half channel frame bit : ℕ) → Writing
+writing_of mode half channel frame bit =
+    let k = kind_of_number mode channel in
+    cond (eqb channel 1) (p1_writing bit)
+    (cond (eqb channel 2) (pids_writing (frame * 200 + bit)) (px_writing (table_row k) (step_of (table_row k) half (frame * frame_coded k + bit))))
 
 -- of coded bit m of the frame f of n bits: the bits are j, j - 1, .., j - 6, counted around the frame's end
 unfoldable pub shown : (rate : Rate) (n : ℕ) (f : ℕ → ℕ) (m : ℕ) (w : Writing) → Worked
 shown rate n f m w =
-    let g = generatorOf rate m in
+    let g = generator_of rate m in
     let j = number_of rate m in
     let b = listed 7 (λ d. f (back n j d)) in
     let s = listed 7 (λ d. sequence (back n j d)) in
@@ -90,16 +90,16 @@ refused a =
 
 -- of the L1 frame that the state comes before. Refused: a state that is not valid; then under 3 a channel that the mode does not send, and any in MP5 and MP6, at
 -- place 0, a length of the lent frames that is not that of the channel's at 1, a transfer frame that is none of them at 2, a coded bit past its end at 3
-unfoldable pub workedOf : State → (channel : ℕ) (frames : List ℕ) (frame bit : ℕ) → Worked
-workedOf s channel frames frame bit =
+unfoldable pub worked_of : State → (channel : ℕ) (frames : List ℕ) (frame bit : ℕ) → Worked
+worked_of s channel frames frame bit =
     let n = bits_of s.mode channel in
     cond (valid s)
     (cond (older s.mode)
     (cond (eqb n 0) (refused (WrongLength 0))
-    (cond (eqb (length frames) (framesOf channel * n / 8))
-    (cond (ltb frame (framesOf channel))
-    (cond (ltb bit (codedLength (rateOf channel) n))
-    (shown (rateOf channel) n (part n frame (bit_at frames)) bit (writingOf s.mode s.half channel frame bit))
+    (cond (eqb (length frames) (frames_of channel * n / 8))
+    (cond (ltb frame (frames_of channel))
+    (cond (ltb bit (coded_length (rate_of channel) n))
+    (shown (rate_of channel) n (part n frame (bit_at frames)) bit (writing_of s.mode s.half channel frame bit))
     (refused (WrongLength 3)))
     (refused (WrongLength 2)))
     (refused (WrongLength 1))))
@@ -108,7 +108,7 @@ workedOf s channel frames frame bit =
 
 -- document 02, S-5: nothing lent for P3 or P4 means its eight frames of zeros
 unfoldable pub meant : (mode channel : ℕ) → List ℕ → List ℕ
-meant mode channel frames = cond (ltb channel 3) frames (orZeros (framesOf channel * bits_of mode channel / 8) frames)
+meant mode channel frames = cond (ltb channel 3) frames (or_zeros (frames_of channel * bits_of mode channel / 8) frames)
 
 unfoldable pub worked : State → (channel : ℕ) (frames : List ℕ) (frame bit : ℕ) → Worked
-worked s channel frames frame bit = workedOf s channel (meant s.mode channel frames) frame bit
+worked s channel frames frame bit = worked_of s channel (meant s.mode channel frames) frame bit

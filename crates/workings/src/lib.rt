@@ -4,9 +4,9 @@ ghost use Rattle.bits.specs.Bits.{bit_at};
 ghost use Rattle.bits.specs.Listed.{listed};
 ghost use Rattle.scrambling.specs.Scrambler.{sequence};
 ghost use Rattle.coding.specs.Coder.{back as «back-of», tap};
-ghost use Rattle.coding.specs.Rates.{codedLength};
+ghost use Rattle.coding.specs.Rates.{coded_length};
 ghost use Rattle.coding.specs.Channel.{part};
-ghost use Rattle.workings.specs.Shown.{older, rateOf, framesOf, bits_of, generatorOf, number_of, writingOf, weighed, shown as «Shown-of», refused as «refused-of», workedOf, worked};
+ghost use Rattle.workings.specs.Shown.{older, rate_of, frames_of, bits_of, generator_of, number_of, writing_of, weighed, shown as «Shown-of», refused as «refused-of», worked_of, worked};
 
 use coding::Rate;
 use locating::Writing;
@@ -72,7 +72,7 @@ fn is_older(mode: u8) -> bool
 
 // The rate of a channel.
 fn rate_of(channel: u8) -> Rate
-    ensures { result ≡ rateOf channel }
+    ensures { result ≡ rate_of channel }
 {
     if channel < 3 {
         return Rate::TwoFifths;
@@ -82,7 +82,7 @@ fn rate_of(channel: u8) -> Rate
 
 // The transfer frames of a channel in an L1 frame.
 fn frames_of(channel: u8) -> usize
-    ensures { (result ≡ framesOf channel) × (result ≤ 16) }
+    ensures { (result ≡ frames_of channel) × (result ≤ 16) }
 {
     if channel == 1 {
         return 1;
@@ -109,7 +109,7 @@ fn bits_of(mode: u8, channel: u8) -> usize
 // The coded bits of a transfer frame of n bits.
 pub fn coded_length(rate: Rate, n: usize) -> usize
     requires { n ≤ 146176 }
-    ensures { result ≡ codedLength rate n }
+    ensures { result ≡ coded_length rate n }
 {
     match rate {
         Rate::TwoFifths => n / 2 * 5,
@@ -132,7 +132,7 @@ const GENERATORS12: [u8; 4] = [0o133, 0o165, 0o133, 0o165];
 // 9.3.2 and 9.3.3: the output that coded bit m is.
 fn output_of(rate: Rate, m: usize) -> Output
     requires { m < 365440 }
-    ensures { (result.number ≡ number_of rate m) × (result.generator ≡ generatorOf rate m) × (result.generator < 128) }
+    ensures { (result.number ≡ number_of rate m) × (result.generator ≡ generator_of rate m) × (result.generator < 128) }
 {
     match rate {
         Rate::TwoFifths => {
@@ -213,8 +213,8 @@ fn weigh(g: u8, bits: [u8; 7], scrambling: [u8; 7]) -> u8
 
 // How the interleaver of a channel that is sent writes the coded bit of a transfer frame, in the first (half 0) or second (half 1) L1 frame of the internal matrix of P3 and P4.
 fn write(mode: u8, half: usize, channel: u8, frame: usize, bit: usize) -> Writing
-    requires { (half < 2) × (frame < framesOf channel) × (bit < codedLength (rateOf channel) (bits_of mode channel)) }
-    ensures { result ≡ writingOf mode half channel frame bit }
+    requires { (half < 2) × (frame < frames_of channel) × (bit < coded_length (rate_of channel) (bits_of mode channel)) }
+    ensures { result ≡ writing_of mode half channel frame bit }
 {
     if channel == 1 {
         return locating::write_p1(bit);
@@ -230,7 +230,7 @@ fn write(mode: u8, half: usize, channel: u8, frame: usize, bit: usize) -> Writin
 
 // The working of coded bit m of a transfer frame of n bits, which the interleaver writes so.
 pub fn show(rate: Rate, n: usize, frames: &[u8], frame: usize, m: usize, writing: Writing) -> Worked
-    requires { (7 ≤ n) × (n ≤ 146176) × (n % 2 ≡ 0) × (frame ≤ 16) × (frame * n + n ≤ 8 * length frames.now) × (m < codedLength rate n) }
+    requires { (7 ≤ n) × (n ≤ 146176) × (n % 2 ≡ 0) × (frame ≤ 16) × (frame * n + n ≤ 8 * length frames.now) × (m < coded_length rate n) }
     ensures { result ≡ «Shown-of» rate n (part n frame (bit_at frames.now)) m writing }
 {
     let o = output_of(rate, m);
@@ -254,7 +254,7 @@ pub fn show(rate: Rate, n: usize, frames: &[u8], frame: usize, m: usize, writing
 
 // The working of a coded bit, from the transfer frames in full.
 fn work_out(state: State, channel: u8, frames: &[u8], frame: usize, bit: usize) -> Worked
-    ensures { result ≡ workedOf state channel frames.now frame bit }
+    ensures { result ≡ worked_of state channel frames.now frame bit }
 {
     if !calls::is_valid(state) {
         return refused(Answer::StateNotValid);

@@ -7,20 +7,20 @@ use borrow.Author.Tests.{eq-eqb, ne_eqb, lt-ltb, le-ltb}
 use lib.ListN.{length}
 use Rattle.bits.specs.Bits.{bit_at}
 use Rattle.coding.specs.declared.Rate.{Rate}
-use Rattle.coding.specs.Rates.{codedLength}
+use Rattle.coding.specs.Rates.{coded_length}
 use Rattle.coding.specs.Channel.{part}
 use Rattle.runs.specs.declared.Answer.TheVariants.{StateNotValid, WrongLength}
 use Rattle.runs.specs.declared.Main.{Main}
 use Rattle.runs.specs.declared.State.{State}
-use Rattle.runs.specs.MainChannels.{mainOf}
+use Rattle.runs.specs.MainChannels.{main_of}
 use Rattle.runs.specs.Starting.{valid}
 use Rattle.locating.specs.declared.writing.Writing.{Writing}
-use Rattle.finding_px.specs.Finder.{asOlder}
+use Rattle.finding_px.specs.Finder.{as_older}
 use Rattle.workings.specs.Shown.{shown, refused, worked}
-use Rattle.workings_in.specs.Shown.{rateIn, framesIn, bitsIn, writingIn, own_of, workedIn}
+use Rattle.workings_in.specs.Shown.{rate_in, frames_in, bits_in, writing_in, own_of, worked_in}
 
 -- n is the bits of a transfer frame, and count their number
-module _ (k : Main) (channel frame bit : ℕ) (frames : List ℕ) (n : ℕ) (n-is : n ≡ bitsIn k channel) (count : ℕ) (count-is : count ≡ framesIn channel) where
+module _ (k : Main) (channel frame bit : ℕ) (frames : List ℕ) (n : ℕ) (n-is : n ≡ bits_in k channel) (count : ℕ) (count-is : count ≡ frames_in channel) where
   pub length-refused : (length frames ≡ count * n / 8 → ⊥) → refused (WrongLength 1) ≡ own_of k channel frames frame bit
   unfolding own_of
   length-refused h = rw (← n-is, ← count-is, ne_eqb (length frames) (count * n / 8) h)
@@ -30,8 +30,8 @@ module _ (k : Main) (channel frame bit : ℕ) (frames : List ℕ) (n : ℕ) (n-i
     unfolding own_of
     frame_refused h = rw (← n-is, ← count-is, eq-eqb (length frames) (count * n / 8) len, le-ltb frame count h)
 
-    module _ (lf : frame < count) (rate : Rate) (rate-is : rate ≡ rateIn channel) where
-      pub bit-refused : codedLength rate n ≤ bit → refused (WrongLength 3) ≡ own_of k channel frames frame bit
+    module _ (lf : frame < count) (rate : Rate) (rate-is : rate ≡ rate_in channel) where
+      pub bit-refused : coded_length rate n ≤ bit → refused (WrongLength 3) ≡ own_of k channel frames frame bit
       unfolding own_of
       bit-refused h =
           rw (
@@ -40,10 +40,10 @@ module _ (k : Main) (channel frame bit : ℕ) (frames : List ℕ) (n : ℕ) (n-i
             ← rate-is,
             eq-eqb (length frames) (count * n / 8) len,
             lt-ltb frame count lf,
-            le-ltb bit (codedLength rate n) h,
+            le-ltb bit (coded_length rate n) h,
           )
 
-      pub inside : bit < codedLength rate n → (w : Writing) → w ≡ writingIn k channel frame bit
+      pub inside : bit < coded_length rate n → (w : Writing) → w ≡ writing_in k channel frame bit
           → shown rate n (part n frame (bit_at frames)) bit w ≡ own_of k channel frames frame bit
       unfolding own_of
       inside h w w-is =
@@ -53,20 +53,20 @@ module _ (k : Main) (channel frame bit : ℕ) (frames : List ℕ) (n : ℕ) (n-i
             ← rate-is,
             eq-eqb (length frames) (count * n / 8) len,
             lt-ltb frame count lf,
-            lt-ltb bit (codedLength rate n) h,
+            lt-ltb bit (coded_length rate n) h,
             w-is,
           )
 
 module _ (s : State) (channel frame bit : ℕ) (frames : List ℕ) where
-  pub state-refused : valid s ≡ false → refused StateNotValid ≡ workedIn s channel frames frame bit
-  unfolding workedIn
+  pub state-refused : valid s ≡ false → refused StateNotValid ≡ worked_in s channel frames frame bit
+  unfolding worked_in
   state-refused v = rw v
 
-  module _ (v : valid s ≡ true) (k : Main) (k-is : k ≡ mainOf s.mode) (n : ℕ) (n-is : n ≡ bitsIn k channel) where
-    pub as-older : n ≡ 0 → worked (asOlder k s) channel frames frame bit ≡ workedIn s channel frames frame bit
-    unfolding workedIn
+  module _ (v : valid s ≡ true) (k : Main) (k-is : k ≡ main_of s.mode) (n : ℕ) (n-is : n ≡ bits_in k channel) where
+    pub as-older : n ≡ 0 → worked (as_older k s) channel frames frame bit ≡ worked_in s channel frames frame bit
+    unfolding worked_in
     as-older z = rw (v, ← k-is, ← n-is, eq-eqb n 0 z)
 
-    pub own : (n ≡ 0 → ⊥) → own_of k channel frames frame bit ≡ workedIn s channel frames frame bit
-    unfolding workedIn
+    pub own : (n ≡ 0 → ⊥) → own_of k channel frames frame bit ≡ worked_in s channel frames frame bit
+    unfolding worked_in
     own ne = rw (v, ← k-is, ← n-is, ne_eqb n 0 ne)

@@ -9,29 +9,29 @@ use borrow.Author.Tests.{eqb-true, ltb-true}
 use lib.Dec.{eqb, ltb}
 use lib.ListN.{length}
 use Rattle.bits.specs.Bits.{bit_at}
-use Rattle.coding.specs.Rates.{codedLength}
+use Rattle.coding.specs.Rates.{coded_length}
 use Rattle.runs.specs.declared.Answer.TheVariants.{Success, StateNotValid, WrongLength}
 use Rattle.runs.specs.declared.Main.{Main}
 use Rattle.runs.specs.declared.Main.TheVariants.{Plain}
 use Rattle.runs.specs.declared.State.{State}
-use Rattle.runs.specs.MainChannels.{mainOf}
+use Rattle.runs.specs.MainChannels.{main_of}
 use Rattle.runs.specs.Starting.{valid}
-use Rattle.finding_px.specs.Finder.{asOlder}
+use Rattle.finding_px.specs.Finder.{as_older}
 use Rattle.workings.specs.declared.Worked.{Worked}
-use Rattle.workings.specs.Shown.{rateOf, bits_of, refused, meant, worked}
+use Rattle.workings.specs.Shown.{rate_of, bits_of, refused, meant, worked}
 use Rattle.workings.specs.Explained.{Explains}
 use Rattle.workings.proofs.Cases as before
 use Rattle.workings.proofs.Meant.{worked-by}
 use Rattle.workings.proofs.Explained.{explained, shown-explains}
-use Rattle.workings_in.specs.Shown.{rateIn, framesIn, bitsIn, writingIn, own_of, workedIn}
+use Rattle.workings_in.specs.Shown.{rate_in, frames_in, bits_in, writing_in, own_of, worked_in}
 use Rattle.workings_in.specs.InRuns.{AsBefore, Explained}
 use Rattle.workings_in.proofs.Sizes.{whole_in}
 use Rattle.workings_in.proofs.Cases.{state-refused, as-older, own, inside}
 
 -- ---- as before
 
-module _ (s : State) (is : mainOf s.mode ≡ Plain) where
-  same : (number : ℕ) (frames : List ℕ) (frame bit : ℕ) → (b : Bool) → valid s ≡ b → workedIn s number frames frame bit ≡ worked s number frames frame bit
+module _ (s : State) (is : main_of s.mode ≡ Plain) where
+  same : (number : ℕ) (frames : List ℕ) (frame bit : ℕ) → (b : Bool) → valid s ≡ b → worked_in s number frames frame bit ≡ worked s number frames frame bit
   same number frames frame bit true v = sym (as-older s number frame bit frames v Plain (sym is) 0 refl refl)
   same number frames frame bit false v =
       sym (state-refused s number frame bit frames v)
@@ -55,23 +55,23 @@ passed false d e w h = let z : ◌≡◌ {A = ℕ} 0 1 = cc in absurd (omega ari
 
 module _ (k : Main) (number : ℕ) (frames : List ℕ) (frame bit : ℕ) where
   abbrev n : ℕ
-  n = bitsIn k number
+  n = bits_in k number
 
   tests : (own_of k number frames frame bit).answer ≡ Success
-      → (eqb (length frames) (framesIn number * n / 8) ≡ true) × (ltb frame (framesIn number) ≡ true) × (ltb bit (codedLength (rateIn number) n) ≡ true)
+      → (eqb (length frames) (frames_in number * n / 8) ≡ true) × (ltb frame (frames_in number) ≡ true) × (ltb bit (coded_length (rate_in number) n) ≡ true)
   unfolding own_of
-  tests h = passed (eqb (length frames) (framesIn number * n / 8)) (ltb frame (framesIn number)) (ltb bit (codedLength (rateIn number) n)) _ h
+  tests h = passed (eqb (length frames) (frames_in number * n / 8)) (ltb frame (frames_in number)) (ltb bit (coded_length (rate_in number) n)) _ h
 
   own-explains : 0 < n → (own_of k number frames frame bit).answer ≡ Success
-      → Explains (rateIn number) n (bit_at frames) frame bit (own_of k number frames frame bit)
+      → Explains (rate_in number) n (bit_at frames) frame bit (own_of k number frames frame bit)
   own-explains some h =
       let (c, d, e) = tests h in
-      let lb = ltb-true bit (codedLength (rateIn number) n) e in
+      let lb = ltb-true bit (coded_length (rate_in number) n) e in
       let w = whole_in k number n refl some in
-      subst (Explains (rateIn number) n (bit_at frames) frame bit)
-      (inside k number frame bit frames n refl (framesIn number) refl (eqb-true (length frames) (framesIn number * n / 8) c)
-      (ltb-true frame (framesIn number) d) (rateIn number) refl lb (writingIn k number frame bit) refl)
-      (shown-explains (rateIn number) n (bit_at frames) frame bit (omega (arith, w.bytes)) lb (writingIn k number frame bit))
+      subst (Explains (rate_in number) n (bit_at frames) frame bit)
+      (inside k number frame bit frames n refl (frames_in number) refl (eqb-true (length frames) (frames_in number * n / 8) c)
+      (ltb-true frame (frames_in number) d) (rate_in number) refl lb (writing_in k number frame bit) refl)
+      (shown-explains (rate_in number) n (bit_at frames) frame bit (omega (arith, w.bytes)) lb (writing_in k number frame bit))
 
 -- ---- every working that is not refused
 
@@ -79,9 +79,9 @@ not_valid : (refused StateNotValid).answer ≡ Success → ⊥
 unfolding refused
 not_valid h = let z : ◌≡◌ {A = ℕ} 0 1 = cc in omega arith
 
-module _ (s : State) (number : ℕ) (frames : List ℕ) (frame bit : ℕ) (h : (workedIn s number frames frame bit).answer ≡ Success) where
+module _ (s : State) (number : ℕ) (frames : List ℕ) (frame bit : ℕ) (h : (worked_in s number frames frame bit).answer ≡ Success) where
   abbrev main : Main
-  main = mainOf s.mode
+  main = main_of s.mode
 
   is-valid : valid s ≡ true
   is-valid = go (valid s) refl
@@ -90,20 +90,20 @@ module _ (s : State) (number : ℕ) (frames : List ℕ) (frame bit : ℕ) (h : (
       go true v = v
       go false v = absurd (not_valid (ap (λ (w : Worked). w.answer) (state-refused s number frame bit frames v) ∙ h))
 
-  explained-own : (bitsIn main number ≡ 0 → ⊥) → Explains (rateIn number) (bitsIn main number) (bit_at frames) frame bit (workedIn s number frames frame bit)
+  explained-own : (bits_in main number ≡ 0 → ⊥) → Explains (rate_in number) (bits_in main number) (bit_at frames) frame bit (worked_in s number frames frame bit)
   explained-own ne =
-      let e = own s number frame bit frames is-valid main refl (bitsIn main number) refl ne in
-      let some : 0 < bitsIn main number = omega (arith, ne) in
-      subst (Explains (rateIn number) (bitsIn main number) (bit_at frames) frame bit) e
+      let e = own s number frame bit frames is-valid main refl (bits_in main number) refl ne in
+      let some : 0 < bits_in main number = omega (arith, ne) in
+      subst (Explains (rate_in number) (bits_in main number) (bit_at frames) frame bit) e
       (own-explains main number frames frame bit some (ap (λ (w : Worked). w.answer) e ∙ h))
 
-  explained-older : bitsIn main number ≡ 0
-      → let mode = (asOlder main s).mode in
-      Explains (rateOf number) (bits_of mode number) (bit_at (meant mode number frames)) frame bit (workedIn s number frames frame bit)
+  explained-older : bits_in main number ≡ 0
+      → let mode = (as_older main s).mode in
+      Explains (rate_of number) (bits_of mode number) (bit_at (meant mode number frames)) frame bit (worked_in s number frames frame bit)
   explained-older z =
-      let e = as-older s number frame bit frames is-valid main refl (bitsIn main number) refl z in
-      subst (Explains (rateOf number) (bits_of (asOlder main s).mode number) (bit_at (meant (asOlder main s).mode number frames)) frame bit) e
-      (explained (asOlder main s) number frames frame bit (ap (λ (w : Worked). w.answer) e ∙ h))
+      let e = as-older s number frame bit frames is-valid main refl (bits_in main number) refl z in
+      subst (Explains (rate_of number) (bits_of (as_older main s).mode number) (bit_at (meant (as_older main s).mode number frames)) frame bit) e
+      (explained (as_older main s) number frames frame bit (ap (λ (w : Worked). w.answer) e ∙ h))
 
   pub explained-in : Explained s number frames frame bit
   explained-in = record { own = explained-own; as-older = explained-older }

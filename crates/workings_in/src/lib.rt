@@ -1,7 +1,7 @@
 // The working of a coded bit in all six modes.
 ghost use Rattle.std.specs.Prelude.{◌≡◌, ◌<◌, ◌≤◌};
-ghost use Rattle.coding.specs.Rates.{codedLength};
-ghost use Rattle.workings_in.specs.Shown.{bitsIn, framesIn, ofThree, own_of, rateIn, workedIn, writingIn};
+ghost use Rattle.coding.specs.Rates.{coded_length};
+ghost use Rattle.workings_in.specs.Shown.{bits_in, frames_in, of_three, own_of, rate_in, worked_in, writing_in};
 
 use coding::Rate;
 use locating::Writing;
@@ -10,7 +10,7 @@ use workings::Worked;
 
 // The rate of P1, P2 and P1'.
 fn rate_in(channel: u8) -> Rate
-    ensures { result ≡ rateIn channel }
+    ensures { result ≡ rate_in channel }
 {
     if channel == 6 {
         return Rate::Half;
@@ -20,7 +20,7 @@ fn rate_in(channel: u8) -> Rate
 
 // Their transfer frames in an L1 frame.
 fn frames_in(channel: u8) -> usize
-    ensures { (result ≡ framesIn channel) × (result ≤ 8) }
+    ensures { (result ≡ frames_in channel) × (result ≤ 8) }
 {
     if channel == 5 {
         return 1;
@@ -30,7 +30,7 @@ fn frames_in(channel: u8) -> usize
 
 // That of three numbers which is the channel's; 0 for any other channel.
 fn of_three(channel: u8, p1: usize, p2: usize, second: usize) -> usize
-    ensures { result ≡ ofThree channel p1 p2 second }
+    ensures { result ≡ of_three channel p1 p2 second }
 {
     if channel == 1 {
         return p1;
@@ -46,7 +46,7 @@ fn of_three(channel: u8, p1: usize, p2: usize, second: usize) -> usize
 
 // The bits of a transfer frame of P1, P2 or P1' in MP5 and MP6; else 0.
 fn bits_in(main: Main, channel: u8) -> usize
-    ensures { (result ≡ bitsIn main channel) × (result ≤ 146176) }
+    ensures { (result ≡ bits_in main channel) × (result ≤ 146176) }
 {
     match main {
         Main::Plain => 0,
@@ -57,8 +57,8 @@ fn bits_in(main: Main, channel: u8) -> usize
 
 // How Interleaver I writes a coded bit of a transfer frame of n coded bits.
 fn write(main: Main, channel: u8, n: usize, frame: usize, bit: usize) -> Writing
-    requires { (frame < framesIn channel) × (n ≡ codedLength (rateIn channel) (bitsIn main channel)) × (bit < n) }
-    ensures { result ≡ writingIn main channel frame bit }
+    requires { (frame < frames_in channel) × (n ≡ coded_length (rate_in channel) (bits_in main channel)) × (bit < n) }
+    ensures { result ≡ writing_in main channel frame bit }
 {
     if channel == 5 {
         return locating::write_p1(finding::p1_coded(main) + bit);
@@ -71,7 +71,7 @@ fn write(main: Main, channel: u8, n: usize, frame: usize, bit: usize) -> Writing
 
 // The working of a coded bit of P1, P2 or P1' in MP5 and MP6, from transfer frames of n bits.
 fn work_out(main: Main, channel: u8, n: usize, frames: &[u8], frame: usize, bit: usize) -> Worked
-    requires { (n ≡ bitsIn main channel) × (0 < n) }
+    requires { (n ≡ bits_in main channel) × (0 < n) }
     ensures { result ≡ own_of main channel frames.now frame bit }
 {
     let count = frames_in(channel);
@@ -93,7 +93,7 @@ fn work_out(main: Main, channel: u8, n: usize, frames: &[u8], frame: usize, bit:
 // The working of a coded bit of P1 (channel 1), PIDS (2), P3 (3), P4 (4), P2 (5) or P1' (6), in any mode, of this transfer frame
 // of the L1 frame that comes next. The transfer frames of P1' are its P1 frames, and it is sent three L1 frames later.
 pub fn working_in(state: State, channel: u8, frames: &[u8], frame: usize, bit: usize) -> Worked
-    ensures { result ≡ workedIn state channel frames.now frame bit }
+    ensures { result ≡ worked_in state channel frames.now frame bit }
 {
     if !calls::is_valid(state) {
         return workings::refused(Answer::StateNotValid);

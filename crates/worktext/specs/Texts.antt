@@ -22,8 +22,8 @@ words [] = []
 words (b ∷ rest) = (decimal b ++ ascii " ") ++ words rest
 
 -- 10.2: the position in the matrix, and the number of its cell, which ends the line
-unfoldable pub placeText : Position → (cell : ℕ) → List ℕ
-placeText p cell =
+unfoldable pub place_text : Position → (cell : ℕ) → List ℕ
+place_text p cell =
     named "BLOCK " p.block
     ++ (named "PARTITION " p.partition
     ++ (named "ROW " p.row
@@ -31,15 +31,15 @@ placeText p cell =
     ++ (ascii "CELL " ++ (decimal cell ++ ascii "\n")))))
 
 -- 10.2.3, 10.2.4 or 10.2.6: the number of the bit there, k, and where it is written
-unfoldable pub writingText : Writing → List ℕ
-writingText w = named "STEP " w.step ++ (named "K " w.k ++ placeText w.position w.cell)
+unfoldable pub writing_text : Writing → List ℕ
+writing_text w = named "STEP " w.step ++ (named "K " w.k ++ place_text w.position w.cell)
 
 -- 8.2 and 9.3: the frame's bits, the newest first, the scrambler's at their places, and how many ones the generator takes
-unfoldable pub sumText : (bits scrambling : List ℕ) (sum : ℕ) → List ℕ
-sumText bits scrambling sum = ascii "FRAME " ++ (words bits ++ (ascii "SCRAMBLER " ++ (words scrambling ++ named "SUM " sum)))
+unfoldable pub sum_text : (bits scrambling : List ℕ) (sum : ℕ) → List ℕ
+sum_text bits scrambling sum = ascii "FRAME " ++ (words bits ++ (ascii "SCRAMBLER " ++ (words scrambling ++ named "SUM " sum)))
 
 -- all of it
-unfoldable pub workLine : Worked → List ℕ
-workLine w =
+unfoldable pub work_line : Worked → List ℕ
+work_line w =
     named "WORK BIT " w.number
-    ++ (named "GENERATOR " (octal w.generator) ++ (sumText w.bits w.scrambling w.sum ++ writingText w.writing))
+    ++ (named "GENERATOR " (octal w.generator) ++ (sum_text w.bits w.scrambling w.sum ++ writing_text w.writing))

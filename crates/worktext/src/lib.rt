@@ -3,7 +3,7 @@ ghost use Rattle.std.specs.Prelude.{◌≡◌, ◌++◌, ◌+◌, ◌≤◌, len
 ghost use Rattle.text.specs.Letters.{ascii};
 ghost use Rattle.text.specs.Numbers.{decimal};
 ghost use Rattle.text.specs.Put.{Put};
-ghost use Rattle.worktext.specs.Texts.{octal as «octal-of», placeText, sumText, words, workLine, writingText};
+ghost use Rattle.worktext.specs.Texts.{octal as «octal-of», place_text, sum_text, words, work_line, writing_text};
 
 use locating::Writing;
 use pm::Position;
@@ -52,7 +52,7 @@ fn put_seven(out: &mut [u8], at: usize, seven: &[u8]) -> usize
 // Puts a position and its cell, which end the line.
 fn put_place(out: &mut [u8], at: usize, position: Position, cell: usize) -> usize
     requires { at + 137 ≤ length out.old }
-    ensures { Put out.old out.new at result 137 (placeText position cell) }
+    ensures { Put out.old out.new at result 137 (place_text position cell) }
 {
     let b = put_named(out, at, b"BLOCK ", position.block as u64);
     let c = put_named(out, b, b"PARTITION ", position.partition as u64);
@@ -65,7 +65,7 @@ fn put_place(out: &mut [u8], at: usize, position: Position, cell: usize) -> usiz
 // Puts how the interleaver writes the bit.
 fn put_writing(out: &mut [u8], at: usize, writing: Writing) -> usize
     requires { at + 186 ≤ length out.old }
-    ensures { Put out.old out.new at result 186 (writingText writing) }
+    ensures { Put out.old out.new at result 186 (writing_text writing) }
 {
     let b = put_named(out, at, b"STEP ", writing.step as u64);
     let c = put_named(out, b, b"K ", writing.k as u64);
@@ -76,7 +76,7 @@ fn put_writing(out: &mut [u8], at: usize, writing: Writing) -> usize
 // Puts the bits that the generator takes, and their sum.
 fn put_sum(out: &mut [u8], at: usize, bits: [u8; 7], scrambling: [u8; 7], sum: u8) -> usize
     requires { at + 335 ≤ length out.old }
-    ensures { Put out.old out.new at result 335 (sumText bits scrambling sum) }
+    ensures { Put out.old out.new at result 335 (sum_text bits scrambling sum) }
 {
     let b = put(out, at, b"FRAME ");
     let c = put_seven(out, b, &bits);
@@ -88,7 +88,7 @@ fn put_sum(out: &mut [u8], at: usize, bits: [u8; 7], scrambling: [u8; 7], sum: u
 // Puts the line of a working.
 pub fn put_work(out: &mut [u8], at: usize, worked: Worked) -> usize
     requires { at + 582 ≤ length out.old }
-    ensures { Put out.old out.new at result 582 (workLine worked) }
+    ensures { Put out.old out.new at result 582 (work_line worked) }
 {
     let b = put_named(out, at, b"WORK BIT ", worked.number as u64);
     let c = put_named(out, b, b"GENERATOR ", octal(worked.generator));

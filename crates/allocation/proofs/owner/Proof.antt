@@ -3,13 +3,13 @@ use mathlib.Core.Path.{◌≡◌, refl, sym, subst, ap, ◌∙◌}
 use Prim.Native.Nat.{ℕ, ◌+◌, ◌-◌, ◌≤◌, ◌<◌}
 use native.Mathlib.Omega.{arith}
 use borrow.Author.Rules.{rules}
-use Rattle.allocation.specs.Owners.{ownerOf}
+use Rattle.allocation.specs.Owners.{owner_of}
 use Rattle.allocation.proofs.Steps.{here, further, nobody}
 use Rattle.allocation.proofs.owner.Statement.{statement}
 use Rattle.allocation.proofs.owner.Tie as tie
 
 abbrev invariant-loop : tie.invariant-loop
-invariant-loop q given rest₀ d₀ rest d = (d ≤ 8) × (ownerOf 8 0 given q ≡ ownerOf (8 - d) d given rest)
+invariant-loop q given rest₀ d₀ rest d = (d ≤ 8) × (owner_of 8 0 given q ≡ owner_of (8 - d) d given rest)
 
 abbrev decreases-loop : tie.decreases-loop
 decreases-loop q given rest₀ d₀ rest d = 8 - d
@@ -41,7 +41,7 @@ loop-again : tie.Need-loop-preserved invariant-loop decreases-loop
 loop-again c =
     let l = c.before.before.before in
     let a = l.before in
-    (omega arith, l.loop.invariant.1 ∙ further _ _ _ c.before.before.loop-test.true (subst (λ (n : ℕ). n ≤ l.loop.rest) c.before.wide.ensures.0 c.if1.false) ∙ ap (λ (n : ℕ). ownerOf (8 - (l.loop.d + 1)) (l.loop.d + 1) a.args.t1 (l.loop.rest - n)) (sym c.before.wide.ensures.0))
+    (omega arith, l.loop.invariant.1 ∙ further _ _ _ c.before.before.loop-test.true (subst (λ (n : ℕ). n ≤ l.loop.rest) c.before.wide.ensures.0 c.if1.false) ∙ ap (λ (n : ℕ). owner_of (8 - (l.loop.d + 1)) (l.loop.d + 1) a.args.t1 (l.loop.rest - n)) (sym c.before.wide.ensures.0))
 
 returns-2 : tie.Need-returns-2 invariant-loop decreases-loop
 returns-2 c = sym (c.before.loop.invariant.1 ∙ nobody _ _ _ c.loop-test.false)

@@ -3,13 +3,13 @@ use mathlib.Core.Path.{sym, ◌∙◌}
 use Prim.Native.Nat.{◌-◌, ◌≤◌}
 use native.Mathlib.Omega.{arith}
 use borrow.Author.Rules.{rules}
-use Rattle.allocation.specs.Owners.{ownerOf}
+use Rattle.allocation.specs.Owners.{owner_of}
 use Rattle.bits.proofs.Listed.{Filled, filled_none, filled-turn, filled-all}
 use Rattle.allocation.proofs.write_places.Statement.{statement}
 use Rattle.allocation.proofs.write_places.Tie as tie
 
 abbrev invariant-loop : tie.invariant-loop
-invariant-loop given places₀ q₀ places q = (q ≤ 16) × Filled 16 (ownerOf 8 0 given) places q
+invariant-loop given places₀ q₀ places q = (q ≤ 16) × Filled 16 (owner_of 8 0 given) places q
 
 abbrev decreases-loop : tie.decreases-loop
 decreases-loop given places₀ q₀ places q = 16 - q

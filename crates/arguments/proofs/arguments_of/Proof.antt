@@ -4,13 +4,13 @@ use Prim.Native.Nat.{ℕ}
 use borrow.Author.Rules.{rules}
 use Rattle.operands.specs.declared.Operand.{Operand}
 use Rattle.operands.specs.declared.Operand.TheVariants.{Number}
-use Rattle.arguments.specs.Arguments.{argumentsOf, mode_of}
+use Rattle.arguments.specs.Arguments.{arguments_of, mode_of}
 use Rattle.arguments.specs.declared.Arguments.TheVariants.{Run}
 use Rattle.arguments.proofs.arguments_of.Statement.{statement}
 use Rattle.arguments.proofs.arguments_of.Tie as tie
 
-both : {mode count : Operand} {number n m : ℕ} → mode ≡ Number number → count ≡ Number n → m ≡ mode_of number → Run m n ≡ argumentsOf mode count
-both f g e = ap₂ Run e refl ∙ sym (ap₂ argumentsOf f g)
+both : {mode count : Operand} {number n m : ℕ} → mode ≡ Number number → count ≡ Number n → m ≡ mode_of number → Run m n ≡ arguments_of mode count
+both f g e = ap₂ Run e refl ∙ sym (ap₂ arguments_of f g)
 
 enum-known-mode : tie.Need-enum-known-mode
 enum-known-mode c = search rules

@@ -8,12 +8,12 @@ use lib.ListN.{get_or}
 use borrow.Author.Rules.{rules}
 use borrow.Author.Tests.{not-false, not-true}
 use Rattle.bits.proofs.Tests.{all-false, all_true}
-use Rattle.celltext.specs.Lines.{isCell}
+use Rattle.celltext.specs.Lines.{is_cell}
 use Rattle.celltext.proofs.are_cells.Statement.{statement}
 use Rattle.celltext.proofs.are_cells.Tie as tie
 
 abbrev invariant-loop : tie.invariant-loop
-invariant-loop line i₀ i = (i ≤ 200) × ((n : ℕ) → n < i → isCell (get_or line n 0) ≡ true)
+invariant-loop line i₀ i = (i ≤ 200) × ((n : ℕ) → n < i → is_cell (get_or line n 0) ≡ true)
 
 abbrev decreases-loop : tie.decreases-loop
 decreases-loop line i₀ i = 200 - i
@@ -30,7 +30,7 @@ is-cell-requires c κs = search rules
 returns : tie.Need-returns invariant-loop decreases-loop
 returns c =
     let loop = c.before.before.before.before.loop in
-    sym (all-false 200 (λ n. isCell (get_or c.before.before.before.before.before.before.args.line.now n 0)) loop.i (omega arith) (sym c.before.is-cell.ensures ∙ not-true _ c.if1.true))
+    sym (all-false 200 (λ n. is_cell (get_or c.before.before.before.before.before.before.args.line.now n 0)) loop.i (omega arith) (sym c.before.is-cell.ensures ∙ not-true _ c.if1.true))
 
 add-i : tie.Need-overflow-add-i invariant-loop decreases-loop
 add-i c = search rules
@@ -46,12 +46,12 @@ loop-again c =
       λ n h.
           elim (dec_lt n loop.i) [
             | yes l ↦ loop.invariant.1 n l
-            | no l ↦ subst (λ (k : ℕ). isCell (get_or line k 0) ≡ true) (omega arith) (sym c.before.is-cell.ensures ∙ not-false _ c.if1.false)
+            | no l ↦ subst (λ (k : ℕ). is_cell (get_or line k 0) ≡ true) (omega arith) (sym c.before.is-cell.ensures ∙ not-false _ c.if1.false)
           ],
     )
 
 returns-2 : tie.Need-returns-2 invariant-loop decreases-loop
-returns-2 c = sym (all_true 200 (λ n. isCell (get_or c.before.before.before.args.line.now n 0)) (λ n h. c.before.loop.invariant.1 n (omega arith)))
+returns-2 c = sym (all_true 200 (λ n. is_cell (get_or c.before.before.before.args.line.now n 0)) (λ n h. c.before.loop.invariant.1 n (omega arith)))
 
 pub are-cells-spec : {M : Type 1} → statement M
 are-cells-spec =

@@ -5,7 +5,7 @@ use lib.ListN.{length}
 use lib.Seq.{length-take-le}
 use Rattle.coding.specs.declared.Rate.TheVariants.{Half}
 use Rattle.coding.proofs.Passes.{both-passes}
-use Rattle.runs.specs.Lent.{orZeros}
+use Rattle.runs.specs.Lent.{or_zeros}
 use Rattle.chain.proofs.Extends.{front-zeros}
 use borrow.Author.Rules.{rules}
 use Rattle.chain.proofs.encode_px.Statement.{statement}
@@ -37,7 +37,7 @@ returns c =
     let s = x.before.before.before.before.before.before in
     let a = s.args in
     c.before.before.encode.ensures
-    ∙ both-passes Half _ _ 8 _ _ (orZeros (length a.scrambled.now) a.frames.now) a.coded.now s.requires.0 (sym s.requires.1) x.scramble-px.ensures
+    ∙ both-passes Half _ _ 8 _ _ (or_zeros (length a.scrambled.now) a.frames.now) a.coded.now s.requires.0 (sym s.requires.1) x.scramble-px.ensures
 
 pub encode-px-spec : {M : Type 1} → statement M
 encode-px-spec =

@@ -4,7 +4,7 @@ use Prim.Native.Nat.{ℕ, ◌*◌, ◌/◌}
 use native.Mathlib.Omega.{arith}
 use lib.ListN.{length}
 use lib.Seq.{length-take-le, length_front}
-use Rattle.interleaving.specs.PX.{codedBytes}
+use Rattle.interleaving.specs.PX.{coded_bytes}
 use Rattle.runs.proofs.Bridge.{matrix-bytes, memory-bytes}
 use Rattle.chain.proofs.Extends.{buffers, coded-length, half-long, passed}
 use borrow.Author.Rules.{rules}
@@ -43,10 +43,10 @@ pass-requires c κs =
     let long = length_front a.px.now e.new.1.0 (length a.coded.now / 2) e.auto.1.0 in (
       (rw t pre.1.used, omega arith),
       (
-        code ∙ ap codedBytes (sym t),
-        pre.2 ∙ sym (memory-bytes k) ∙ ap (λ (x : ℕ). 2 * codedBytes x) (sym t),
+        code ∙ ap coded_bytes (sym t),
+        pre.2 ∙ sym (memory-bytes k) ∙ ap (λ (x : ℕ). 2 * coded_bytes x) (sym t),
         long ∙ pre.1.long
-            ∙ sym (matrix-bytes k) ∙ ap codedBytes (sym t),
+            ∙ sym (matrix-bytes k) ∙ ap coded_bytes (sym t),
       ),
     )
 

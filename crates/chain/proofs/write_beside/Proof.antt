@@ -7,7 +7,7 @@ use native.Mathlib.Omega.{arith}
 use lib.ListN.{length, length-replicate, take, drop}
 use lib.Seq.{length-take-le, length_front}
 use Rattle.runs.specs.declared.Main.{Main}
-use Rattle.runs.specs.MainChannels.{p1Len}
+use Rattle.runs.specs.MainChannels.{p1_len}
 use Rattle.runs.specs.Paths.{waiting}
 use Rattle.runs.proofs.Bounds.{p1-le}
 use Rattle.runs.proofs.Bridge.{pm-from}
@@ -17,7 +17,7 @@ use Rattle.chain.proofs.write_beside.Statement.{statement}
 use Rattle.chain.proofs.write_beside.Tie as tie
 
 -- PM, with the scrambled frames m in its first bytes, has room for the P1 frames
-room : (k : Main) (p1 m pm : List ℕ) → length p1 ≡ p1Len k → length m ≡ length (take 18272 pm) → length pm ≡ 46080 → length p1 ≤ length (m ++ drop 18272 pm)
+room : (k : Main) (p1 m pm : List ℕ) → length p1 ≡ p1_len k → length m ≡ length (take 18272 pm) → length pm ≡ 46080 → length p1 ≤ length (m ++ drop 18272 pm)
 room k p1 m pm e kept l = omega (arith, e, p1-le k, length_front pm m 18272 kept, l)
 
 slice-relend-prefix-multiplex : tie.Need-slice-relend-prefix-multiplex

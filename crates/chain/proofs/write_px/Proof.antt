@@ -1,7 +1,7 @@
 -- `write_px` meets its contract: nothing is to be written where the channel is not used. Assumes nothing.
 use native.Mathlib.Omega.{arith}
-use Rattle.runs.specs.Lengths.{frameLen}
-use Rattle.runs.specs.Lent.{orZeros}
+use Rattle.runs.specs.Lengths.{frame_len}
+use Rattle.runs.specs.Lent.{or_zeros}
 use Rattle.chain.proofs.Extends.{room_of, unused}
 use borrow.Author.Rules.{rules}
 use Rattle.chain.proofs.write_px.Statement.{statement}
@@ -44,7 +44,7 @@ returns : tie.Need-returns
 returns c =
     let at-start = c.before.before.before.before.before in
     let a = at-start.args in
-    unused a.kind a.half (orZeros (frameLen a.kind) a.frames.now) a.px.now a.memory.now c.enum_told.given.1
+    unused a.kind a.half (or_zeros (frame_len a.kind) a.frames.now) a.px.now a.memory.now c.enum_told.given.1
     at-start.requires.2 at-start.requires.3
 
 same_length : tie.Need-same-length

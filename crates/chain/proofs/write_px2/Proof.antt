@@ -2,8 +2,8 @@
 use mathlib.Core.Path.{sym, ◌∙◌}
 use native.Mathlib.Omega.{arith}
 use lib.Seq.{length-take-le}
-use Rattle.runs.specs.Lengths.{frameLen}
-use Rattle.runs.specs.Lent.{orZeros}
+use Rattle.runs.specs.Lengths.{frame_len}
+use Rattle.runs.specs.Lent.{or_zeros}
 use Rattle.chain.proofs.Parts.{put-px2}
 use borrow.Author.Rules.{rules}
 use Rattle.chain.proofs.write_px2.Statement.{statement}
@@ -49,7 +49,7 @@ returns c =
     let k = x.before.before.before.matrix-len in
     let a = x.before.before.before.before.before.before.before.before.args in
     let d = c.before.before.write-delayed in (
-      (λ t. put-px2 a.kind a.half a.memory.now (orZeros (frameLen a.kind) a.p4.now) k.result w.new.1.1.1.0 d.new.1.1.0 a.px2.now _ k.ensures.0 w.ensures.0 (d.ensures t)),
+      (λ t. put-px2 a.kind a.half a.memory.now (or_zeros (frame_len a.kind) a.p4.now) k.result w.new.1.1.1.0 d.new.1.1.0 a.px2.now _ k.ensures.0 w.ensures.0 (d.ensures t)),
       w.ensures.1,
     )
 

@@ -5,7 +5,7 @@ use native.Mathlib.Omega.{arith}
 use Rattle.bits.specs.Bits.{number, bit_at}
 use Rattle.bits.proofs.Numbers.{number-cong, number_lt}
 use Rattle.bits.proofs.Packed.{bit_at_lt}
-use Rattle.coding.specs.Units.{groupSize, unitCoded, word_of}
+use Rattle.coding.specs.Units.{group_size, unit_coded, word_of}
 use Rattle.coding.proofs.Places.{twice, unit-byte, unit-inside, unit-within}
 use Rattle.coding.proofs.Turns.{around-bit}
 use Rattle.coding.proofs.CodedUnits.{unit-coded}
@@ -47,7 +47,7 @@ returns c =
     let pre = c.before.before.before.requires in
     let f : ℕ → ℕ = bit_at a.frames.now in
     c.unit-coded.ensures
-    ∙ ap (λ (x : ℕ). number (8 * groupSize a.rate) (unitCoded a.rate x)) c.before.around.ensures
+    ∙ ap (λ (x : ℕ). number (8 * group_size a.rate) (unit_coded a.rate x)) c.before.around.ensures
     ∙ number-cong _ _ _ (unit-coded a.rate a.n a.u f pre.1.0 pre.1.1 (bit_at_lt a.frames.now))
 
 pub coded-unit-spec : {M : Type 1} → statement M

@@ -7,8 +7,8 @@ use lib.ListN.{length}
 use borrow.Author.Rules.{rules}
 use Rattle.bits.specs.Bits.{bit_at}
 use Rattle.coding.specs.Channel.{Agree}
-use Rattle.coding.specs.Buffers.{codedEach}
-use Rattle.coding.specs.Units.{groupSize}
+use Rattle.coding.specs.Buffers.{coded_each}
+use Rattle.coding.specs.Units.{group_size}
 use Rattle.coding.proofs.Places.{UnitIs}
 use Rattle.coding.proofs.Frames.{frame-there, coded-unit-there}
 use Rattle.coding.proofs.Judged.{stops, goes_on, ends}
@@ -16,7 +16,7 @@ use Rattle.coding.proofs.first_bad.Statement.{statement}
 use Rattle.coding.proofs.first_bad.Tie as tie
 
 abbrev invariant-loop : tie.invariant-loop
-invariant-loop rate n count coded frames table units u₀ v₀ u v = Agree (8 * (groupSize rate * u)) (bit_at coded) (codedEach rate (8 * n) (bit_at frames)) × UnitIs n u v
+invariant-loop rate n count coded frames table units u₀ v₀ u v = Agree (8 * (group_size rate * u)) (bit_at coded) (coded_each rate (8 * n) (bit_at frames)) × UnitIs n u v
 
 abbrev decreases-loop : tie.decreases-loop
 decreases-loop rate n count coded frames table units u₀ v₀ u v = length frames / 2 - u
@@ -28,7 +28,7 @@ loop-holds : tie.Need-loop-init invariant-loop decreases-loop
 loop-holds c =
     let at-start = c.before.before.before.before in
     let pre = at-start.requires.0 in
-    (λ i h. absurd (omega (arith, mul-zero (groupSize at-start.args.rate))), (sym (zero-mod _), omega (arith, pre.enough, pre.even)))
+    (λ i h. absurd (omega (arith, mul-zero (group_size at-start.args.rate))), (sym (zero-mod _), omega (arith, pre.enough, pre.even)))
 
 coded-unit-requires : tie.Need-coded-unit-requires invariant-loop decreases-loop
 coded-unit-requires c κs =

@@ -4,7 +4,7 @@ use Prim.Native.Nat.{ℕ}
 use native.Mathlib.Omega.{arith}
 use Rattle.bits.specs.Bits.{bit_at}
 use Rattle.bits.proofs.Packed.{bit_at_lt}
-use Rattle.coding.specs.Units.{groupSize}
+use Rattle.coding.specs.Units.{group_size}
 use Rattle.coding.proofs.Places.{unit-around}
 use Rattle.coding.proofs.FrameUnits.{unit-word, window-lt}
 use borrow.Author.Rules.{rules}
@@ -56,7 +56,7 @@ unit-bits-requires c κs =
     let a = at-start.args in
     let pre = at-start.requires in
     let f : ℕ → ℕ = bit_at a.coded.now in
-    let size : 5 ≡ groupSize a.rate = ap groupSize (sym c.before.enum_told.given.1) in
+    let size : 5 ≡ group_size a.rate = ap group_size (sym c.before.enum_told.given.1) in
     (pre.0, window-lt a.rate a.n a.u f (bit_at_lt a.coded.now) size c.around.ensures)
 
 enum-told-2 : tie.Need-enum-told-2
@@ -104,7 +104,7 @@ unit-bits-requires-2 c κs =
     let a = at-start.args in
     let pre = at-start.requires in
     let f : ℕ → ℕ = bit_at a.coded.now in
-    let size : 4 ≡ groupSize a.rate = ap groupSize (sym c.before.enum-told2.given.1) in
+    let size : 4 ≡ group_size a.rate = ap group_size (sym c.before.enum-told2.given.1) in
     (pre.0, window-lt a.rate a.n a.u f (bit_at_lt a.coded.now) size c.around2.ensures)
 
 returns : tie.Need-returns
@@ -114,7 +114,7 @@ returns c =
     let a = at-start.args in
     let pre = at-start.requires.1 in
     let f : ℕ → ℕ = bit_at a.coded.now in
-    let size : 5 ≡ groupSize a.rate = ap groupSize (sym at-enum-told.enum_told.given.1) in
+    let size : 5 ≡ group_size a.rate = ap group_size (sym at-enum-told.enum_told.given.1) in
     c.unit-bits.ensures ∙ unit-word a.rate a.n a.u f (bit_at_lt a.coded.now) size c.before.around.ensures pre.0 pre.1
 
 returns-2 : tie.Need-returns-2
@@ -124,7 +124,7 @@ returns-2 c =
     let a = at-start.args in
     let pre = at-start.requires.1 in
     let f : ℕ → ℕ = bit_at a.coded.now in
-    let size : 4 ≡ groupSize a.rate = ap groupSize (sym at-enum-told2.enum-told2.given.1) in
+    let size : 4 ≡ group_size a.rate = ap group_size (sym at-enum-told2.enum-told2.given.1) in
     c.unit-bits2.ensures ∙ unit-word a.rate a.n a.u f (bit_at_lt a.coded.now) size c.before.around2.ensures pre.0 pre.1
 
 pub frame-unit-spec : {M : Type 1} → statement M

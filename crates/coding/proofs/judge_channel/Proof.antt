@@ -3,7 +3,7 @@ use mathlib.Core.Path.{ap, ◌∙◌}
 use Prim.Native.Nat.{ℕ, ◌*◌}
 use borrow.Author.Rules.{rules}
 use Rattle.bits.specs.Bits.{bit_at, packed}
-use Rattle.coding.specs.Buffers.{uncodedEach}
+use Rattle.coding.specs.Buffers.{uncoded_each}
 use Rattle.coding.proofs.judge_channel.Statement.{statement}
 use Rattle.coding.proofs.judge_channel.Tie as tie
 
@@ -13,7 +13,7 @@ decode-requires c κs = search rules
 first-bad-requires : tie.Need-first-bad-requires
 first-bad-requires c κs =
     let a = c.before.before.before.before.before.before.before.args in
-    (search rules, c.before.before.before.decode.ensures ∙ ap (λ (k : ℕ). packed k (uncodedEach a.rate (8 * a.n) (bit_at a.coded.now))) c.before.before.before.before.before.before.before.requires.plain)
+    (search rules, c.before.before.before.decode.ensures ∙ ap (λ (k : ℕ). packed k (uncoded_each a.rate (8 * a.n) (bit_at a.coded.now))) c.before.before.before.before.before.before.before.requires.plain)
 
 same_length : tie.Need-same-length
 same_length c = search rules

@@ -6,14 +6,14 @@ use borrow.Author.Rules.{rules}
 use lib.ListN.{length, length-set}
 use Rattle.bits.specs.Bits.{packed}
 use Rattle.bits.proofs.Stores.{Stored, stored-none, stored-all}
-use Rattle.control.specs.Control.{encoded, blockBit, block_of}
+use Rattle.control.specs.Control.{encoded, block_bit, block_of}
 use Rattle.control.proofs.Rows.{row-digits, row-byte, row-stored, byte-0, byte-1, byte-2, byte-3, byte-4, byte-5, byte-6, byte-7}
 use Rattle.control.proofs.Packing.{encoded-lt}
 use Rattle.control.proofs.fill_block.Statement.{statement}
 use Rattle.control.proofs.fill_block.Tie as tie
 
 abbrev invariant-loop : tie.invariant-loop
-invariant-loop mode count reserved out₀ a b c d row₀ out row = Stored (length out₀) (blockBit mode count reserved) out (row * 8)
+invariant-loop mode count reserved out₀ a b c d row₀ out row = Stored (length out₀) (block_bit mode count reserved) out (row * 8)
 
 abbrev decreases-loop : tie.decreases-loop
 decreases-loop mode count reserved out₀ a b c d row₀ out row = 32 - row
@@ -31,7 +31,7 @@ column-of-requires-4 : tie.Need-column-of-requires-4 invariant-loop decreases-lo
 column-of-requires-4 c κs = search rules
 
 loop-holds : tie.Need-loop-init invariant-loop decreases-loop
-loop-holds c = stored-none (blockBit _ _ _) c.before.before.before.before.before.args.out.now
+loop-holds c = stored-none (block_bit _ _ _) c.before.before.before.before.before.args.out.now
 
 sub-place : tie.Need-overflow-sub-place invariant-loop decreases-loop
 sub-place c = search rules
@@ -167,7 +167,7 @@ returns c =
     let start = c.before.before.before.before.before.before.before in
     let a = start.args in
     stored-all c.before.loop.invariant (omega arith)
-    ∙ ap (λ (n : ℕ). packed n (blockBit a.mode a.count a.reserved)) start.requires.3
+    ∙ ap (λ (n : ℕ). packed n (block_bit a.mode a.count a.reserved)) start.requires.3
 
 pub fill-block-spec : {M : Type 1} → statement M
 fill-block-spec =

@@ -1,7 +1,7 @@
 -- `control::reserved_at` meets its contract. Assumes nothing.
 use native.Mathlib.Omega.{arith}
 use borrow.Author.Rules.{rules}
-use Rattle.control.specs.Words.{reservedRead}
+use Rattle.control.specs.Words.{reserved_read}
 use Rattle.control.proofs.Decoding.{decoded-lt}
 use Rattle.control.proofs.reserved_at.Statement.{statement}
 use Rattle.control.proofs.reserved_at.Tie as tie
@@ -36,7 +36,7 @@ add-result-2 c =
     omega (arith, decoded-lt b 7, decoded-lt b 15, decoded-lt b 24, c.before.before.decoded-at.ensures, c.before.decoded-at2.ensures, c.decoded-at3.ensures)
 
 returns : tie.Need-returns
-unfolding reservedRead
+unfolding reserved_read
 returns c =
     let b = c.before.before.before.before.args.block.now in
     let z₂ = c.before.before.decoded-at.ensures in

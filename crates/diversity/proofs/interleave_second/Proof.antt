@@ -6,8 +6,8 @@ use lib.ListN.{length}
 use borrow.Author.Rules.{rules}
 use Rattle.bits.specs.Bits.{Bytes, bit_at, written}
 use Rattle.coding.specs.declared.Rate.TheVariants.{Half}
-use Rattle.coding.specs.Buffers.{codedEach}
-use Rattle.interleaving.specs.PX2.{frameBits, place}
+use Rattle.coding.specs.Buffers.{coded_each}
+use Rattle.interleaving.specs.PX2.{frame_bits, place}
 use Rattle.diversity.proofs.Seconds.{all-eight, coded-long, frame-buffers, frame-le, none_yet, one_more, row_is}
 use Rattle.diversity.proofs.interleave_second.Statement.{statement}
 use Rattle.diversity.proofs.interleave_second.Tie as tie
@@ -15,7 +15,7 @@ use Rattle.diversity.proofs.interleave_second.Tie as tie
 abbrev invariant-loop : tie.invariant-loop
 invariant-loop row scrambled coded₀ px2₀ n f₀ coded px2 f =
     (f ≤ 8) × (length coded ≡ length coded₀) × (length px2 ≡ length px2₀) × Bytes px2
-    × (bit_at px2 ≡ written (place row) (codedEach Half (8 * (length scrambled / 8)) (bit_at scrambled)) (f * frameBits row) (bit_at px2₀))
+    × (bit_at px2 ≡ written (place row) (coded_each Half (8 * (length scrambled / 8)) (bit_at scrambled)) (f * frame_bits row) (bit_at px2₀))
 
 abbrev decreases-loop : tie.decreases-loop
 decreases-loop row scrambled coded₀ px2₀ n f₀ coded px2 f = 8 - f
@@ -88,7 +88,7 @@ returns : tie.Need-returns invariant-loop decreases-loop
 returns c =
     let s = c.before.before.before.before.before in
     let all : c.before.loop.f ≡ 8 = omega arith in
-    all-eight s.requires.0 _ c.before.loop.px2 (c.before.loop.invariant.2 ∙ s.requires.1) c.before.loop.invariant.3 (c.before.loop.invariant.4 ∙ ap (λ (f : ℕ). written (place s.args.row) (codedEach Half (8 * (length s.args.scrambled.now / 8)) (bit_at s.args.scrambled.now)) (f * frameBits s.args.row) (bit_at s.args.px2.now)) all)
+    all-eight s.requires.0 _ c.before.loop.px2 (c.before.loop.invariant.2 ∙ s.requires.1) c.before.loop.invariant.3 (c.before.loop.invariant.4 ∙ ap (λ (f : ℕ). written (place s.args.row) (coded_each Half (8 * (length s.args.scrambled.now / 8)) (bit_at s.args.scrambled.now)) (f * frame_bits s.args.row) (bit_at s.args.px2.now)) all)
 
 pub interleave-second-spec : {M : Type 1} → statement M
 interleave-second-spec =

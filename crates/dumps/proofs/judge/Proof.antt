@@ -5,7 +5,7 @@ use native.Mathlib.Omega.{arith}
 use lib.ListN.{length}
 use lib.Seq.{length-take-le}
 use Rattle.runs.specs.Answers.{number_of}
-use Rattle.layout.specs.Heads.{headAnswer}
+use Rattle.layout.specs.Heads.{head_answer}
 use Rattle.layout.proofs.Heads.{head_of}
 use Rattle.dumps.proofs.Fresh.{memory-clear, room-delay, room-memory3, room-memory4}
 use Rattle.dumps.proofs.Taken.{refused-head, taken-by}
@@ -17,7 +17,7 @@ use Rattle.dumps.proofs.judge.Tie as tie
 abbrev start_of : tie.Else1 → tie.Start
 start_of c = c.before.before.before.before
 
-clear : (c : tie.Else1) → number_of (headAnswer (start_of c).args.dump.now) ≡ 0
+clear : (c : tie.Else1) → number_of (head_answer (start_of c).args.dump.now) ≡ 0
 clear c = ap number_of (sym c.before.before.head-answer.ensures) ∙ sym c.before.number.ensures ∙ c.if1.false
 
 long : (c : tie.Else1) → 8 ≤ length (start_of c).args.dump.now

@@ -5,17 +5,17 @@ use native.Mathlib.Omega.{arith}
 use lib.ListN.{length, drop}
 use borrow.Author.Rules.{rules}
 use Rattle.calls.specs.Called.{memory}
-use Rattle.layout.specs.Layout.{frameBytes}
-use Rattle.dumps.specs.Judged.{judgedFrames, judgedFresh}
+use Rattle.layout.specs.Layout.{frame_bytes}
+use Rattle.dumps.specs.Judged.{judged_frames, judged_fresh}
 use Rattle.dumps.proofs.Steps.{begun, done, left_over, next_one, room, turned_down}
 use Rattle.dumps.proofs.judge_frames.Statement.{statement}
 use Rattle.dumps.proofs.judge_frames.Tie as tie
 
 abbrev invariant-loop : tie.invariant-loop
 invariant-loop mode count frames memory3₀ memory4₀ delay₀ n state₀ at₀ t₀ memory3 memory4 delay state at t =
-    (at ≤ length frames) × (t ≤ count) × (n ≡ frameBytes mode)
+    (at ≤ length frames) × (t ≤ count) × (n ≡ frame_bytes mode)
     × (length memory3 ≡ length memory3₀) × (length memory4 ≡ length memory4₀) × (length delay ≡ length delay₀)
-    × (judgedFrames mode (count - t) t state (memory memory3 memory4 delay) (drop at frames) ≡ judgedFresh mode count frames)
+    × (judged_frames mode (count - t) t state (memory memory3 memory4 delay) (drop at frames) ≡ judged_fresh mode count frames)
 
 abbrev decreases-loop : tie.decreases-loop
 decreases-loop mode count frames memory3₀ memory4₀ delay₀ n state₀ at₀ t₀ memory3 memory4 delay state at t = count - t

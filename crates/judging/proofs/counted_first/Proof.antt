@@ -1,8 +1,8 @@
 -- `counted_first` meets its contract. Assumes nothing.
 use mathlib.Core.Path.{sym, ap}
 use native.Mathlib.Omega.{arith}
-use Rattle.runs.specs.Lengths.{pmLen}
-use Rattle.runs.specs.Judged.{countedFirst}
+use Rattle.runs.specs.Lengths.{pm_len}
+use Rattle.runs.specs.Judged.{counted_first}
 use borrow.Author.Rules.{rules}
 use Rattle.judging.proofs.counted_first.Statement.{statement}
 use Rattle.judging.proofs.counted_first.Tie as tie
@@ -20,12 +20,12 @@ returns : tie.Need-returns
 returns c = search rules
 
 returns-2 : tie.Need-returns-2
-unfolding pmLen
-returns-2 c = (sym (ap countedFirst c.enum-told2.given.1), omega arith)
+unfolding pm_len
+returns-2 c = (sym (ap counted_first c.enum-told2.given.1), omega arith)
 
 returns-3 : tie.Need-returns-3
-unfolding pmLen
-returns-3 c = (sym (ap countedFirst c.enum-told3.given.1), omega arith)
+unfolding pm_len
+returns-3 c = (sym (ap counted_first c.enum-told3.given.1), omega arith)
 
 pub counted-first-spec : {M : Type 1} → statement M
 counted-first-spec =

@@ -4,7 +4,7 @@ use Prim.Native.Nat.{ℕ, ◌*◌, ◌≤◌}
 use native.Mathlib.Omega.{arith}
 use lib.ListN.{length}
 use Rattle.runs.specs.declared.Extended.TheVariants.{P3, P4}
-use Rattle.runs.specs.Lengths.{kind_of, matrixLen}
+use Rattle.runs.specs.Lengths.{kind_of, matrix_len}
 use Rattle.recover.specs.Rooms.{past}
 use Rattle.runs.proofs.Bounds.{matrix-le, second-le}
 use Rattle.recover.proofs.Mains.{lowest-is-le}
@@ -24,7 +24,7 @@ matrix-len-requires : tie.Need-matrix-len-requires
 matrix-len-requires c κs = search rules
 
 first-fill-requires : tie.Need-first-fill-requires
-first-fill-requires c κs = c.before.before.before.before.before.requires.0 ∙ ap matrixLen (sym c.before.before.kind-of.ensures)
+first-fill-requires c κs = c.before.before.before.before.before.requires.0 ∙ ap matrix_len (sym c.before.before.kind-of.ensures)
 
 slice-aggregate-first-fill : tie.Need-slice-aggregate-first-fill
 slice-aggregate-first-fill c =
@@ -104,9 +104,9 @@ returns c =
     let c8 = c7.before.before.before in
     let a = c8.args in
     let n = c5.matrix-len in
-    let e3 : length a.px1.now * 8 ≡ 8 * matrixLen (kind_of a.state.mode P3) = omega (arith, c8.requires.0) in
-    let h4 = n.ensures.0 ∙ ap matrixLen c6.kind-of2.ensures in
-    let e4 : n.result * 8 ≡ 8 * matrixLen (kind_of a.state.mode P4) = omega (arith, h4) in
+    let e3 : length a.px1.now * 8 ≡ 8 * matrix_len (kind_of a.state.mode P3) = omega (arith, c8.requires.0) in
+    let h4 = n.ensures.0 ∙ ap matrix_len c6.kind-of2.ensures in
+    let e4 : n.result * 8 ≡ 8 * matrix_len (kind_of a.state.mode P4) = omega (arith, h4) in
     λ pm.
     c.past2.ensures ∙ ap (λ (k : ℕ). past (length a.px1.now * 8) c4.first-fill.result k) c.before.past.ensures
     ∙ filled a.state (matrices pm a.px1.now a.px2.now) c7.kind-of.ensures c6.kind-of2.ensures c2.main-of.ensures n.ensures.0 e3 e4

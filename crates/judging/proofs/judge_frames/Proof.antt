@@ -1,7 +1,7 @@
 -- `judge_frames` meets its contract: the case that the tests chose. Assumes nothing.
 use mathlib.Core.Path.{sym, ap, ◌∙◌}
 use native.Mathlib.Omega.{arith}
-use Rattle.runs.specs.Lengths.{frameLen, matrixLen, readerLen}
+use Rattle.runs.specs.Lengths.{frame_len, matrix_len, reader_len}
 use Rattle.judging.specs.Stages.{after}
 use Rattle.judging.proofs.Staged.{frame3-refused, frame4-refused, frames-right, recovered}
 use borrow.Author.Rules.{rules}
@@ -15,7 +15,7 @@ recover-px-requires : tie.Need-recover-px-requires
 recover-px-requires c κs =
     let p = c.before.before.before.before.before.before.before.before.requires in
     let k = sym c.before.kind-of.ensures in
-    (p.half_lt, p.memory3-long ∙ ap readerLen k, p.px1-long ∙ ap matrixLen k, p.p3-long ∙ ap frameLen k)
+    (p.half_lt, p.memory3-long ∙ ap reader_len k, p.px1-long ∙ ap matrix_len k, p.p3-long ∙ ap frame_len k)
 
 same_length : tie.Need-same-length
 same_length c = search rules

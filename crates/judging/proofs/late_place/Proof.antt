@@ -1,6 +1,6 @@
 -- `late_place` meets its contract: P1' stands in PX2 behind P4, of which no mode has both. Assumes nothing.
 use mathlib.Core.Path.{sym, ap, ◌∙◌}
-use Rattle.runs.specs.MainChannels.{delayLen}
+use Rattle.runs.specs.MainChannels.{delay_len}
 use Rattle.judging.proofs.Staged.{cut-le, late-judged, second_is, second-long}
 use borrow.Author.Rules.{rules}
 use Rattle.judging.proofs.late_place.Statement.{statement}
@@ -34,7 +34,7 @@ first-late-requires c κs =
     let c2 = c1.before in
     let c3 = c2.before.before.before in
     let m = c2.main-of.ensures in
-    (second-long c3.args.state c3.args.px2.now c3.requires.0 c1.kind-of.ensures c.before.matrix-len.ensures.0 m, c3.requires.1 ∙ ap delayLen (sym m))
+    (second-long c3.args.state c3.args.px2.now c3.requires.0 c1.kind-of.ensures c.before.matrix-len.ensures.0 m, c3.requires.1 ∙ ap delay_len (sym m))
 
 returns : tie.Need-returns
 returns c =

@@ -1,6 +1,6 @@
 -- `recover_p4` meets its contract: the matrices of P4 stand first in PX2. Assumes nothing.
 use mathlib.Core.Path.{sym, ap, ◌∙◌}
-use Rattle.runs.specs.Lengths.{frameLen, readerLen}
+use Rattle.runs.specs.Lengths.{frame_len, reader_len}
 use Rattle.judging.proofs.Staged.{fourth-is, fourth-long, p4-judged}
 use borrow.Author.Rules.{rules}
 use Rattle.judging.proofs.recover_p4.Statement.{statement}
@@ -24,7 +24,7 @@ recover-px-requires c κs =
     let c2 = c1.before in
     let c3 = c2.before.before.before.before in
     let k = sym c2.kind-of.ensures in
-    (c3.requires.0, c3.requires.2 ∙ ap readerLen k, fourth-long c3.args.state c3.args.px2.now c3.requires.1 c2.kind-of.ensures c1.matrix-len.ensures.0 ∙ c1.matrix-len.ensures.0, c3.requires.3 ∙ ap frameLen k)
+    (c3.requires.0, c3.requires.2 ∙ ap reader_len k, fourth-long c3.args.state c3.args.px2.now c3.requires.1 c2.kind-of.ensures c1.matrix-len.ensures.0 ∙ c1.matrix-len.ensures.0, c3.requires.3 ∙ ap frame_len k)
 
 same_length : tie.Need-same-length
 same_length c = search rules

@@ -1,5 +1,5 @@
 -- `lengths` meets its contract. Assumes nothing.
-use Rattle.runs.specs.Lengths.{pidsLen, pmLen, controlLen}
+use Rattle.runs.specs.Lengths.{pids_len, pm_len, control_len}
 use borrow.Author.Rules.{rules}
 use Rattle.modes.proofs.lengths.Statement.{statement}
 use Rattle.modes.proofs.lengths.Tie as tie
@@ -41,7 +41,7 @@ delay-len-requires : tie.Need-delay-len-requires
 delay-len-requires c κs = search rules
 
 returns : tie.Need-returns
-unfolding pidsLen pmLen controlLen
+unfolding pids_len pm_len control_len
 returns c =
     let f = c.before.before.before.before in
     let k = f.before.before.before.before in

@@ -3,12 +3,12 @@ use Prim.Native.Nat.{◌<◌}
 use native.Mathlib.Omega.{arith}
 use Rattle.runs.specs.declared.Kind.{Kind}
 use Rattle.runs.specs.declared.Kind.TheVariants.{Unused, Narrow, Wide}
-use Rattle.runs.specs.Lengths.{matrixLen}
+use Rattle.runs.specs.Lengths.{matrix_len}
 use borrow.Author.Rules.{rules}
 use Rattle.modes.proofs.reader_len.Statement.{statement}
 use Rattle.modes.proofs.reader_len.Tie as tie
 
-small : (k : Kind) → matrixLen k < 10000
+small : (k : Kind) → matrix_len k < 10000
 small Unused = omega arith
 small Narrow = omega arith
 small Wide = omega arith

@@ -1,6 +1,6 @@
 -- `reader_lengths` meets its contract. Assumes nothing.
 use mathlib.Core.Path.{ap, ap₂, ◌∙◌}
-use Rattle.runs.specs.Lengths.{readerLen}
+use Rattle.runs.specs.Lengths.{reader_len}
 use Rattle.modes.specs.Sizes.{wanted}
 use borrow.Author.Rules.{rules}
 use Rattle.modes.proofs.reader_lengths.Statement.{statement}
@@ -25,7 +25,7 @@ returns : tie.Need-returns
 returns c =
     let k = c.before.before in
     c.lengths.ensures
-    ∙ ap₂ (wanted _) (k.before.reader-len.ensures ∙ ap readerLen k.before.before.kind-of.ensures) (c.before.reader-len2.ensures ∙ ap readerLen k.kind-of2.ensures)
+    ∙ ap₂ (wanted _) (k.before.reader-len.ensures ∙ ap reader_len k.before.before.kind-of.ensures) (c.before.reader-len2.ensures ∙ ap reader_len k.kind-of2.ensures)
 
 pub reader-lengths-spec : {M : Type 1} → statement M
 reader-lengths-spec =

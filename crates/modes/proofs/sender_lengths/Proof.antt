@@ -1,6 +1,6 @@
 -- `sender_lengths` meets its contract. Assumes nothing.
 use mathlib.Core.Path.{ap, ap₂, ◌∙◌}
-use Rattle.runs.specs.Lengths.{senderLen}
+use Rattle.runs.specs.Lengths.{sender_len}
 use Rattle.modes.specs.Sizes.{wanted}
 use borrow.Author.Rules.{rules}
 use Rattle.modes.proofs.sender_lengths.Statement.{statement}
@@ -25,7 +25,7 @@ returns : tie.Need-returns
 returns c =
     let k = c.before.before in
     c.lengths.ensures
-    ∙ ap₂ (wanted _) (k.before.sender-len.ensures ∙ ap senderLen k.before.before.kind-of.ensures) (c.before.sender-len2.ensures ∙ ap senderLen k.kind-of2.ensures)
+    ∙ ap₂ (wanted _) (k.before.sender-len.ensures ∙ ap sender_len k.before.before.kind-of.ensures) (c.before.sender-len2.ensures ∙ ap sender_len k.kind-of2.ensures)
 
 pub sender-lengths-spec : {M : Type 1} → statement M
 sender-lengths-spec =

@@ -12,21 +12,21 @@ use lib.ListN.{length, drop, get_or}
 use lib.Seq.{drop-cons, drop-length}
 use Rattle.bits.proofs.Tests.{and-true}
 use Rattle.operands.specs.declared.Operand.TheVariants.{Number, NotDecimal}
-use Rattle.operands.specs.Operands.{after, isDigit, limit, operandOf}
+use Rattle.operands.specs.Operands.{after, is_digit, limit, operand_of}
 use Rattle.operands.proofs.decimal.Statement.{statement}
 use Rattle.operands.proofs.decimal.Tie as tie
 
-at_least : (byte : ℕ) → isDigit byte ≡ true → 48 ≤ byte
-unfolding isDigit
+at_least : (byte : ℕ) → is_digit byte ≡ true → 48 ≤ byte
+unfolding is_digit
 at_least byte e = ltb-false byte 48 (not-true (ltb byte 48) (and-true (not (ltb byte 48)) (ltb byte 58) e).0)
 
-none : (text : List ℕ) → length text ≡ 0 → NotDecimal ≡ operandOf text
-unfolding operandOf
+none : (text : List ℕ) → length text ≡ 0 → NotDecimal ≡ operand_of text
+unfolding operand_of
 none [] e = refl
 none (x ∷ xs) e = absurd (omega arith)
 
-some : (text : List ℕ) → (length text ≡ 0 → ⊥) → operandOf text ≡ after 0 text
-unfolding operandOf
+some : (text : List ℕ) → (length text ≡ 0 → ⊥) → operand_of text ≡ after 0 text
+unfolding operand_of
 some [] e = absurd (e refl)
 some (x ∷ xs) e = refl
 
@@ -34,11 +34,11 @@ module _ (text : List ℕ) (n i : ℕ) (h : i < length text) where
   opened : after n (drop i text) ≡ after n (get_or text i 0 ∷ drop (suc i) text)
   opened = ap (after n) (drop-cons text i 0 h)
 
-  other : isDigit (get_or text i 0) ≡ false → NotDecimal ≡ after n (drop i text)
+  other : is_digit (get_or text i 0) ≡ false → NotDecimal ≡ after n (drop i text)
   unfolding after
   other e = sym (opened ∙ rw e)
 
-  digit : isDigit (get_or text i 0) ≡ true → (m : ℕ) → m ≡ min limit (10 * n + (get_or text i 0 - 48)) → after n (drop i text) ≡ after m (drop (i + 1) text)
+  digit : is_digit (get_or text i 0) ≡ true → (m : ℕ) → m ≡ min limit (10 * n + (get_or text i 0 - 48)) → after n (drop i text) ≡ after m (drop (i + 1) text)
   unfolding after
   digit e m q = opened ∙ rw (e, q, add-one i)
 
@@ -47,7 +47,7 @@ unfolding after
 ended text n i h l = let e : length text ≡ i = omega arith in rw (← e, drop-length text)
 
 abbrev invariant-loop : tie.invariant-loop
-invariant-loop text n₀ i₀ n i = (i ≤ length text) × (n ≤ limit) × (operandOf text ≡ after n (drop i text))
+invariant-loop text n₀ i₀ n i = (i ≤ length text) × (n ≤ limit) × (operand_of text ≡ after n (drop i text))
 
 abbrev decreases-loop : tie.decreases-loop
 decreases-loop text n₀ i₀ n i = length text - i

@@ -1,6 +1,6 @@
 -- `pm::cell_of` meets its contract: it is `cell_of` as it stands. Assumes nothing.
 use mathlib.Core.Path.{refl}
-use Rattle.interleaving.specs.Matrix.{matrixRow, matrixColumn, cell_of}
+use Rattle.interleaving.specs.Matrix.{matrix_row, matrix_column, cell_of}
 use borrow.Author.Rules.{rules}
 use Rattle.pm.proofs.cell_of.Statement.{statement}
 use Rattle.pm.proofs.cell_of.Tie as tie
@@ -24,7 +24,7 @@ add-result-3 : tie.Need-overflow-add-result-3
 add-result-3 c = search rules
 
 returns : tie.Need-returns
-unfolding cell_of matrixRow matrixColumn
+unfolding cell_of matrix_row matrix_column
 returns c = refl
 
 pub cell-of-spec : {M : Type 1} → statement M

@@ -1,8 +1,8 @@
--- `pm::find_by` meets its contract: the table's law `kFor-position`, and the laws `found-p1` and `found-pids`. Assumes nothing.
+-- `pm::find_by` meets its contract: the table's law `k_for-position`, and the laws `found-p1` and `found-pids`. Assumes nothing.
 use mathlib.Core.Path.{ap, sym, ◌∙◌}
 use native.Mathlib.Omega.{arith}
 use Rattle.interleaving.specs.Source.{at}
-use Rattle.interleaving.proofs.TableI.{kFor-position}
+use Rattle.interleaving.proofs.TableI.{k_for-position}
 use Rattle.pm.specs.declared.Bit.TheVariants.{P1, Pids}
 use Rattle.pm.proofs.Cells.{found-p1, found-pids}
 use borrow.Author.Rules.{rules}
@@ -39,7 +39,7 @@ add-t16 c = search rules
 returns : tie.Need-returns
 returns c =
     let start = c.before.before.before in
-    let k-is = c.before.before.k-at.ensures.0 ∙ kFor-position start.args.position start.requires.1.row_lt start.requires.1.column-lt in
+    let k-is = c.before.before.k-at.ensures.0 ∙ k_for-position start.args.position start.requires.1.row_lt start.requires.1.column-lt in
     sym (ap (at P1 Pids) (found-p1 start.args.position _ _ k-is c.before.turn.ensures.0 c.if1.true))
 
 mul-t17 : tie.Need-overflow-mul-t17
@@ -57,7 +57,7 @@ add-t21 c = search rules
 returns-2 : tie.Need-returns-2
 returns-2 c =
     let start = c.before.before.before in
-    let k-is = c.before.before.k-at.ensures.0 ∙ kFor-position start.args.position start.requires.1.row_lt start.requires.1.column-lt in
+    let k-is = c.before.before.k-at.ensures.0 ∙ k_for-position start.args.position start.requires.1.row_lt start.requires.1.column-lt in
     sym (ap (at P1 Pids) (found-pids start.args.position _ _ k-is c.before.turn.ensures.0 (omega arith)))
 
 pub find-by-spec : {M : Type 1} → statement M

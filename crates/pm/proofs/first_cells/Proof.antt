@@ -4,14 +4,14 @@ use Prim.Native.Nat.{ℕ, ◌≤◌, ◌<◌, ◌-◌}
 use native.Mathlib.Omega.{arith}
 use lib.ListN.{length, get_or, length-set}
 use Rattle.bits.proofs.Stores.{set_more}
-use Rattle.interleaving.specs.PM.{p1Place}
-use Rattle.interleaving.proofs.OncePM.{p1Place-lt}
+use Rattle.interleaving.specs.PM.{p1_place}
+use Rattle.interleaving.proofs.OncePM.{p1_place-lt}
 use borrow.Author.Rules.{rules}
 use Rattle.pm.proofs.first_cells.Statement.{statement}
 use Rattle.pm.proofs.first_cells.Tie as tie
 
 abbrev invariant-loop : tie.invariant-loop
-invariant-loop cells₀ t₀ cells t = (t ≤ 320) × (length cells ≡ 320) × ((s : ℕ) → s < t → get_or cells s 0 ≡ p1Place s)
+invariant-loop cells₀ t₀ cells t = (t ≤ 320) × (length cells ≡ 320) × ((s : ℕ) → s < t → get_or cells s 0 ≡ p1_place s)
 
 abbrev decreases-loop : tie.decreases-loop
 decreases-loop cells₀ t₀ cells t = 320 - t
@@ -23,7 +23,7 @@ p1-cell-requires : tie.Need-p1-cell-requires invariant-loop decreases-loop
 p1-cell-requires c κs = search rules
 
 cast-cells : tie.Need-overflow-cast-cells invariant-loop decreases-loop
-cast-cells c = omega (arith, c.p1-cell.ensures, p1Place-lt c.before.before.loop.t (omega arith))
+cast-cells c = omega (arith, c.p1-cell.ensures, p1_place-lt c.before.before.loop.t (omega arith))
 
 mul-cells : tie.Need-overflow-mul-cells invariant-loop decreases-loop
 mul-cells c = search rules
@@ -41,7 +41,7 @@ loop-again : tie.Need-loop-preserved invariant-loop decreases-loop
 loop-again c =
     let loop = c.before.before.loop in
     let inv = loop.invariant in
-    (search rules, simp length-set inv.1, set_more loop.cells p1Place loop.t _ (omega arith) inv.2 c.p1-cell.ensures)
+    (search rules, simp length-set inv.1, set_more loop.cells p1_place loop.t _ (omega arith) inv.2 c.p1-cell.ensures)
 
 returns : tie.Need-returns invariant-loop decreases-loop
 returns c = λ t h. c.before.loop.invariant.2 t (omega arith)

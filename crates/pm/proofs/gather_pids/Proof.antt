@@ -5,14 +5,14 @@ use native.Mathlib.Omega.{arith}
 use lib.ListN.{length}
 use Rattle.bits.specs.Bits.{Bytes, bit_at, written}
 use Rattle.bits.proofs.Packed.{packed-in-order}
-use Rattle.interleaving.specs.PM.{pidsPlace}
+use Rattle.interleaving.specs.PM.{pids_place}
 use borrow.Author.Rules.{rules}
 use Rattle.pm.proofs.gather_pids.Statement.{statement}
 use Rattle.pm.proofs.gather_pids.Tie as tie
 
 abbrev invariant-loop : tie.invariant-loop
 invariant-loop pm coded₀ order m₀ coded m =
-    (m ≤ 160) × (length coded ≡ 400) × Bytes coded × (bit_at coded ≡ written (λ i. i) (λ i. bit_at pm (pidsPlace i)) (20 * m) (bit_at coded₀))
+    (m ≤ 160) × (length coded ≡ 400) × Bytes coded × (bit_at coded ≡ written (λ i. i) (λ i. bit_at pm (pids_place i)) (20 * m) (bit_at coded₀))
 
 abbrev decreases-loop : tie.decreases-loop
 decreases-loop pm coded₀ order m₀ coded m = 160 - m

@@ -7,8 +7,8 @@ use lib.ListN.{length}
 use Rattle.bits.specs.Bits.{bit_at, written}
 use Rattle.bits.proofs.Written.{written_next}
 use Rattle.bits.proofs.Packed.{bit_at_lt}
-use Rattle.interleaving.specs.PM.{pidsPlace}
-use Rattle.interleaving.proofs.OncePM.{pidsPlace-lt}
+use Rattle.interleaving.specs.PM.{pids_place}
+use Rattle.interleaving.proofs.OncePM.{pids_place-lt}
 use Rattle.pm.proofs.Cells.{pids-cell}
 use borrow.Author.Rules.{rules}
 use Rattle.pm.proofs.gather_pids_k.Statement.{statement}
@@ -17,8 +17,8 @@ use Rattle.pm.proofs.gather_pids_k.Tie as tie
 abbrev invariant-loop : tie.invariant-loop
 invariant-loop pm order m start coded₀ s₀ coded s =
     (s ≤ 20) × (length coded ≡ 400)
-    × ((f : ℕ → ℕ) → bit_at coded₀ ≡ written (λ i. i) (λ i. bit_at pm (pidsPlace i)) (20 * m) f
-    → bit_at coded ≡ written (λ i. i) (λ i. bit_at pm (pidsPlace i)) (20 * m + s) f)
+    × ((f : ℕ → ℕ) → bit_at coded₀ ≡ written (λ i. i) (λ i. bit_at pm (pids_place i)) (20 * m) f
+    → bit_at coded ≡ written (λ i. i) (λ i. bit_at pm (pids_place i)) (20 * m + s) f)
 
 abbrev decreases-loop : tie.decreases-loop
 decreases-loop pm order m start coded₀ s₀ coded s = 20 - s
@@ -36,13 +36,13 @@ add-get : tie.Need-overflow-add-get invariant-loop decreases-loop
 add-get c =
     let a = c.before.before.before.before.before.args in
     let n = 20 * a.m + c.before.before.loop.s in
-    omega (arith, pids-cell a.m c.before.before.loop.s a.start c.partition-at.result (omega arith) (omega arith) c.before.before.before.before.before.requires.3 c.partition-at.ensures.0, pidsPlace-lt n (omega arith))
+    omega (arith, pids-cell a.m c.before.before.loop.s a.start c.partition-at.result (omega arith) (omega arith) c.before.before.before.before.before.requires.3 c.partition-at.ensures.0, pids_place-lt n (omega arith))
 
 get-requires : tie.Need-get-requires invariant-loop decreases-loop
 get-requires c κs =
     let a = c.before.before.before.before.before.args in
     let n = 20 * a.m + c.before.before.loop.s in
-    omega (arith, pids-cell a.m c.before.before.loop.s a.start c.partition-at.result (omega arith) (omega arith) c.before.before.before.before.before.requires.3 c.partition-at.ensures.0, pidsPlace-lt n (omega arith))
+    omega (arith, pids-cell a.m c.before.before.loop.s a.start c.partition-at.result (omega arith) (omega arith) c.before.before.before.before.before.requires.3 c.partition-at.ensures.0, pids_place-lt n (omega arith))
 
 mul-put : tie.Need-overflow-mul-put invariant-loop decreases-loop
 mul-put c = search rules

@@ -3,7 +3,7 @@ use mathlib.Core.Path.{◌≡◌, refl, sym, ap, subst, ◌∙◌}
 use native.Mathlib.Omega.{arith}
 use Rattle.interleaving.specs.Matrix.{Inside, cell_of}
 use Rattle.interleaving.proofs.Spot.{spot-inside}
-use Rattle.pm.specs.FirstCells.{pidsStart}
+use Rattle.pm.specs.FirstCells.{pids_start}
 use Rattle.pm.proofs.Cells.{pids-start-lt}
 use borrow.Author.Rules.{rules}
 use Rattle.pm.proofs.pids_start.Statement.{statement}
@@ -22,7 +22,7 @@ cell-of-requires c κs =
 returns : tie.Need-returns
 returns c =
     let m = c.before.before.args.m in
-    let is : c.cell-of.result ≡ pidsStart m = unfold pidsStart in c.cell-of.ensures ∙ ap (cell_of 20 36) c.before.spot.ensures in
+    let is : c.cell-of.result ≡ pids_start m = unfold pids_start in c.cell-of.ensures ∙ ap (cell_of 20 36) c.before.spot.ensures in
     (is, omega (arith, is, pids-start-lt m c.before.before.requires))
 
 pub pids-start-spec : {M : Type 1} → statement M

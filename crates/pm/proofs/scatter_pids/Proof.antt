@@ -5,14 +5,14 @@ use native.Mathlib.Omega.{arith}
 use lib.ListN.{length}
 use Rattle.bits.specs.Bits.{Bytes, bit_at, written}
 use Rattle.bits.proofs.Packed.{packed-as}
-use Rattle.interleaving.specs.PM.{pidsPlace}
+use Rattle.interleaving.specs.PM.{pids_place}
 use borrow.Author.Rules.{rules}
 use Rattle.pm.proofs.scatter_pids.Statement.{statement}
 use Rattle.pm.proofs.scatter_pids.Tie as tie
 
 abbrev invariant-loop : tie.invariant-loop
 invariant-loop coded pm₀ order m₀ pm m =
-    (m ≤ 160) × (length pm ≡ 46080) × Bytes pm × (bit_at pm ≡ written pidsPlace (bit_at coded) (20 * m) (bit_at pm₀))
+    (m ≤ 160) × (length pm ≡ 46080) × Bytes pm × (bit_at pm ≡ written pids_place (bit_at coded) (20 * m) (bit_at pm₀))
 
 abbrev decreases-loop : tie.decreases-loop
 decreases-loop coded pm₀ order m₀ pm m = 160 - m

@@ -7,8 +7,8 @@ use lib.ListN.{length}
 use Rattle.bits.specs.Bits.{bit_at, written}
 use Rattle.bits.proofs.Written.{written_next}
 use Rattle.bits.proofs.Packed.{bit_at_lt}
-use Rattle.interleaving.specs.PM.{pidsPlace}
-use Rattle.interleaving.proofs.OncePM.{pidsPlace-lt}
+use Rattle.interleaving.specs.PM.{pids_place}
+use Rattle.interleaving.proofs.OncePM.{pids_place-lt}
 use Rattle.pm.proofs.Cells.{pids-cell}
 use borrow.Author.Rules.{rules}
 use Rattle.pm.proofs.scatter_pids_k.Statement.{statement}
@@ -17,7 +17,7 @@ use Rattle.pm.proofs.scatter_pids_k.Tie as tie
 abbrev invariant-loop : tie.invariant-loop
 invariant-loop coded order m start pm₀ s₀ pm s =
     (s ≤ 20) × (length pm ≡ 46080)
-    × ((f : ℕ → ℕ) → bit_at pm₀ ≡ written pidsPlace (bit_at coded) (20 * m) f → bit_at pm ≡ written pidsPlace (bit_at coded) (20 * m + s) f)
+    × ((f : ℕ → ℕ) → bit_at pm₀ ≡ written pids_place (bit_at coded) (20 * m) f → bit_at pm ≡ written pids_place (bit_at coded) (20 * m + s) f)
 
 abbrev decreases-loop : tie.decreases-loop
 decreases-loop coded order m start pm₀ s₀ pm s = 20 - s
@@ -44,13 +44,13 @@ add-put : tie.Need-overflow-add-put invariant-loop decreases-loop
 add-put c =
     let a = c.before.before.before.before.before.before.before.args in
     let n = 20 * a.m + c.before.before.before.before.loop.s in
-    omega (arith, pids-cell a.m c.before.before.before.before.loop.s a.start c.before.partition-at.result (omega arith) (omega arith) c.before.before.before.before.before.before.before.requires.3 c.before.partition-at.ensures.0, pidsPlace-lt n (omega arith))
+    omega (arith, pids-cell a.m c.before.before.before.before.loop.s a.start c.before.partition-at.result (omega arith) (omega arith) c.before.before.before.before.before.before.before.requires.3 c.before.partition-at.ensures.0, pids_place-lt n (omega arith))
 
 put-requires : tie.Need-put-requires invariant-loop decreases-loop
 put-requires c κs =
     let a = c.before.before.before.before.before.before.before.args in
     let n = 20 * a.m + c.before.before.before.before.loop.s in
-    omega (arith, pids-cell a.m c.before.before.before.before.loop.s a.start c.before.partition-at.result (omega arith) (omega arith) c.before.before.before.before.before.before.before.requires.3 c.before.partition-at.ensures.0, pidsPlace-lt n (omega arith), bit_at_lt a.coded.now n)
+    omega (arith, pids-cell a.m c.before.before.before.before.loop.s a.start c.before.partition-at.result (omega arith) (omega arith) c.before.before.before.before.before.before.before.requires.3 c.before.partition-at.ensures.0, pids_place-lt n (omega arith), bit_at_lt a.coded.now n)
 
 add-s : tie.Need-overflow-add-s invariant-loop decreases-loop
 add-s c = search rules
@@ -65,7 +65,7 @@ loop-again c =
     let n : ℕ = 20 * a.m + loop.s in
     let cell = pids-cell a.m loop.s a.start c.before.before.before.before.partition-at.result (omega arith) (omega arith) c.before.before.before.before.before.before.before.before.before.before.requires.3 c.before.before.before.before.partition-at.ensures.0 in
     let next : 20 * a.m + (loop.s + 1) ≡ n + 1 = omega arith in
-    (search rules, search rules, λ f e. rw next (written_next pidsPlace _ n f _ _ (loop.invariant.2 f e) cell c.before.before.before.before.before.get.ensures c.before.before.put.ensures))
+    (search rules, search rules, λ f e. rw next (written_next pids_place _ n f _ _ (loop.invariant.2 f e) cell c.before.before.before.before.before.get.ensures c.before.before.put.ensures))
 
 same_length : tie.Need-same-length invariant-loop decreases-loop
 same_length c = search rules

@@ -1,8 +1,8 @@
--- `pm::shown` meets its contract: it is `shownOf` as it stands. Assumes nothing.
+-- `pm::shown` meets its contract: it is `shown_of` as it stands. Assumes nothing.
 use mathlib.Core.Path.{ap}
 use Prim.Native.Nat.{ℕ, ◌+◌, ◌-◌, ◌*◌, ◌%◌}
 use native.Mathlib.Omega.{arith}
-use Rattle.pm.specs.Rows.{shownOf}
+use Rattle.pm.specs.Rows.{shown_of}
 use borrow.Author.Rules.{rules}
 use Rattle.pm.proofs.shown.Statement.{statement}
 use Rattle.pm.proofs.shown.Tie as tie
@@ -26,7 +26,7 @@ add-result-2 : tie.Need-overflow-add-result-2
 add-result-2 c = search rules
 
 returns : tie.Need-returns
-unfolding shownOf
+unfolding shown_of
 returns c =
     let a = c.before.args in
     (ap (λ (s : ℕ). 20 * ((a.b + (16 - a.p * 7 % 16)) % 16) + s) c.turn.ensures.0, omega arith)

@@ -6,15 +6,15 @@ use native.Mathlib.Omega.{arith}
 use lib.ListN.{length}
 use Rattle.bits.specs.Bits.{bit_at}
 use Rattle.bits.proofs.Tests.{lowest-at, lowest-none}
-use Rattle.interleaving.specs.PX.{isFill, firstFill, codedBits}
-use Rattle.interleaving.proofs.PXKinds.{codedBytes-le}
+use Rattle.interleaving.specs.PX.{is_fill, first_fill, coded_bits}
+use Rattle.interleaving.proofs.PXKinds.{coded_bytes-le}
 use Rattle.px.proofs.Frames.{byte_more}
 use borrow.Author.Rules.{rules}
 use Rattle.px.proofs.first_fill.Statement.{statement}
 use Rattle.px.proofs.first_fill.Tie as tie
 
 abbrev invariant-loop : tie.invariant-loop
-invariant-loop kind half px j₀ j = (j ≤ length px) × ((i : ℕ) → i < 8 * j → isFill kind half (bit_at px) i ≡ false)
+invariant-loop kind half px j₀ j = (j ≤ length px) × ((i : ℕ) → i < 8 * j → is_fill kind half (bit_at px) i ≡ false)
 
 abbrev decreases-loop : tie.decreases-loop
 decreases-loop kind half px j₀ j = length px - j
@@ -26,17 +26,17 @@ fill-in-byte-requires : tie.Need-fill-in-byte-requires invariant-loop decreases-
 fill-in-byte-requires c κs = search rules
 
 mul-if1 : tie.Need-overflow-mul-if1 invariant-loop decreases-loop
-mul-if1 c = omega (arith, codedBytes-le c.before.before.before.before.args.kind c.before.before.before.before.requires.0)
+mul-if1 c = omega (arith, coded_bytes-le c.before.before.before.before.args.kind c.before.before.before.before.requires.0)
 
 add-if1 : tie.Need-overflow-add-if1 invariant-loop decreases-loop
-add-if1 c = omega (arith, codedBytes-le c.before.before.before.before.args.kind c.before.before.before.before.requires.0)
+add-if1 c = omega (arith, coded_bytes-le c.before.before.before.before.args.kind c.before.before.before.before.requires.0)
 
 returns : tie.Need-returns invariant-loop decreases-loop
-unfolding firstFill
+unfolding first_fill
 returns c =
     let r = c.before.fill-in-byte in
     let here = r.ensures.1.1 c.if1.true in
-    let below : r.result < codedBits c.before.before.before.before.before.args.kind = omega (arith, c.before.before.loop-test.true, c.if1.true) in
+    let below : r.result < coded_bits c.before.before.before.before.before.args.kind = omega (arith, c.before.before.loop-test.true, c.if1.true) in
     sym (lowest-at _ r.result _ below (byte_more _ c.before.before.before.loop.j r.result c.before.before.before.loop.invariant.1 r.ensures.0) here.1)
 
 add-j : tie.Need-overflow-add-j invariant-loop decreases-loop
@@ -52,12 +52,12 @@ loop-again c =
     (search rules, λ i l. byte_more _ c.before.before.before.loop.j r.result c.before.before.before.loop.invariant.1 r.ensures.0 i (omega arith))
 
 mul-result : tie.Need-overflow-mul-result invariant-loop decreases-loop
-mul-result c = omega (arith, codedBytes-le c.before.before.before.args.kind c.before.before.before.requires.0)
+mul-result c = omega (arith, coded_bytes-le c.before.before.before.args.kind c.before.before.before.requires.0)
 
 returns-2 : tie.Need-returns-2 invariant-loop decreases-loop
-unfolding firstFill
+unfolding first_fill
 returns-2 c =
-    let n : 8 * length c.before.before.before.args.px.now ≡ codedBits c.before.before.before.args.kind = omega arith in
+    let n : 8 * length c.before.before.before.args.px.now ≡ coded_bits c.before.before.before.args.kind = omega arith in
     n ∙ sym (lowest-none _ _ (λ i l. c.before.loop.invariant.1 i (omega arith)))
 
 pub first-fill-spec : {M : Type 1} → statement M

@@ -3,7 +3,7 @@ use mathlib.Core.Path.{◌≡◌}
 use Prim.Native.Nat.{◌+◌, ◌-◌, ◌*◌, ◌≤◌}
 use native.Mathlib.Omega.{arith}
 use lib.ListN.{length}
-use Rattle.interleaving.specs.PX.{partitions, codedBytes}
+use Rattle.interleaving.specs.PX.{partitions, coded_bytes}
 use Rattle.px.specs.Merged.{Status}
 use Rattle.px.proofs.Merging.{status-none}
 use Rattle.px_steps.proofs.Residues.{size-le}
@@ -12,7 +12,7 @@ use Rattle.px.proofs.merge.Statement.{statement}
 use Rattle.px.proofs.merge.Tie as tie
 
 abbrev invariant-loop : tie.invariant-loop
-invariant-loop kind half memory₀ px₀ nears size g₀ memory px g = (length memory ≡ 2 * codedBytes kind) × (length px ≡ codedBytes kind)
+invariant-loop kind half memory₀ px₀ nears size g₀ memory px g = (length memory ≡ 2 * coded_bytes kind) × (length px ≡ coded_bytes kind)
     × Status kind half memory px memory₀ px₀ (16 * g) × (g ≤ size)
 
 abbrev decreases-loop : tie.decreases-loop

@@ -5,7 +5,7 @@ use Prim.Native.Nat.{ℕ, ◌+◌, ◌-◌, ◌*◌, ◌≤◌}
 use native.Mathlib.Nat.{add-zero}
 use native.Mathlib.Omega.{arith}
 use lib.ListN.{length}
-use Rattle.interleaving.specs.PX.{codedBytes}
+use Rattle.interleaving.specs.PX.{coded_bytes}
 use Rattle.px.specs.Merged.{Status}
 use borrow.Author.Rules.{rules}
 use Rattle.px_steps.proofs.Residues.{stored_at}
@@ -14,7 +14,7 @@ use Rattle.px.proofs.merge_turns.Statement.{statement}
 use Rattle.px.proofs.merge_turns.Tie as tie
 
 abbrev invariant-loop : tie.invariant-loop
-invariant-loop kind half nears a b seen g memory₀ px₀ size t₀ memory px t = (t ≤ 16) × (length memory ≡ 2 * codedBytes kind) × (length px ≡ codedBytes kind)
+invariant-loop kind half nears a b seen g memory₀ px₀ size t₀ memory px t = (t ≤ 16) × (length memory ≡ 2 * coded_bytes kind) × (length px ≡ coded_bytes kind)
     × ((m p : List ℕ) → Status kind half memory₀ px₀ m p (16 * g) → Status kind half memory px m p (16 * g + t))
 
 abbrev decreases-loop : tie.decreases-loop

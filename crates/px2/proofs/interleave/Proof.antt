@@ -4,7 +4,7 @@ use Prim.Native.Nat.{ℕ, ◌≤◌, ◌+◌, ◌-◌, ◌*◌}
 use native.Mathlib.Omega.{arith}
 use lib.ListN.{length}
 use Rattle.bits.specs.Bits.{bit_at}
-use Rattle.px2.specs.Places.{byteIn, Changed}
+use Rattle.px2.specs.Places.{byte_in, Changed}
 use Rattle.px2.proofs.Laws.{changed-none, changed-at, bytes_of, frame-fits, whole}
 use borrow.Author.Rules.{rules}
 use Rattle.px2.proofs.interleave.Statement.{statement}
@@ -12,7 +12,7 @@ use Rattle.px2.proofs.interleave.Tie as tie
 
 abbrev invariant-loop : tie.invariant-loop
 invariant-loop row f coded px2₀ m spreads starts first y₀ px2 y =
-    (y ≤ 64) × (length px2 ≡ length px2₀) × Changed first (18 * ((row + 1) * y)) (byteIn row (bit_at coded)) px2₀ px2
+    (y ≤ 64) × (length px2 ≡ length px2₀) × Changed first (18 * ((row + 1) * y)) (byte_in row (bit_at coded)) px2₀ px2
 
 abbrev decreases-loop : tie.decreases-loop
 decreases-loop row f coded px2₀ m spreads starts first y₀ px2 y = 64 - y

@@ -6,7 +6,7 @@ use native.Mathlib.Omega.{arith}
 use lib.ListN.{length}
 use Rattle.bits.specs.Bits.{bit_at}
 use Rattle.bits.proofs.Packed.{bit_at_lt}
-use Rattle.px2.specs.Places.{byteIn, Changed}
+use Rattle.px2.specs.Places.{byte_in, Changed}
 use Rattle.px2.proofs.Laws.{changed-at, pair-turned, row_fits}
 use borrow.Author.Rules.{rules}
 use Rattle.px2.proofs.write_row.Statement.{statement}
@@ -15,7 +15,7 @@ use Rattle.px2.proofs.write_row.Tie as tie
 abbrev invariant-loop : tie.invariant-loop
 invariant-loop row spreads starts coded first y px2₀ m b r nibbles n from q₀ px2 q =
     (q ≤ n) × (length px2 ≡ length px2₀)
-    × ((l : List ℕ) → Changed first (18 * ((row + 1) * y)) (byteIn row (bit_at coded)) l px2₀ → Changed first (18 * ((row + 1) * y) + 9 * q) (byteIn row (bit_at coded)) l px2)
+    × ((l : List ℕ) → Changed first (18 * ((row + 1) * y)) (byte_in row (bit_at coded)) l px2₀ → Changed first (18 * ((row + 1) * y) + 9 * q) (byte_in row (bit_at coded)) l px2)
 
 abbrev decreases-loop : tie.decreases-loop
 decreases-loop row spreads starts coded first y px2₀ m b r nibbles n from q₀ px2 q = n - q
@@ -95,7 +95,7 @@ loop-again c =
       search rules,
       search rules,
       λ l d. changed-at _
-          (c.before.before.write-pair.ensures f (byteIn a.row f) a.starts.now l (36 * (a.y % 32)) (bit_at_lt a.coded.now) c.before.before.before.before.before.before.before.before.before.before.before.row-nibbles.ensures
+          (c.before.before.write-pair.ensures f (byte_in a.row f) a.starts.now l (36 * (a.y % 32)) (bit_at_lt a.coded.now) c.before.before.before.before.before.before.before.before.before.before.before.row-nibbles.ensures
           (pair-turned a.row f a.starts.now a.y loop.q s.requires.0 s.requires.4 (omega arith) s.requires.2 c.before.before.before.before.before.before.turn.ensures.0 c.before.before.before.before.before.turn2.ensures.0) (loop.invariant.2 l d))
           (omega arith),
     )

@@ -6,7 +6,7 @@ use lib.ListN.{length, get_or, length-set}
 use Rattle.bits.proofs.Stores.{set_more}
 use Rattle.interleaving.specs.PX.{runs, later, cells, place, step_of}
 use Rattle.interleaving.proofs.OncePX.{place-lt}
-use Rattle.interleaving.proofs.PXKinds.{codedBytes-le}
+use Rattle.interleaving.proofs.PXKinds.{coded_bytes-le}
 use Rattle.px_gather.proofs.Delayed.{first-sums, entry-le}
 use Rattle.px_steps.proofs.Residues.{in-entries, size-le}
 use borrow.Author.Rules.{rules}
@@ -78,7 +78,7 @@ later-requires c κs =
       omega (arith, n, inside),
       omega (arith, n, cell-is c),
       omega arith,
-      omega (arith, n, codedBytes-le a.kind pre.0),
+      omega (arith, n, coded_bytes-le a.kind pre.0),
     )
 
 mul-delays : tie.Need-overflow-mul-delays invariant-loop decreases-loop

@@ -4,7 +4,7 @@ use Prim.Native.Nat.{ℕ, ◌+◌, ◌-◌, ◌*◌, ◌<◌}
 use native.Mathlib.Omega.{arith}
 use lib.ListN.{length, get_or}
 use Rattle.bits.specs.Bits.{bit_at, byte_of}
-use Rattle.interleaving.specs.PX.{partitions, codedBytes, later}
+use Rattle.interleaving.specs.PX.{partitions, coded_bytes, later}
 use Rattle.px_steps.proofs.Residues.{residue-more, residues-all}
 use borrow.Author.Rules.{rules}
 use Rattle.px_gather.proofs.gather.Statement.{statement}
@@ -12,7 +12,7 @@ use Rattle.px_gather.proofs.gather.Tie as tie
 
 abbrev invariant-loop : tie.invariant-loop
 invariant-loop kind half three coded₀ parts counts size g₀ coded g =
-    (length coded ≡ codedBytes kind)
+    (length coded ≡ coded_bytes kind)
     × ((t h : ℕ) → t < 16 → h < g → get_or coded (144 * partitions kind * t + h) 0 ≡ byte_of (λ i. bit_at three (later kind half i)) (144 * partitions kind * t + h))
 
 abbrev decreases-loop : tie.decreases-loop

@@ -6,8 +6,8 @@ use lib.ListN.{get_or}
 use Rattle.bits.specs.Bits.{bit_at, number}
 use Rattle.bits.proofs.Packed.{bit_at_lt}
 use Rattle.bits.proofs.Stores.{number-turn}
-use Rattle.interleaving.specs.PX.{partitions, codedBits, later}
-use Rattle.interleaving.proofs.PXKinds.{codedBytes-le}
+use Rattle.interleaving.specs.PX.{partitions, coded_bits, later}
+use Rattle.interleaving.proofs.PXKinds.{coded_bytes-le}
 use Rattle.px_gather.proofs.Delayed.{later-found}
 use Rattle.px_steps.proofs.Residues.{turn-le}
 use borrow.Author.Rules.{rules}
@@ -41,7 +41,7 @@ place_is : (c : tie.After-get-arg invariant-loop decreases-loop)
     → let a = c.before.before.before.before.before.args in
     let u = c.before.before.loop.u in
     let l = c.before.before.before.block.result * a.t + get_or a.delays.now u 0 in
-    (l ≡ later a.kind a.half (8 * (144 * partitions a.kind * a.t + a.g) + u)) × (l < 3 * codedBits a.kind)
+    (l ≡ later a.kind a.half (8 * (144 * partitions a.kind * a.t + a.g) + u)) × (l < 3 * coded_bits a.kind)
 place_is c =
     let a = c.before.before.before.before.before.args in
     let pre = c.before.before.before.before.before.requires in
@@ -51,7 +51,7 @@ place_is c =
     later-found a.kind a.half a.t a.g u _ _ pre.0 pre.1 pre.3 pre.2 hu i (pre.4 u hu)
 
 add-get : tie.Need-overflow-add-get invariant-loop decreases-loop
-add-get c = omega (arith, (place_is c).0, (place_is c).1, codedBytes-le c.before.before.before.before.before.args.kind c.before.before.before.before.before.requires.0)
+add-get c = omega (arith, (place_is c).0, (place_is c).1, coded_bytes-le c.before.before.before.before.before.args.kind c.before.before.before.before.before.requires.0)
 
 get-requires : tie.Need-get-requires invariant-loop decreases-loop
 get-requires c κs = omega (arith, (place_is c).0, (place_is c).1)

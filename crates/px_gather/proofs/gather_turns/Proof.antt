@@ -4,8 +4,8 @@ use Prim.Native.Nat.{ℕ, ◌+◌, ◌-◌, ◌*◌, ◌/◌, ◌≤◌, ◌<◌
 use native.Mathlib.Omega.{arith}
 use lib.ListN.{length, get_or, length-set}
 use Rattle.bits.specs.Bits.{bit_at, byte_of}
-use Rattle.interleaving.specs.PX.{partitions, codedBytes, later}
-use Rattle.interleaving.proofs.PXKinds.{codedBytes-le}
+use Rattle.interleaving.specs.PX.{partitions, coded_bytes, later}
+use Rattle.interleaving.proofs.PXKinds.{coded_bytes-le}
 use Rattle.px_steps.proofs.Residues.{in_frame, turn_more, others-stay, turn-le}
 use borrow.Author.Rules.{rules}
 use Rattle.px_gather.proofs.gather_turns.Statement.{statement}
@@ -13,7 +13,7 @@ use Rattle.px_gather.proofs.gather_turns.Tie as tie
 
 abbrev invariant-loop : tie.invariant-loop
 invariant-loop kind half delays g three coded₀ size t₀ coded t =
-    (t ≤ 16) × (length coded ≡ codedBytes kind)
+    (t ≤ 16) × (length coded ≡ coded_bytes kind)
     × ((s : ℕ) → s < t → get_or coded (144 * partitions kind * s + g) 0 ≡ byte_of (λ i. bit_at three (later kind half i)) (144 * partitions kind * s + g))
     × ((s h : ℕ) → h < g → get_or coded (144 * partitions kind * s + h) 0 ≡ get_or coded₀ (144 * partitions kind * s + h) 0)
 
@@ -36,7 +36,7 @@ stored_at : (c : tie.After-gather-byte invariant-loop decreases-loop)
     → let a = c.before.before.before.before.before.before.args in
     let t = c.before.before.loop.t in
     let size = c.before.before.before.block.result / 8 in
-    (size * t + a.g < codedBytes a.kind) × (size * t ≤ 4608 * 15) × (codedBytes a.kind ≤ 9216) × (size * t + a.g ≡ 144 * partitions a.kind * t + a.g)
+    (size * t + a.g < coded_bytes a.kind) × (size * t ≤ 4608 * 15) × (coded_bytes a.kind ≤ 9216) × (size * t + a.g ≡ 144 * partitions a.kind * t + a.g)
 stored_at c =
     let a = c.before.before.before.before.before.before.args in
     let pre = c.before.before.before.before.before.before.requires in
@@ -47,7 +47,7 @@ stored_at c =
     let e : c.before.before.before.block.result / 8 * t + a.g ≡ 144 * partitions a.kind * t + a.g = ap (λ (w : ℕ). w * t + a.g) size in (
       rw e (in_frame a.kind t a.g 0 pre.0 taken pre.2 (omega arith)).0,
       turn-le _ t (omega (arith, block.1)) taken,
-      codedBytes-le a.kind pre.0,
+      coded_bytes-le a.kind pre.0,
       e,
     )
 

@@ -6,13 +6,13 @@ use lib.ListN.{length, length-set}
 use Rattle.interleaving.specs.PX.{runs}
 use Rattle.transposing.specs.Words.{Begins}
 use Rattle.transposing.proofs.Words.{begins-none, begins-turn, begins-at}
-use Rattle.px_lanes.specs.Laid.{laneAt}
+use Rattle.px_lanes.specs.Laid.{lane_at}
 use borrow.Author.Rules.{rules}
 use Rattle.px_lanes.proofs.fill_lanes.Statement.{statement}
 use Rattle.px_lanes.proofs.fill_lanes.Tie as tie
 
 abbrev invariant-loop : tie.invariant-loop
-invariant-loop kind lanes₀ n i₀ lanes i = (i ≤ n) × (length lanes ≡ 1024) × Begins (laneAt kind) i lanes
+invariant-loop kind lanes₀ n i₀ lanes i = (i ≤ n) × (length lanes ≡ 1024) × Begins (lane_at kind) i lanes
 
 abbrev decreases-loop : tie.decreases-loop
 decreases-loop kind lanes₀ n i₀ lanes i = n - i
@@ -42,7 +42,7 @@ loop-less : tie.Need-loop-smaller invariant-loop decreases-loop
 loop-less c = search rules
 
 loop-again : tie.Need-loop-preserved invariant-loop decreases-loop
-unfolding laneAt
+unfolding lane_at
 loop-again c =
     let loop = c.before.before.loop in (
       omega (arith, c.before.loop-test.true),

@@ -5,7 +5,7 @@ use native.Mathlib.Omega.{arith}
 use lib.ListN.{length, length-set}
 use Rattle.transposing.specs.Words.{Begins}
 use Rattle.transposing.proofs.Words.{begins-turn, begins-at}
-use Rattle.px_lanes.specs.Laid.{quadAt}
+use Rattle.px_lanes.specs.Laid.{quad_at}
 use Rattle.px_lanes.proofs.LaneLaws.{quad-found}
 use borrow.Author.Rules.{rules}
 use Rattle.px_lanes.proofs.four_columns.Statement.{statement}
@@ -13,7 +13,7 @@ use Rattle.px_lanes.proofs.four_columns.Tie as tie
 
 abbrev invariant-loop : tie.invariant-loop
 invariant-loop kind lanes r z coded quads₀ n first second third fourth d₀ quads d =
-    (d ≤ 16) × (length quads ≡ 144) × (Begins (quadAt kind coded r) (16 * z) quads₀ → Begins (quadAt kind coded r) (16 * z + d) quads)
+    (d ≤ 16) × (length quads ≡ 144) × (Begins (quad_at kind coded r) (16 * z) quads₀ → Begins (quad_at kind coded r) (16 * z + d) quads)
 
 abbrev decreases-loop : tie.decreases-loop
 decreases-loop kind lanes r z coded quads₀ n first second third fourth d₀ quads d = 16 - d

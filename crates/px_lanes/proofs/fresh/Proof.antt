@@ -3,7 +3,7 @@ use mathlib.Core.Path.{◌≡◌, refl}
 use Prim.Native.Nat.{◌-◌, ◌*◌, ◌/◌, ◌≤◌}
 use native.Mathlib.Omega.{arith}
 use lib.ListN.{length}
-use Rattle.interleaving.specs.PX.{partitions, codedBytes}
+use Rattle.interleaving.specs.PX.{partitions, coded_bytes}
 use Rattle.px_steps.proofs.Residues.{residues-all}
 use Rattle.px_lanes.specs.Laid.{Laid}
 use Rattle.px_lanes.proofs.LaneLaws.{rows_all, laid-at, laid_none}
@@ -13,7 +13,7 @@ use Rattle.px_lanes.proofs.fresh.Tie as tie
 
 abbrev invariant-loop : tie.invariant-loop
 invariant-loop kind coded px₀ lanes quads₀ r₀ px quads r =
-    (r ≤ 32) × (length px ≡ codedBytes kind) × (length quads ≡ 144) × Laid kind coded (9 * (partitions kind / 2) * r) px
+    (r ≤ 32) × (length px ≡ coded_bytes kind) × (length quads ≡ 144) × Laid kind coded (9 * (partitions kind / 2) * r) px
 
 abbrev decreases-loop : tie.decreases-loop
 decreases-loop kind coded px₀ lanes quads₀ r₀ px quads r = 32 - r

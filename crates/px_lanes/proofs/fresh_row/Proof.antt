@@ -4,9 +4,9 @@ use mathlib.Core.List.{List}
 use Prim.Native.Nat.{ℕ, ◌+◌, ◌-◌, ◌*◌, ◌/◌, ◌≤◌, ◌<◌}
 use native.Mathlib.Omega.{arith}
 use lib.ListN.{length}
-use Rattle.interleaving.specs.PX.{partitions, codedBytes}
+use Rattle.interleaving.specs.PX.{partitions, coded_bytes}
 use Rattle.transposing.specs.Words.{Begins}
-use Rattle.px_lanes.specs.Laid.{quadAt, Laid}
+use Rattle.px_lanes.specs.Laid.{quad_at, Laid}
 use Rattle.px_lanes.proofs.LaneLaws.{row-sums, row_next, laid-at}
 use borrow.Author.Rules.{rules}
 use Rattle.px_lanes.proofs.fresh_row.Statement.{statement}
@@ -14,8 +14,8 @@ use Rattle.px_lanes.proofs.fresh_row.Tie as tie
 
 abbrev invariant-loop : tie.invariant-loop
 invariant-loop kind quads r px₀ w k₀ px k =
-    (k ≤ w) × (length px ≡ codedBytes kind)
-    × ((l : List ℕ) → Begins (quadAt kind l r) 144 quads → Laid kind l (9 * (partitions kind / 2) * r) px₀ → Laid kind l (9 * (partitions kind / 2) * r + k) px)
+    (k ≤ w) × (length px ≡ coded_bytes kind)
+    × ((l : List ℕ) → Begins (quad_at kind l r) 144 quads → Laid kind l (9 * (partitions kind / 2) * r) px₀ → Laid kind l (9 * (partitions kind / 2) * r + k) px)
 
 abbrev decreases-loop : tie.decreases-loop
 decreases-loop kind quads r px₀ w k₀ px k = w - k

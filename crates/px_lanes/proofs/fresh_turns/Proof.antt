@@ -5,11 +5,11 @@ use Prim.Native.Nat.{ℕ, ◌+◌, ◌-◌, ◌*◌, ◌/◌, ◌%◌, ◌≤◌
 use native.Mathlib.Omega.{arith}
 use lib.ListN.{length, get_or, length-set}
 use Rattle.bits.specs.Bits.{bit_at, byte_of}
-use Rattle.interleaving.specs.PX.{partitions, codedBytes, codedBits}
+use Rattle.interleaving.specs.PX.{partitions, coded_bytes, coded_bits}
 use Rattle.interleaving.specs.FinderPX.{source}
 use Rattle.transposing.specs.Words.{Begins}
 use Rattle.px_steps.proofs.Residues.{turn_more, others-stay, residue-more, stored_at}
-use Rattle.px_lanes.specs.Laid.{quadAt}
+use Rattle.px_lanes.specs.Laid.{quad_at}
 use Rattle.px_lanes.proofs.LaneLaws.{byte-laid}
 use borrow.Author.Rules.{rules}
 use Rattle.px_lanes.proofs.fresh_turns.Statement.{statement}
@@ -17,9 +17,9 @@ use Rattle.px_lanes.proofs.fresh_turns.Tie as tie
 
 abbrev invariant-loop : tie.invariant-loop
 invariant-loop kind quads k g px₀ size t₀ px t =
-    (t ≤ 16) × (length px ≡ codedBytes kind)
-    × ((l : List ℕ) (r : ℕ) → r < 32 → 2 * k < 9 * partitions kind → 2 * g ≡ 9 * partitions kind * r + 2 * k → Begins (quadAt kind l r) 144 quads
-    → (s : ℕ) → s < t → get_or px (144 * partitions kind * s + g) 0 ≡ byte_of (λ i. bit_at l (source kind i % codedBits kind)) (144 * partitions kind * s + g))
+    (t ≤ 16) × (length px ≡ coded_bytes kind)
+    × ((l : List ℕ) (r : ℕ) → r < 32 → 2 * k < 9 * partitions kind → 2 * g ≡ 9 * partitions kind * r + 2 * k → Begins (quad_at kind l r) 144 quads
+    → (s : ℕ) → s < t → get_or px (144 * partitions kind * s + g) 0 ≡ byte_of (λ i. bit_at l (source kind i % coded_bits kind)) (144 * partitions kind * s + g))
     × ((s h : ℕ) → h < g → get_or px (144 * partitions kind * s + h) 0 ≡ get_or px₀ (144 * partitions kind * s + h) 0)
 
 abbrev decreases-loop : tie.decreases-loop
@@ -61,8 +61,8 @@ place_at : (c : tie.After-nibble2 invariant-loop decreases-loop)
     → let a = c.before.before.before.before.before.before.args in
     let t = c.before.before.before.loop.t in
     let w = c.before.before.before.before.block.result in
-    (w / 8 * t + a.g ≡ 144 * partitions a.kind * t + a.g) × (w / 8 * t + a.g < codedBytes a.kind) × (w / 8 * t ≤ 4608 * 15)
-    × (codedBytes a.kind ≤ 9216)
+    (w / 8 * t + a.g ≡ 144 * partitions a.kind * t + a.g) × (w / 8 * t + a.g < coded_bytes a.kind) × (w / 8 * t ≤ 4608 * 15)
+    × (coded_bytes a.kind ≤ 9216)
 place_at c =
     let at-loop-test = c.before.before in
     let at-loop = at-loop-test.before in
@@ -100,7 +100,7 @@ loop-again c =
       omega arith,
       simp length-set loop.invariant.1,
       λ l r hr hk e b. turn_more a.kind a.g loop.t _ _ loop.px pre.0 pre.2 taken (place_at c).0 loop.invariant.1
-          (byte_of (λ i. bit_at l (source a.kind i % codedBits a.kind))) (loop.invariant.2 l r hr hk e b)
+          (byte_of (λ i. bit_at l (source a.kind i % coded_bits a.kind))) (loop.invariant.2 l r hr hk e b)
           (byte-laid a.kind l loop.t r a.k a.g _ _ a.quads.now pre.0 taken hr hk e b c.before.nibble.ensures.0
           c.nibble2.ensures.0),
       λ s h l. others-stay a.kind a.g loop.t _ _ loop.px pre.0 pre.2 taken (place_at c).0 loop.invariant.1 s h l ∙ loop.invariant.3 s h l,
@@ -116,7 +116,7 @@ returns c =
     let loop = c.before.loop in
     λ l r hr hk e b laid.
     record {
-      is = residue-more a.kind a.g (byte_of (λ i. bit_at l (source a.kind i % codedBits a.kind))) a.px.now loop.px laid.is
+      is = residue-more a.kind a.g (byte_of (λ i. bit_at l (source a.kind i % coded_bits a.kind))) a.px.now loop.px laid.is
           (λ t h. loop.invariant.2 l r hr hk e b t (omega (arith, c.loop-test.false))) loop.invariant.3;
     }
 

@@ -2,7 +2,7 @@
 use native.Mathlib.Nat.{mod-lt}
 use native.Mathlib.Omega.{arith}
 use Rattle.interleaving.proofs.PXKinds.{kind-is}
-use Rattle.px_lanes.specs.Laid.{laneBit}
+use Rattle.px_lanes.specs.Laid.{lane_bit}
 use Rattle.px_lanes.proofs.LaneLaws.{lane-step}
 use borrow.Author.Rules.{rules}
 use Rattle.px_lanes.proofs.lane_bit.Statement.{statement}
@@ -32,7 +32,7 @@ cast-result : tie.Need-overflow-cast-result
 cast-result c = search rules
 
 returns : tie.Need-returns
-unfolding laneBit
+unfolding lane_bit
 returns c = (rw (c.step.ensures, c.before.partitions.ensures.0), omega arith)
 
 pub lane-bit-spec : {M : Type 1} → statement M

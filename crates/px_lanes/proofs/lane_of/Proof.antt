@@ -3,7 +3,7 @@ use mathlib.Core.Path.{◌≡◌}
 use Prim.Native.Nat.{ℕ, ◌+◌, ◌-◌, ◌*◌, ◌/◌, ◌%◌, ◌^◌, ◌≤◌, ◌<◌}
 use native.Mathlib.Omega.{arith}
 use lib.Bits.{bit_and}
-use Rattle.interleaving.specs.PX.{partitions, runs, codedBytes}
+use Rattle.interleaving.specs.PX.{partitions, runs, coded_bytes}
 use Rattle.px_steps.proofs.Words.{mask-of-M}
 use Rattle.px_lanes.proofs.LaneLaws.{read_at, looked-up}
 use borrow.Author.Rules.{rules}
@@ -25,7 +25,7 @@ byte_at : (c : tie.After-block)
     let t = (a.d + (1152 - a.n)) % 16 in
     let size = c.block.result / 8 in
     (size * t + a.n / 2 ^ (2 - a.kind) ≡ 144 * partitions a.kind * t + a.n / runs a.kind)
-    × (size * t + a.n / 2 ^ (2 - a.kind) < codedBytes a.kind) × (size * t ≤ 4608 * 15) × (codedBytes a.kind ≤ 9216)
+    × (size * t + a.n / 2 ^ (2 - a.kind) < coded_bytes a.kind) × (size * t ≤ 4608 * 15) × (coded_bytes a.kind ≤ 9216)
 byte_at c =
     let a = c.before.before.args in
     let pre = c.before.before.requires in

@@ -5,13 +5,13 @@ use native.Mathlib.Omega.{arith}
 use lib.ListN.{length}
 use Rattle.transposing.specs.Words.{Begins}
 use Rattle.transposing.proofs.Words.{begins-none, begins-at}
-use Rattle.px_lanes.specs.Laid.{quadAt}
+use Rattle.px_lanes.specs.Laid.{quad_at}
 use borrow.Author.Rules.{rules}
 use Rattle.px_lanes.proofs.row_quads.Statement.{statement}
 use Rattle.px_lanes.proofs.row_quads.Tie as tie
 
 abbrev invariant-loop : tie.invariant-loop
-invariant-loop kind lanes r coded quads₀ z₀ quads z = (z ≤ 9) × (length quads ≡ 144) × Begins (quadAt kind coded r) (16 * z) quads
+invariant-loop kind lanes r coded quads₀ z₀ quads z = (z ≤ 9) × (length quads ≡ 144) × Begins (quad_at kind coded r) (16 * z) quads
 
 abbrev decreases-loop : tie.decreases-loop
 decreases-loop kind lanes r coded quads₀ z₀ quads z = 9 - z

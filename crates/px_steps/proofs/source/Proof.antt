@@ -5,7 +5,7 @@ use native.Mathlib.Nat.{div-add-mod'}
 use native.Mathlib.Omega.{arith}
 use Rattle.interleaving.specs.InverseIV.{index}
 use Rattle.interleaving.specs.PX.{partitions, runs}
-use Rattle.interleaving.proofs.PXKinds.{codedBytes-le}
+use Rattle.interleaving.proofs.PXKinds.{coded_bytes-le}
 use Rattle.px_steps.proofs.Words.{row-of-is, column-is}
 use Rattle.px_steps.proofs.Cells.{part-of-lt, block-of-lt, source_is}
 use borrow.Author.Rules.{rules}
@@ -28,7 +28,7 @@ row-le c =
     rw (row-of-is a.kind c.before.requires.0 a.c, c.partitions.ensures.0) (omega (arith, div-add-mod' a.c (partitions a.kind * 36)))
 
 mul-x-2 : tie.Need-overflow-mul-x-2
-mul-x-2 c = omega (arith, row-le c, codedBytes-le c.before.args.kind c.before.requires.0)
+mul-x-2 c = omega (arith, row-le c, coded_bytes-le c.before.args.kind c.before.requires.0)
 
 sub-x : tie.Need-overflow-sub-x
 sub-x c = row-le c

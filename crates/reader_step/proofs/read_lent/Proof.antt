@@ -3,7 +3,7 @@ use mathlib.Core.Path.{◌∙◌, sym}
 use native.Mathlib.Omega.{arith}
 use Rattle.messages.specs.Lines.{in_words}
 use Rattle.steps.proofs.Taken.{was-done, was-refused}
-use Rattle.reader_step.specs.Returned.{frameBytes}
+use Rattle.reader_step.specs.Returned.{frame_bytes}
 use borrow.Author.Rules.{rules}
 use Rattle.reader_step.proofs.read_lent.Statement.{statement}
 use Rattle.reader_step.proofs.read_lent.Tie as tie
@@ -52,7 +52,7 @@ returns c =
     let a = c.before.before.before.before.before.before.before.before.before.before.before.before.before.before.before.before.before.before.before.before.before.before.before.before.before.before.before.before.before.before.before.before.before.before.before.before.before.before.before.before.before.before.before.args in
     let n = c.before.before.before.before.before.before.number.ensures in (
       c.before.before.put-in-words.ensures.0,
-      was-refused (frameBytes a.state.age) a.frame _ _ _ c.before.before.before.before.before.before.before.before.before.before.before.before.before.before.before.before.before.before.before.before.before.before.before.before.read-bytes.ensures (λ z. c.before.before.before.before.before.if1.true (n ∙ z))
+      was-refused (frame_bytes a.state.age) a.frame _ _ _ c.before.before.before.before.before.before.before.before.before.before.before.before.before.before.before.before.before.before.before.before.before.before.before.before.read-bytes.ensures (λ z. c.before.before.before.before.before.if1.true (n ∙ z))
           (c.before.before.put-in-words.ensures.1 ∙ (λ i. in_words (n i) (c.before.before.before.before.place.ensures i) a.frame)),
     )
 
@@ -89,7 +89,7 @@ same-length-18 c = search rules
 returns-2 : tie.Need-returns-2
 returns-2 c =
     let a = c.before.before.before.before.before.before.before.before.before.before.before.before.before.before.before.before.before.before.before.before.before.before.before.before.before.before.before.before.before.before.before.before.before.before.before.before.before.before.before.before.before.before.before.before.before.before.before.before.args in
-    (c.before.before.put-returned.ensures.0, was-done (frameBytes a.state.age) a.frame _ _ _ c.before.before.before.before.before.before.before.before.before.before.before.before.before.before.before.before.before.before.before.before.before.before.before.before.before.before.before.before.before.read-bytes.ensures (sym c.before.before.before.before.before.before.before.before.before.before.before.number.ensures ∙ c.before.before.before.before.before.before.before.before.before.before.if1.false) c.before.before.put-returned.ensures.1)
+    (c.before.before.put-returned.ensures.0, was-done (frame_bytes a.state.age) a.frame _ _ _ c.before.before.before.before.before.before.before.before.before.before.before.before.before.before.before.before.before.before.before.before.before.before.before.before.before.before.before.before.before.read-bytes.ensures (sym c.before.before.before.before.before.before.before.before.before.before.before.number.ensures ∙ c.before.before.before.before.before.before.before.before.before.before.if1.false) c.before.before.put-returned.ensures.1)
 
 pub read-lent-spec : {M : Type 1} → statement M
 read-lent-spec =

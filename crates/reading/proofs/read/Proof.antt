@@ -5,8 +5,8 @@ use lib.Seq.{length-take-le}
 use lib.ListN.{length}
 use Prim.Native.Nat.{◌≤◌}
 use Rattle.runs.specs.declared.Extended.TheVariants.{P3, P4}
-use Rattle.runs.specs.MainChannels.{mainOf}
-use Rattle.runs.specs.Lengths.{kind_of, readerLen}
+use Rattle.runs.specs.MainChannels.{main_of}
+use Rattle.runs.specs.Lengths.{kind_of, reader_len}
 use Rattle.runs.specs.Lent.{Lent, Memory}
 use Rattle.runs.proofs.Bounds.{frame-le, p1-le, p2-le}
 use Rattle.calls.specs.Called.{lent, memory}
@@ -22,23 +22,23 @@ lent_at s =
     let a = s.args in
     lent 0 a.p1.now a.pids.now a.p2.now a.p3.now a.p4.now a.pm.now a.px1.now a.px2.now a.control.now
 
-abbrev memoryAt : tie.Start → Memory
-memoryAt s = memory s.args.memory3.now s.args.memory4.now s.args.delay.now
+abbrev memory_at : tie.Start → Memory
+memory_at s = memory s.args.memory3.now s.args.memory4.now s.args.delay.now
 
 -- where the call was admitted, all lengths fit, and the frames of its own have room
 abbrev start_of : tie.Else1 → tie.Start
 start_of c = c.before.before.before.before.before.before.before.before.before.before.before.before.before.before.before.before.before.before
 
-fit : (c : tie.Else1) → Fits readerLen (start_of c).args.state (memoryAt (start_of c)) (lent_at (start_of c))
+fit : (c : tie.Else1) → Fits reader_len (start_of c).args.state (memory_at (start_of c)) (lent_at (start_of c))
 fit c =
     let s = start_of c in
-    readable s.args.state (memoryAt s) (lent_at s) _ _ _ refl c.before.before.before.before.before.reader-lengths.ensures c.before.before.admit.ensures (sym c.before.number.ensures ∙ c.if1.false) (omega arith)
+    readable s.args.state (memory_at s) (lent_at s) _ _ _ refl c.before.before.before.before.before.reader-lengths.ensures c.before.before.admit.ensures (sym c.before.number.ensures ∙ c.if1.false) (omega arith)
 
 short1 : (c : tie.Else1) → length (start_of c).args.p1.now ≤ 18272
-short1 c = omega (arith, (fit c).p1, p1-le (mainOf (start_of c).args.state.mode))
+short1 c = omega (arith, (fit c).p1, p1-le (main_of (start_of c).args.state.mode))
 
 short2 : (c : tie.Else1) → length (start_of c).args.p2.now ≤ 13664
-short2 c = omega (arith, (fit c).p2, p2-le (mainOf (start_of c).args.state.mode))
+short2 c = omega (arith, (fit c).p2, p2-le (main_of (start_of c).args.state.mode))
 
 short3 : (c : tie.Else1) → length (start_of c).args.p3.now ≤ 4608
 short3 c = omega (arith, (fit c).p3, frame-le (kind_of (start_of c).args.state.mode P3))
@@ -64,7 +64,7 @@ number-requires c κs = search rules
 returns : tie.Need-returns
 returns c =
     let s = c.before.before.before.before.before.before.before.before.before.before.before.before.before.before.before.before.before.before in
-    turned_down s.args.state (memoryAt s) (lent_at s) _ _ _ refl c.before.before.before.before.before.reader-lengths.ensures c.before.before.admit.ensures (λ z. c.if1.true (c.before.number.ensures ∙ z))
+    turned_down s.args.state (memory_at s) (lent_at s) _ _ _ refl c.before.before.before.before.before.reader-lengths.ensures c.before.before.admit.ensures (λ z. c.if1.true (c.before.number.ensures ∙ z))
 
 array-borrow-prefix-own1 : tie.Need-array-borrow-prefix-own1
 array-borrow-prefix-own1 c = short1 c.before.before.before.before.before.before.before.before
@@ -149,7 +149,7 @@ returns-2 c =
     let c4 = c3.before in
     let c5 = c4.before.before.before in
     let s = c5.before.before.before.before.before.before.before.before.before.before.before.before.before in
-    c1.receive.ensures ∙ let-in s.args.state (memoryAt s) (lent_at s) _ _ _ refl c5.reader-lengths.ensures c4.admit.ensures (sym c3.number.ensures ∙ c2.if1.false)
+    c1.receive.ensures ∙ let-in s.args.state (memory_at s) (lent_at s) _ _ _ refl c5.reader-lengths.ensures c4.admit.ensures (sym c3.number.ensures ∙ c2.if1.false)
 
 pub read_spec : {M : Type 1} → statement M
 read_spec =

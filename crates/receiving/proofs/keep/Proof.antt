@@ -2,8 +2,8 @@
 use mathlib.Core.Path.{sym, ap, ◌∙◌}
 use native.Mathlib.Omega.{arith}
 use Rattle.runs.specs.declared.Main.{Main}
-use Rattle.runs.specs.MainChannels.{delayLen, p1Len}
-use Rattle.runs.specs.Lengths.{matrixLen}
+use Rattle.runs.specs.MainChannels.{delay_len, p1_len}
+use Rattle.runs.specs.Lengths.{matrix_len}
 use Rattle.runs.specs.Paths.{waiting}
 use Rattle.runs.specs.Reading.{push}
 use Rattle.judging.proofs.Staged.{fourth-is, fourth-long}
@@ -33,7 +33,7 @@ push-requires-2 c κs =
     let c2 = c1.before in
     let c3 = c2.before.before.before.before.before.before.before in
     let l = fourth-long c3.args.state c3.args.px2.now c3.requires.1 c2.kind-of.ensures c1.matrix-len.ensures.0 in
-    let n = c1.matrix-len.ensures.0 ∙ ap matrixLen c2.kind-of.ensures in
+    let n = c1.matrix-len.ensures.0 ∙ ap matrix_len c2.kind-of.ensures in
     omega (arith, l, n, c3.requires.2)
 
 main-of-requires : tie.Need-main-of-requires
@@ -43,7 +43,7 @@ push-delay-requires : tie.Need-push-delay-requires
 push-delay-requires c κs =
     let c1 = c.before.before.before.before.before.before.before.before.before.before.before.before.before.before.before.before.before.before.before in
     let k = sym c.before.main-of.ensures in
-    (c1.requires.3 ∙ ap p1Len k, c1.requires.4 ∙ ap delayLen k)
+    (c1.requires.3 ∙ ap p1_len k, c1.requires.4 ∙ ap delay_len k)
 
 same_length : tie.Need-same-length
 same_length c = search rules

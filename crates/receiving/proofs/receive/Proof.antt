@@ -2,7 +2,7 @@
 use mathlib.Core.Path.{sym, ap, ◌∙◌}
 use native.Mathlib.Omega.{arith}
 use lib.ListN.{length}
-use Rattle.runs.specs.MainChannels.{delayLen, p1Len}
+use Rattle.runs.specs.MainChannels.{delay_len, p1_len}
 use Rattle.runs.specs.Lent.{Lent, Memory}
 use Rattle.calls.specs.Called.{lent, memory}
 use Rattle.receiving.proofs.Leaves.{handed_out, kept}
@@ -16,8 +16,8 @@ lent_at s =
     let a = s.args in
     lent 0 a.p1.now a.pids.now a.p2.now a.p3.now a.p4.now a.pm.now a.px1.now a.px2.now a.control.now
 
-abbrev memoryAt : tie.Start → Memory
-memoryAt s = memory s.args.memory3.now s.args.memory4.now s.args.delay.now
+abbrev memory_at : tie.Start → Memory
+memory_at s = memory s.args.memory3.now s.args.memory4.now s.args.delay.now
 
 judge-signal-requires : tie.Need-judge-signal-requires
 judge-signal-requires c κs = search rules
@@ -58,7 +58,7 @@ same-length-8 c = search rules
 returns : tie.Need-returns
 returns c =
     let s = c.before.before.before.before.before.before.before.before.before.before.before.before.before.before.before.before.before.before.before.before.before.before.before.before.before.before.before.before.before.before.before.before.before.before.before.before.before.before.before.before in
-    kept s.args.state (memoryAt s) (lent_at s) _ c.before.before.before.before.before.before.before.before.before.before.before.before.before.before.judge-signal.ensures.0 (λ z. c.if1.true (c.before.number.ensures ∙ z))
+    kept s.args.state (memory_at s) (lent_at s) _ c.before.before.before.before.before.before.before.before.before.before.before.before.before.before.judge-signal.ensures.0 (λ z. c.if1.true (c.before.number.ensures ∙ z))
 
 main-of-requires : tie.Need-main-of-requires
 main-of-requires c κs = search rules
@@ -72,7 +72,7 @@ return-p1-requires c κs =
     let f = c3.requires.0 in
     let g = c3.requires.1 in
     let o = c2.judge-signal.auto.1.1.1.1.1.1.1.1 in
-    (f.delay ∙ ap delayLen k, ◌∙◌ {b = length c3.args.own1.now} o.0 (g.p1 ∙ ap p1Len k), f.p1 ∙ ap p1Len k)
+    (f.delay ∙ ap delay_len k, ◌∙◌ {b = length c3.args.own1.now} o.0 (g.p1 ∙ ap p1_len k), f.p1 ∙ ap p1_len k)
 
 hand-out-requires : tie.Need-hand-out-requires
 hand-out-requires c κs =
@@ -152,7 +152,7 @@ returns-2 c =
     let zero = sym c6.number.ensures ∙ c5.if1.false in
     let h = c2.hand-out.ensures in
     let o = c9.judge-signal.new.1.1.1.1.1.1.1.1 in
-    handed_out s.args.state (memoryAt s) (lent_at s) _ j.0 zero _ _ _ _ _ _ _ _ o.0 o.1.1.0 o.1.0 o.1.1.1.0 o.1.1.1.1.0 _ _ _ c7.next_of.ensures c8.number_in.ensures.0 c4.main-of.ensures (j.1.0 zero)
+    handed_out s.args.state (memory_at s) (lent_at s) _ j.0 zero _ _ _ _ _ _ _ _ o.0 o.1.1.0 o.1.0 o.1.1.1.0 o.1.1.1.1.0 _ _ _ c7.next_of.ensures c8.number_in.ensures.0 c4.main-of.ensures (j.1.0 zero)
     c3.return-p1.ensures h.0 (j.1.1 zero) h.1 c1.keep.ensures
 
 pub receive-spec : {M : Type 1} → statement M

@@ -2,7 +2,7 @@
 use mathlib.Core.Path.{ap, ◌∙◌}
 use Prim.Native.Nat.{ℕ, ◌*◌}
 use Rattle.bits.specs.Bits.{bit_at, packed}
-use Rattle.coding.specs.Buffers.{uncodedEach}
+use Rattle.coding.specs.Buffers.{uncoded_each}
 use Rattle.coding.proofs.Passes.{unscrambled-each}
 use Rattle.recover.proofs.Channels.{recovered}
 use borrow.Author.Rules.{rules}
@@ -32,7 +32,7 @@ returns c =
     let y₀ = bit_at a.coded.now in
     λ y bits e.
     recovered s.requires.0 y bits e _ _ j.ensures.1
-    (f.ensures ∙ unscrambled-each a.rate a.n _ _ y₀ (j.ensures.0 ∙ ap (λ (k : ℕ). packed k (uncodedEach a.rate (8 * a.n) y₀)) s.requires.1))
+    (f.ensures ∙ unscrambled-each a.rate a.n _ _ y₀ (j.ensures.0 ∙ ap (λ (k : ℕ). packed k (uncoded_each a.rate (8 * a.n) y₀)) s.requires.1))
 
 pub decode-channel-spec : {M : Type 1} → statement M
 decode-channel-spec =

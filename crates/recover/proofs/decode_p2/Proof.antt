@@ -4,7 +4,7 @@ use Prim.Native.Nat.{◌+◌, ◌*◌, ◌/◌, ◌≤◌}
 use native.Mathlib.Omega.{arith}
 use lib.ListN.{length}
 use lib.Seq.{length-take-le}
-use Rattle.runs.specs.Chain.{p1Coded}
+use Rattle.runs.specs.Chain.{p1_coded}
 use Rattle.runs.proofs.Bounds.{p2-le}
 use Rattle.recover.proofs.Mains.{behind, no-p2, p2-buffers, p2-found, plain-when, rest-is}
 use borrow.Author.Rules.{rules}
@@ -18,7 +18,7 @@ returns : tie.Need-returns
 returns c =
     let s = c.before.before.before in
     let a = s.args in
-    λ y bits e. no-p2 a.main a.p2.now (λ i. y (p1Coded a.main + i)) (plain-when a.main _ s.requires.1 c.if1.true) s.requires.1
+    λ y bits e. no-p2 a.main a.p2.now (λ i. y (p1_coded a.main + i)) (plain-when a.main _ s.requires.1 c.if1.true) s.requires.1
 
 coded-bytes-requires : tie.Need-coded-bytes-requires
 coded-bytes-requires c κs = search rules

@@ -3,8 +3,8 @@ use mathlib.Core.Path.{◌≡◌, sym, ap, ◌∙◌}
 use Prim.Native.Nat.{◌*◌}
 use native.Mathlib.Omega.{arith}
 use lib.ListN.{length}
-use Rattle.interleaving.specs.PX.{codedBytes}
-use Rattle.runs.specs.Lengths.{matrixLen}
+use Rattle.interleaving.specs.PX.{coded_bytes}
+use Rattle.runs.specs.Lengths.{matrix_len}
 use Rattle.runs.proofs.Bridge.{matrix-bytes}
 use Rattle.runs.proofs.Bounds.{matrix-le}
 use Rattle.recover.proofs.Extended.{fill-from, late-fill, no-fill, used}
@@ -26,14 +26,14 @@ mul-result c = record { fits = omega (arith, c.before.before.before.before.requi
 returns-2 : tie.Need-returns-2
 returns-2 c =
     let a = c.before.before.before.before.args in
-    let e : length a.px.now * 8 ≡ 8 * matrixLen a.kind = omega (arith, c.before.before.before.before.requires) in
+    let e : length a.px.now * 8 ≡ 8 * matrix_len a.kind = omega (arith, c.before.before.before.before.requires) in
     e ∙ late-fill a.kind a.age 0 a.px.now c.if2.true
 
 first-fill-requires : tie.Need-first-fill-requires
 first-fill-requires c κs =
     let a = c.before.before.before.before.args in
     let t = c.before.before.table-row.ensures in
-    (used a.kind _ t c.before.if1.false, search rules, c.before.before.before.before.requires ∙ sym (matrix-bytes a.kind) ∙ ap codedBytes (sym t))
+    (used a.kind _ t c.before.if1.false, search rules, c.before.before.before.before.requires ∙ sym (matrix-bytes a.kind) ∙ ap coded_bytes (sym t))
 
 returns-3 : tie.Need-returns-3
 returns-3 c =

@@ -6,14 +6,14 @@ use native.Mathlib.Omega.{arith}
 use lib.ListN.{length}
 use borrow.Author.Count.{below_more}
 use Rattle.bits.proofs.Tests.{lowest-at, lowest-none}
-use Rattle.recover.specs.Rooms.{isOne}
+use Rattle.recover.specs.Rooms.{is_one}
 use Rattle.recover.proofs.Mains.{one-is, one-not, zeros-not}
 use borrow.Author.Rules.{rules}
 use Rattle.recover.proofs.first_one.Statement.{statement}
 use Rattle.recover.proofs.first_one.Tie as tie
 
 abbrev invariant-loop : tie.invariant-loop
-invariant-loop x n c₀ c = (c ≤ n) × ((i : ℕ) → i < c → isOne x i ≡ false)
+invariant-loop x n c₀ c = (c ≤ n) × ((i : ℕ) → i < c → is_one x i ≡ false)
 
 abbrev decreases-loop : tie.decreases-loop
 decreases-loop x n c₀ c = n - c
@@ -56,7 +56,7 @@ returns-2 c =
     let loop = c.before.loop in
     let x = c.before.before.before.before.args.x.now in
     let e : length x * 8 ≡ 8 * length x = omega arith in
-    e ∙ sym (lowest-none (8 * length x) (isOne x) (λ i h. loop.invariant.1 i (omega arith)))
+    e ∙ sym (lowest-none (8 * length x) (is_one x) (λ i h. loop.invariant.1 i (omega arith)))
 
 pub first-one-spec : {M : Type 1} → statement M
 first-one-spec =

@@ -1,7 +1,7 @@
 -- `gather_px` meets its contract: the coded bits are gathered from the memory after the push. Assumes nothing.
 use mathlib.Core.Path.{sym, ap, ◌∙◌}
 use Prim.Native.Nat.{ℕ, ◌*◌}
-use Rattle.interleaving.specs.PX.{codedBytes}
+use Rattle.interleaving.specs.PX.{coded_bytes}
 use Rattle.runs.proofs.Bridge.{matrix-bytes}
 use Rattle.recover.proofs.Extended.{gathered-from}
 use borrow.Author.Rules.{rules}
@@ -24,7 +24,7 @@ gather-requires c κs =
     let s = y.before.before.before.before.before.before.before in
     let k = s.args.kind in
     let t = c.before.before.table-row.ensures in
-    let row = sym (matrix-bytes k) ∙ ap codedBytes (sym t) in (
+    let row = sym (matrix-bytes k) ∙ ap coded_bytes (sym t) in (
       rw t s.requires.1,
       s.requires.0,
       p.three2.given ∙ y.three.given ∙ s.requires.4 ∙ ap (λ (n : ℕ). 3 * n) row,

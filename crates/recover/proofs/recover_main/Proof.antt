@@ -2,7 +2,7 @@
 use mathlib.Core.Path.{◌∙◌}
 use native.Mathlib.Omega.{arith}
 use Rattle.bits.proofs.Packed.{bit_at_lt}
-use Rattle.runs.specs.Chain.{p1Cells}
+use Rattle.runs.specs.Chain.{p1_cells}
 use Rattle.recover.proofs.Mains.{both-judged, lowest-is-le}
 use borrow.Author.Rules.{rules}
 use Rattle.recover.proofs.recover_main.Statement.{statement}
@@ -35,7 +35,7 @@ past-requires c κs =
     let c2 = c1.before.before.before.before.before.before.before.before.before in
     let c3 = c2.before.before.before.before.before in
     let pm = c3.args.pm.now in
-    let r = lowest-is-le _ _ (c1.decode-p2.ensures (p1Cells pm) (λ i. bit_at_lt pm _) c2.gather-p1.ensures).0 in
+    let r = lowest-is-le _ _ (c1.decode-p2.ensures (p1_cells pm) (λ i. bit_at_lt pm _) c2.gather-p1.ensures).0 in
     (omega (arith, c.p1-frames.ensures), omega (arith, r))
 
 same_length : tie.Need-same-length
@@ -53,7 +53,7 @@ returns c =
     let a = c4.args in
     let pm = a.pm.now in
     let g = c3.gather-p1.ensures in
-    let j = both-judged a.main pm _ _ _ _ _ c.before.p1-frames.ensures.0 (c2.judge-p1.ensures (p1Cells pm) (λ i. bit_at_lt pm _) g) (c1.decode-p2.ensures (p1Cells pm) (λ i. bit_at_lt pm _) g) in
+    let j = both-judged a.main pm _ _ _ _ _ c.before.p1-frames.ensures.0 (c2.judge-p1.ensures (p1_cells pm) (λ i. bit_at_lt pm _) g) (c1.decode-p2.ensures (p1_cells pm) (λ i. bit_at_lt pm _) g) in
     (c.past.ensures ∙ j.0, j.1)
 
 pub recover-main-spec : {M : Type 1} → statement M

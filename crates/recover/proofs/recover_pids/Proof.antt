@@ -5,9 +5,9 @@ use Rattle.bits.specs.Bits.{bit_at, packed}
 use Rattle.bits.proofs.Packed.{bit_at_lt}
 use Rattle.coding.specs.declared.Rate.TheVariants.{TwoFifths}
 use Rattle.coding.specs.Channel.{unchannel}
-use Rattle.interleaving.specs.PM.{pidsPlace}
-use Rattle.runs.specs.Lengths.{pidsLen}
-use Rattle.runs.specs.Chain.{pidsBad, pidsOf}
+use Rattle.interleaving.specs.PM.{pids_place}
+use Rattle.runs.specs.Lengths.{pids_len}
+use Rattle.runs.specs.Chain.{pids_bad, pids_of}
 use Rattle.recover.proofs.Channels.{whole}
 use borrow.Author.Rules.{rules}
 use Rattle.recover.proofs.recover_pids.Statement.{statement}
@@ -32,7 +32,7 @@ same_length : tie.Need-same-length
 same_length c = search rules
 
 returns : tie.Need-returns
-unfolding pidsBad pidsOf pidsLen
+unfolding pids_bad pids_of pids_len
 returns c =
     let c1 = c.before.before.before in
     let c2 = c1.before.before.before.before.before in
@@ -40,7 +40,7 @@ returns c =
     let d = c1.decode-channel in
     let g = c2.gather-pids in
     let pm = s.args.pm.now in
-    let y : ℕ → ℕ = λ i. bit_at pm (pidsPlace i) in
+    let y : ℕ → ℕ = λ i. bit_at pm (pids_place i) in
     let r = d.ensures y (λ i. bit_at_lt pm _) (whole _ _ _ g.ensures) in
     (r.0, r.1 ∙ ap (λ (k : ℕ). packed k (unchannel TwoFifths 80 y)) s.requires.1)
 

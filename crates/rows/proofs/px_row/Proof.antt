@@ -1,7 +1,7 @@
 -- `px_row` meets its contract: the case that the tests chose. Assumes nothing.
 use Prim.Native.Nat.{◌*◌}
 use borrow.Author.Tests.{eq-eqb, ne_eqb, lt-ltb, le-ltb}
-use Rattle.rows.specs.Rows.{pxRow}
+use Rattle.rows.specs.Rows.{px_row}
 use Rattle.rows.proofs.Parts.{part_of}
 use borrow.Author.Rules.{rules}
 use Rattle.rows.proofs.px_row.Statement.{statement}
@@ -17,7 +17,7 @@ part-result-end : tie.Need-slice-bounds-result-end
 part-result-end c = search rules
 
 returns : tie.Need-returns
-unfolding pxRow
+unfolding px_row
 returns c = rw (ne_eqb _ _ c.before.if1.true)
 
 sub-result-2 : tie.Need-overflow-sub-result-2
@@ -30,7 +30,7 @@ part-result-end-2 : tie.Need-slice-bounds-result-end-2
 part-result-end-2 c = search rules
 
 returns-2 : tie.Need-returns-2
-unfolding pxRow
+unfolding px_row
 returns-2 c = rw (eq-eqb _ _ c.before.before.if1.false, ne_eqb _ _ c.before.if2.true)
 
 sub-result-3 : tie.Need-overflow-sub-result-3
@@ -43,7 +43,7 @@ part-result-end-3 : tie.Need-slice-bounds-result-end-3
 part-result-end-3 c = search rules
 
 returns-3 : tie.Need-returns-3
-unfolding pxRow
+unfolding px_row
 returns-3 c = rw (eq-eqb _ _ c.before.before.before.if1.false, eq-eqb _ _ c.before.before.if2.false, le-ltb _ _ c.before.if3.true)
 
 mul-start : tie.Need-overflow-mul-start
@@ -62,7 +62,7 @@ part-result-end-4 : tie.Need-slice-bounds-result-end-4
 part-result-end-4 c = search rules
 
 returns-4 : tie.Need-returns-4
-unfolding pxRow
+unfolding px_row
 returns-4 c =
     let b = c.before.before.before.before in
     rw (eq-eqb _ _ b.if1.false, eq-eqb _ _ c.before.before.before.if2.false, lt-ltb _ _ c.before.before.if3.false, eq-eqb _ _ c.before.if4.true)
@@ -78,7 +78,7 @@ part-result-end-5 : tie.Need-slice-bounds-result-end-5
 part-result-end-5 c = search rules
 
 returns-5 : tie.Need-returns-5
-unfolding pxRow
+unfolding px_row
 returns-5 c =
     let b = c.before.before.before.before.before in
     rw (
@@ -100,7 +100,7 @@ part-result-end-6 : tie.Need-slice-bounds-result-end-6
 part-result-end-6 c = search rules
 
 returns-6 : tie.Need-returns-6
-unfolding pxRow
+unfolding px_row
 returns-6 c =
     let b = c.before.before.before.before.before in
     rw (

@@ -1,13 +1,13 @@
 -- `is_short` meets its contract. The loop's invariant: the text is such a number where digits alone follow. Assumes nothing.
 use Rattle.std.proofs.Common.{◌≡◌, ◌-◌, ◌≤◌, length, drop, sym, ◌∙◌, arith, rules}
-use Rattle.text.specs.Numbers.{digitsAlone}
-use Rattle.scales.specs.Scales.{isShort}
+use Rattle.text.specs.Numbers.{digits_alone}
+use Rattle.scales.specs.Scales.{is_short}
 use Rattle.scales.proofs.Digits.{digit-next, digit-over, digit-under, digits-end, short-long, short_none, short-start}
 use Rattle.scales.proofs.is_short.Statement.{statement}
 use Rattle.scales.proofs.is_short.Tie as tie
 
 abbrev invariant-loop : tie.invariant-loop
-invariant-loop text most i₀ i = (i ≤ length text) × (isShort most text ≡ digitsAlone (drop i text))
+invariant-loop text most i₀ i = (i ≤ length text) × (is_short most text ≡ digits_alone (drop i text))
 
 abbrev decreases-loop : tie.decreases-loop
 decreases-loop text most i₀ i = length text - i

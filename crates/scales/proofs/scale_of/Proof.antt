@@ -2,7 +2,7 @@
 use Rattle.std.proofs.Common.{◌≡◌, ℕ, ◌+◌, ◌-◌, ◌*◌, ◌^◌, length, take, drop, sym, ap, ◌∙◌, ap₂, arith, length-take-le, rules}
 use borrow.Author.Tests.{not-false, not-true}
 use Rattle.text.specs.Lines.{before}
-use Rattle.scales.specs.Scales.{exactOf, point}
+use Rattle.scales.specs.Scales.{exact_of, point}
 use Rattle.scales.proofs.Reading.{both-parts, no_fraction, no_number, no-point, short-below, short-fits, short-more}
 use Rattle.scales.proofs.scale_of.Statement.{statement}
 use Rattle.scales.proofs.scale_of.Tie as tie
@@ -45,7 +45,7 @@ returns-2 c =
     let at : e.end_of_lem.result ≡ length (before point text) = omega (arith, e.end_of_lem.ensures.0) in
     let l = c.before.before.before in
     let h = sym l.before.is-short.ensures ∙ not-false _ l.if1.false in
-    c.exact.ensures ∙ ap (λ (n : ℕ). exactOf (10000000000000000 * n)) c.before.before.worth.ensures
+    c.exact.ensures ∙ ap (λ (n : ℕ). exact_of (10000000000000000 * n)) c.before.before.worth.ensures
     ∙ no-point text e.end_of_lem.result at h c.before.if2.true
 
 add-next : tie.Need-overflow-add-next

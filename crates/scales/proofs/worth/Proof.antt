@@ -1,13 +1,13 @@
 -- `worth` meets its contract. The loop's invariant: the digits are worth the number so far, moved to its place, and those that follow. Assumes nothing.
 use Rattle.std.proofs.Common.{◌≡◌, ◌+◌, ◌-◌, ◌*◌, ◌^◌, ◌<◌, ◌≤◌, true, length, get_or, drop, arith, rules}
-use Rattle.text.specs.Numbers.{digitsAlone, value}
+use Rattle.text.specs.Numbers.{digits_alone, value}
 use Rattle.scales.proofs.Digits.{below_power, digit-here, digits-rest, power-more, short-digits, value-end, value-next, value-start}
 use Rattle.scales.proofs.worth.Statement.{statement}
 use Rattle.scales.proofs.worth.Tie as tie
 
 abbrev invariant-loop : tie.invariant-loop
 invariant-loop text n₀ i₀ n i =
-    (i ≤ length text) × (length text ≤ 16) × (n < 10 ^ i) × (digitsAlone (drop i text) ≡ true)
+    (i ≤ length text) × (length text ≤ 16) × (n < 10 ^ i) × (digits_alone (drop i text) ≡ true)
     × (value text ≡ n * 10 ^ (length text - i) + value (drop i text))
 
 abbrev decreases-loop : tie.decreases-loop

@@ -4,7 +4,7 @@ use mathlib.Core.Path.{◌∙◌, sym}
 use native.Mathlib.Omega.{arith}
 use Rattle.messages.specs.Lines.{in_words}
 use Rattle.steps.proofs.Taken.{was-done, was-refused}
-use Rattle.sender_step.specs.Written.{signalBytes}
+use Rattle.sender_step.specs.Written.{signal_bytes}
 use Rattle.sender_step.proofs.send_lent.Statement.{statement}
 use Rattle.sender_step.proofs.send_lent.Tie as tie
 
@@ -47,7 +47,7 @@ same-length-8 c = search rules
 returns : tie.Need-returns
 returns c = (
   c.before.before.put-in-words.ensures.0,
-  was-refused signalBytes c.before.before.before.before.before.before.before.before.before.before.before.before.before.before.before.before.before.before.before.before.before.before.before.before.before.before.before.before.before.before.before.before.before.before.before.before.before.before.before.args.frame _ _ _ c.before.before.before.before.before.before.before.before.before.before.before.before.before.before.before.before.before.before.before.before.before.before.send-input.ensures (λ z. c.before.before.before.before.before.if1.true (c.before.before.before.before.before.before.number.ensures ∙ z))
+  was-refused signal_bytes c.before.before.before.before.before.before.before.before.before.before.before.before.before.before.before.before.before.before.before.before.before.before.before.before.before.before.before.before.before.before.before.before.before.before.before.before.before.before.before.args.frame _ _ _ c.before.before.before.before.before.before.before.before.before.before.before.before.before.before.before.before.before.before.before.before.before.before.send-input.ensures (λ z. c.before.before.before.before.before.if1.true (c.before.before.before.before.before.before.number.ensures ∙ z))
       (c.before.before.put-in-words.ensures.1 ∙ (λ i. in_words (c.before.before.before.before.before.before.number.ensures i) (c.before.before.before.before.place.ensures i) c.before.before.before.before.before.before.before.before.before.before.before.before.before.before.before.before.before.before.before.before.before.before.before.before.before.before.before.before.before.before.before.before.before.before.before.before.before.before.before.args.frame)),
 )
 
@@ -81,7 +81,7 @@ same-length-16 c = search rules
 returns-2 : tie.Need-returns-2
 returns-2 c = (
   c.before.before.put-signal.ensures.0,
-  was-done signalBytes c.before.before.before.before.before.before.before.before.before.before.before.before.before.before.before.before.before.before.before.before.before.before.before.before.before.before.before.before.before.before.before.before.before.before.before.before.before.before.before.before.before.before.args.frame _ _ _ c.before.before.before.before.before.before.before.before.before.before.before.before.before.before.before.before.before.before.before.before.before.before.before.before.before.send-input.ensures (sym c.before.before.before.before.before.before.before.before.before.number.ensures ∙ c.before.before.before.before.before.before.before.before.if1.false) c.before.before.put-signal.ensures.1,
+  was-done signal_bytes c.before.before.before.before.before.before.before.before.before.before.before.before.before.before.before.before.before.before.before.before.before.before.before.before.before.before.before.before.before.before.before.before.before.before.before.before.before.before.before.before.before.before.args.frame _ _ _ c.before.before.before.before.before.before.before.before.before.before.before.before.before.before.before.before.before.before.before.before.before.before.before.before.before.send-input.ensures (sym c.before.before.before.before.before.before.before.before.before.number.ensures ∙ c.before.before.before.before.before.before.before.before.if1.false) c.before.before.put-signal.ensures.1,
 )
 
 pub send-lent-spec : {M : Type 1} → statement M

@@ -13,8 +13,8 @@ lent_at s =
     let a = s.args in
     lent a.reserved a.p1.now a.pids.now a.p2.now a.p3.now a.p4.now a.pm.now a.px1.now a.px2.now a.control.now
 
-abbrev memoryAt : tie.Start → Memory
-memoryAt s = memory s.args.memory3.now s.args.memory4.now s.args.delay.now
+abbrev memory_at : tie.Start → Memory
+memory_at s = memory s.args.memory3.now s.args.memory4.now s.args.delay.now
 
 sender-lengths-requires : tie.Need-sender-lengths-requires
 sender-lengths-requires c κs = search rules
@@ -52,8 +52,8 @@ returns c =
     let f = a.before.before.before in
     let r = f.before.before in
     let s = r.before.before.before.before.before.before.before.before.before.before.before.before.before in
-    let h = meant-lengths s.args.state (memoryAt s) (lent_at s) _ r.sender-lengths.ensures _ _ f.before.meant-len.ensures f.meant-len2.ensures in
-    kept s.args.state (memoryAt s) (lent_at s) _ _ _ h r.sender-lengths.ensures a.admit.ensures (λ z. c.if1.true (c.before.number.ensures ∙ z))
+    let h = meant-lengths s.args.state (memory_at s) (lent_at s) _ r.sender-lengths.ensures _ _ f.before.meant-len.ensures f.meant-len2.ensures in
+    kept s.args.state (memory_at s) (lent_at s) _ _ _ h r.sender-lengths.ensures a.admit.ensures (λ z. c.if1.true (c.before.number.ensures ∙ z))
 
 write-requires : tie.Need-write-requires
 write-requires c κs =
@@ -62,8 +62,8 @@ write-requires c κs =
     let f = a.before.before.before in
     let r = f.before.before in
     let s = r.before.before.before.before.before.before.before.before.before.before.before.before.before in
-    let h = meant-lengths s.args.state (memoryAt s) (lent_at s) _ r.sender-lengths.ensures _ _ f.before.meant-len.ensures f.meant-len2.ensures in
-    sendable s.args.state (memoryAt s) (lent_at s) _ _ _ h r.sender-lengths.ensures a.admit.ensures (sym t.before.number.ensures ∙ t.if1.false)
+    let h = meant-lengths s.args.state (memory_at s) (lent_at s) _ r.sender-lengths.ensures _ _ f.before.meant-len.ensures f.meant-len2.ensures in
+    sendable s.args.state (memory_at s) (lent_at s) _ _ _ h r.sender-lengths.ensures a.admit.ensures (sym t.before.number.ensures ∙ t.if1.false)
 
 same_length : tie.Need-same-length
 same_length c = search rules
@@ -94,8 +94,8 @@ returns-2 c =
     let f = a.before.before.before in
     let r = f.before.before in
     let s = r.before.before.before.before.before.before.before.before.before.before.before.before.before in
-    let h = meant-lengths s.args.state (memoryAt s) (lent_at s) _ r.sender-lengths.ensures _ _ f.before.meant-len.ensures f.meant-len2.ensures in
-    written s.args.state (memoryAt s) (lent_at s) _ _ _ h r.sender-lengths.ensures a.admit.ensures (sym t.before.number.ensures ∙ t.if1.false)
+    let h = meant-lengths s.args.state (memory_at s) (lent_at s) _ r.sender-lengths.ensures _ _ f.before.meant-len.ensures f.meant-len2.ensures in
+    written s.args.state (memory_at s) (lent_at s) _ _ _ h r.sender-lengths.ensures a.admit.ensures (sym t.before.number.ensures ∙ t.if1.false)
     _ _ _ t.before.before.next_of.ensures w.write.ensures.0 w.write.ensures.1
 
 pub send-spec : {M : Type 1} → statement M

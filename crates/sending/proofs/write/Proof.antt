@@ -5,9 +5,9 @@ use native.Mathlib.Omega.{arith}
 use lib.ListN.{length}
 use Rattle.runs.specs.declared.Kind.{Kind}
 use Rattle.runs.specs.declared.Main.{Main}
-use Rattle.runs.specs.MainChannels.{delayLen, p1Len, p2Len, p1'Len}
-use Rattle.runs.specs.Lengths.{frameLen, matrixLen, senderLen}
-use Rattle.runs.specs.Lent.{filled, orZeros}
+use Rattle.runs.specs.MainChannels.{delay_len, p1_len, p2_len, p1'_len}
+use Rattle.runs.specs.Lengths.{frame_len, matrix_len, sender_len}
+use Rattle.runs.specs.Lent.{filled, or_zeros}
 use Rattle.calls.specs.Called.{Buffer, frames, memory}
 use Rattle.sending.proofs.SendCases.{worked}
 use borrow.Author.Rules.{rules}
@@ -15,8 +15,8 @@ use Rattle.sending.proofs.write.Statement.{statement}
 use Rattle.sending.proofs.write.Tie as tie
 
 -- the length of what is meant, for the kind that was found
-meant-right : (b : Buffer) {k k' : Kind} → k ≡ k' → length (orZeros (frameLen k) b) ≡ frameLen k → length (orZeros (frameLen k') b) ≡ frameLen k'
-meant-right b = subst (λ (k : Kind). length (orZeros (frameLen k) b) ≡ frameLen k)
+meant-right : (b : Buffer) {k k' : Kind} → k ≡ k' → length (or_zeros (frame_len k) b) ≡ frame_len k → length (or_zeros (frame_len k') b) ≡ frame_len k'
+meant-right b = subst (λ (k : Kind). length (or_zeros (frame_len k) b) ≡ frame_len k)
 
 main-of-requires : tie.Need-main-of-requires
 main-of-requires c κs = search rules
@@ -33,7 +33,7 @@ write-px2-requires c κs =
     let f = s.requires in
     let k = sym y.main-of.ensures in
     let k4 = sym x.kind-of.ensures in
-    (f.half_lt, meant-right s.args.p4.now k4 f.p4, f.delay ∙ ap delayLen k, f.px2 ∙ ap₂ (λ (x : Kind) (y : Main). matrixLen x + p1'Len y) k4 k, f.memory4 ∙ ap senderLen k4)
+    (f.half_lt, meant-right s.args.p4.now k4 f.p4, f.delay ∙ ap delay_len k, f.px2 ∙ ap₂ (λ (x : Kind) (y : Main). matrix_len x + p1'_len y) k4 k, f.memory4 ∙ ap sender_len k4)
 
 write-pm-requires : tie.Need-write-pm-requires
 unfolding filled
@@ -42,7 +42,7 @@ write-pm-requires c κs =
     let s = x.before.before.before.before.before.before.before.before.before.before.before.before.before in
     let f = s.requires in
     let k = sym x.main-of.ensures in
-    (f.p1 ∙ ap p1Len k, f.p2 ∙ ap p2Len k, f.pids, f.delay ∙ ap delayLen k, f.pm)
+    (f.p1 ∙ ap p1_len k, f.p2 ∙ ap p2_len k, f.pids, f.delay ∙ ap delay_len k, f.pm)
 
 kind-of-requires-2 : tie.Need-kind-of-requires-2
 kind-of-requires-2 c κs = search rules
@@ -54,7 +54,7 @@ write-px-requires c κs =
     let s = x.before.before.before.before.before.before.before.before.before.before.before.before.before.before.before.before.before.before.before.before.before.before.before.before.before.before.before.before.before.before in
     let f = s.requires in
     let k = sym x.kind-of2.ensures in
-    (omega (arith, f.half_lt), meant-right s.args.p3.now k f.p3, f.px1 ∙ ap matrixLen k, f.memory3 ∙ ap senderLen k)
+    (omega (arith, f.half_lt), meant-right s.args.p3.now k f.p3, f.px1 ∙ ap matrix_len k, f.memory3 ∙ ap sender_len k)
 
 fill-control-requires : tie.Need-fill-control-requires
 unfolding filled

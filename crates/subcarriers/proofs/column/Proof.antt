@@ -1,6 +1,6 @@
 -- `column` meets its contract: the table is the definition's. Assumes nothing.
 use mathlib.Core.Path.{refl}
-use Rattle.subcarriers.specs.Slots.{columnTable}
+use Rattle.subcarriers.specs.Slots.{column_table}
 use borrow.Author.Rules.{rules}
 use Rattle.subcarriers.proofs.column.Statement.{statement}
 use Rattle.subcarriers.proofs.column.Tie as tie
@@ -15,7 +15,7 @@ array-read-result : tie.Need-array-read-result
 array-read-result c = search rules
 
 returns : tie.Need-returns
-unfolding columnTable
+unfolding column_table
 returns c = refl
 
 pub column-spec : {M : Type 1} → statement M

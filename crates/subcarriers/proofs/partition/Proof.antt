@@ -1,6 +1,6 @@
 -- `partition` meets its contract: the table is the definition's. Assumes nothing.
 use mathlib.Core.Path.{refl}
-use Rattle.subcarriers.specs.Slots.{partitionTable}
+use Rattle.subcarriers.specs.Slots.{partition_table}
 use borrow.Author.Rules.{rules}
 use Rattle.subcarriers.proofs.partition.Statement.{statement}
 use Rattle.subcarriers.proofs.partition.Tie as tie
@@ -15,7 +15,7 @@ array-read-result : tie.Need-array-read-result
 array-read-result c = search rules
 
 returns : tie.Need-returns
-unfolding partitionTable
+unfolding partition_table
 returns c = refl
 
 pub partition-spec : {M : Type 1} → statement M

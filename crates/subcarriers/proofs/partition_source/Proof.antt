@@ -1,6 +1,6 @@
 -- `partition_source` meets its contract. Assumes nothing.
 use borrow.Author.Tests.{lt-ltb, le-ltb}
-use Rattle.subcarriers.specs.Slots.{partitionSource}
+use Rattle.subcarriers.specs.Slots.{partition_source}
 use borrow.Author.Rules.{rules}
 use Rattle.subcarriers.proofs.partition_source.Statement.{statement}
 use Rattle.subcarriers.proofs.partition_source.Tie as tie
@@ -12,7 +12,7 @@ add-t6 : tie.Need-overflow-add-t6
 add-t6 c = search rules
 
 returns : tie.Need-returns
-unfolding partitionSource
+unfolding partition_source
 returns c = rw (lt-ltb _ _ c.if1.true)
 
 mul-t8 : tie.Need-overflow-mul-t8
@@ -22,7 +22,7 @@ add-t9 : tie.Need-overflow-add-t9
 add-t9 c = search rules
 
 returns-2 : tie.Need-returns-2
-unfolding partitionSource
+unfolding partition_source
 returns-2 c = rw (le-ltb _ _ c.before.if1.false, lt-ltb _ _ c.if2.true)
 
 mul-t11 : tie.Need-overflow-mul-t11
@@ -32,11 +32,11 @@ add-t12 : tie.Need-overflow-add-t12
 add-t12 c = search rules
 
 returns-3 : tie.Need-returns-3
-unfolding partitionSource
+unfolding partition_source
 returns-3 c = rw (le-ltb _ _ c.before.before.if1.false, le-ltb _ _ c.before.if2.false, lt-ltb _ _ c.if3.true)
 
 returns-4 : tie.Need-returns-4
-unfolding partitionSource
+unfolding partition_source
 returns-4 c = rw (le-ltb _ _ c.before.before.if1.false, le-ltb _ _ c.before.if2.false, le-ltb _ _ c.if3.false)
 
 pub partition-source-spec : {M : Type 1} → statement M

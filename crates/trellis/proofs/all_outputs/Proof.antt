@@ -5,12 +5,12 @@ use native.Mathlib.Omega.{arith}
 use lib.ListN.{length, get_or, length-set}
 use borrow.Author.Rules.{rules}
 use Rattle.bits.proofs.Stores.{set_more}
-use Rattle.trellis.specs.Trellis.{outputsOf}
+use Rattle.trellis.specs.Trellis.{outputs_of}
 use Rattle.trellis.proofs.all_outputs.Statement.{statement}
 use Rattle.trellis.proofs.all_outputs.Tie as tie
 
 abbrev invariant-loop : tie.invariant-loop
-invariant-loop all₀ w₀ all w = (w ≤ 128) × (length all ≡ 128) × ((q : ℕ) → q < w → get_or all q 0 ≡ outputsOf q)
+invariant-loop all₀ w₀ all w = (w ≤ 128) × (length all ≡ 128) × ((q : ℕ) → q < w → get_or all q 0 ≡ outputs_of q)
 
 abbrev decreases-loop : tie.decreases-loop
 decreases-loop all₀ w₀ all w = 128 - w

@@ -5,12 +5,12 @@ use native.Mathlib.Omega.{arith}
 use lib.ListN.{length, get_or, length-set}
 use borrow.Author.Rules.{rules}
 use Rattle.bits.proofs.Stores.{set_more}
-use Rattle.trellis.specs.Trellis.{costBy}
+use Rattle.trellis.specs.Trellis.{cost_by}
 use Rattle.trellis.proofs.eight.Statement.{statement}
 use Rattle.trellis.proofs.eight.Tie as tie
 
 abbrev invariant-loop : tie.invariant-loop
-invariant-loop cells j costs₀ y₀ costs y = (y ≤ 8) × (length costs ≡ 8) × ((q : ℕ) → q < y → get_or costs q 0 ≡ costBy cells j q)
+invariant-loop cells j costs₀ y₀ costs y = (y ≤ 8) × (length costs ≡ 8) × ((q : ℕ) → q < y → get_or costs q 0 ≡ cost_by cells j q)
 
 abbrev decreases-loop : tie.decreases-loop
 decreases-loop cells j costs₀ y₀ costs y = 8 - y

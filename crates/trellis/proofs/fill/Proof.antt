@@ -5,7 +5,7 @@ use native.Mathlib.Omega.{arith}
 use lib.ListN.{length, get_or, length-set}
 use lib.Seq.{get_or-set_other}
 use borrow.Author.Rules.{rules}
-use Rattle.trellis.specs.Trellis.{outputsOf}
+use Rattle.trellis.specs.Trellis.{outputs_of}
 use Rattle.trellis.proofs.Outputs.{outputs-lt}
 use Rattle.trellis.proofs.Scoring.{set_at}
 use Rattle.trellis.proofs.fill.Statement.{statement}
@@ -15,7 +15,7 @@ abbrev invariant-loop : tie.invariant-loop
 invariant-loop costs all j table₀ at w₀ table w =
     (w ≤ 128)
     × (length table ≡ 10240)
-    × ((q : ℕ) → q < w → get_or table (at + q) 0 ≡ get_or costs (outputsOf q) 0)
+    × ((q : ℕ) → q < w → get_or table (at + q) 0 ≡ get_or costs (outputs_of q) 0)
     × ((n : ℕ) → n < at → get_or table n 0 ≡ get_or table₀ n 0)
 
 abbrev decreases-loop : tie.decreases-loop
@@ -65,7 +65,7 @@ loop-again c =
     let costs = c.before.before.before.before.before.before.args.costs.now in (
       search rules,
       simp length-set loop.invariant.1,
-      set_at loop.table (λ q. get_or costs (outputsOf q) 0) _ loop.w _ (omega (arith, loop.invariant.1, pre.0))
+      set_at loop.table (λ q. get_or costs (outputs_of q) 0) _ loop.w _ (omega (arith, loop.invariant.1, pre.0))
           (ap (λ (n : ℕ). get_or costs n 0) (c.before.wide.ensures ∙ pre.1.at loop.w (omega arith))) loop.invariant.2,
       λ n h. get_or-set_other loop.table _ n _ 0 (λ e. omega arith) ∙ loop.invariant.3 n h,
     )

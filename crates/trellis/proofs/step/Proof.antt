@@ -4,7 +4,7 @@ use Prim.Native.Nat.{ℕ, ◌+◌, ◌<◌, ◌≤◌, ◌-◌}
 use native.Mathlib.Omega.{arith}
 use lib.ListN.{length, get_or, length-set}
 use borrow.Author.Rules.{rules}
-use Rattle.trellis.specs.Trellis.{scoreBefore}
+use Rattle.trellis.specs.Trellis.{score_before}
 use Rattle.trellis.proofs.Scoring.{halves-more, halves-all}
 use Rattle.trellis.proofs.step.Statement.{statement}
 use Rattle.trellis.proofs.step.Tie as tie
@@ -13,7 +13,7 @@ abbrev invariant-loop : tie.invariant-loop
 invariant-loop costs j late scores₀ r₀ scores r =
     (r ≤ 32)
     × (length scores ≡ 64)
-    × ((q : ℕ) → q < r → (get_or scores q 0 ≡ scoreBefore costs j late q) × (get_or scores (q + 32) 0 ≡ scoreBefore costs j late (q + 32)))
+    × ((q : ℕ) → q < r → (get_or scores q 0 ≡ score_before costs j late q) × (get_or scores (q + 32) 0 ≡ score_before costs j late (q + 32)))
 
 abbrev decreases-loop : tie.decreases-loop
 decreases-loop costs j late scores₀ r₀ scores r = 32 - r

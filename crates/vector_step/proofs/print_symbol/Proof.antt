@@ -2,7 +2,7 @@
 use mathlib.Core.Path.{sym, ◌∙◌}
 use lib.Ieee.{of_bits}
 use Rattle.messages.specs.Lines.{in_words}
-use Rattle.vector_step.specs.Printed.{vectorText}
+use Rattle.vector_step.specs.Printed.{vector_text}
 use Rattle.vector_step.proofs.Printable.{can-print}
 use Rattle.vector_step.proofs.Texts.{said-filled, said-refused}
 use borrow.Author.Rules.{rules}
@@ -31,7 +31,7 @@ same_length : tie.Need-same-length
 same_length c = search rules
 
 returns : tie.Need-returns
-unfolding vectorText of_bits
+unfolding vector_text of_bits
 returns c =
     let p = c.before.before.put-in-words.ensures in
     let n = c.before.before.before.before.before.before.number.ensures in
@@ -63,7 +63,7 @@ same-length-2 : tie.Need-same-length-2
 same-length-2 c = search rules
 
 returns-2 : tie.Need-returns-2
-unfolding vectorText of_bits
+unfolding vector_text of_bits
 returns-2 c =
     let p = c.before.before.put-lines.ensures in
     let n = c.before.before.before.before.before.before.before.number.ensures in

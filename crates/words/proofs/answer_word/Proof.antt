@@ -1,6 +1,6 @@
 -- `answer_word` meets its contract: number and place, each in its field. Assumes nothing.
 use native.Mathlib.Omega.{arith}
-use Rattle.words.specs.Words.{answerWord}
+use Rattle.words.specs.Words.{answer_word}
 use borrow.Author.Rules.{rules}
 use Rattle.words.proofs.answer_word.Statement.{statement}
 use Rattle.words.proofs.answer_word.Tie as tie
@@ -21,7 +21,7 @@ add-result : tie.Need-overflow-add-result
 add-result c = search rules
 
 returns : tie.Need-returns
-unfolding answerWord
+unfolding answer_word
 returns c = omega (arith, c.before.number.ensures, c.place.ensures)
 
 pub answer-word-spec : {M : Type 1} → statement M

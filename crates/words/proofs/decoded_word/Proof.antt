@@ -1,7 +1,7 @@
 -- `decoded_word` meets its contract: the fields are those of the search. Assumes nothing.
 use native.Mathlib.Omega.{arith}
 use borrow.Author.Rules.{rules}
-use Rattle.words.specs.Words.{decodedWord}
+use Rattle.words.specs.Words.{decoded_word}
 use Rattle.words.proofs.decoded_word.Statement.{statement}
 use Rattle.words.proofs.decoded_word.Tie as tie
 
@@ -39,7 +39,7 @@ add-result-2 : tie.Need-overflow-add-result-2
 add-result-2 c = search rules
 
 returns : tie.Need-returns
-unfolding decodedWord
+unfolding decoded_word
 returns c = omega (arith, c.place.ensures, c.before.before.before.number.ensures)
 
 pub decoded-word-spec : {M : Type 1} → statement M

@@ -3,7 +3,7 @@ use mathlib.Core.Path.{refl}
 use Prim.Native.Nat.{◌*◌, ◌-◌, ◌/◌, ◌%◌, ◌^◌, ◌≤◌}
 use native.Mathlib.Omega.{arith}
 use Rattle.bits.proofs.Listed.{Filled, filled_none, filled-turn, filled-all}
-use Rattle.words.specs.Words.{eightOf}
+use Rattle.words.specs.Words.{eight_of}
 use Rattle.words.proofs.eight.Statement.{statement}
 use Rattle.words.proofs.eight.Tie as tie
 
@@ -38,7 +38,7 @@ loop-again : tie.Need-loop-preserved invariant-loop decreases-loop
 loop-again c = (omega arith, filled-turn _ c.before.loop.invariant.1 c.loop-test.true refl)
 
 returns : tie.Need-returns invariant-loop decreases-loop
-unfolding eightOf
+unfolding eight_of
 returns c = filled-all c.before.loop.invariant.1 c.loop-test.false c.before.loop.invariant.0
 
 pub eight-spec : {M : Type 1} → statement M

@@ -3,7 +3,7 @@ use mathlib.Core.Path.{ap, subst}
 use native.Mathlib.Omega.{arith}
 use Rattle.queries.specs.declared.finder_px.FoundPx.{FoundPx}
 use Rattle.queries.specs.FinderPX.{values}
-use Rattle.words.specs.Words.{answerWord, foundPxWord}
+use Rattle.words.specs.Words.{answer_word, found_px_word}
 use Rattle.words.proofs.Fields.{SmallPX}
 use borrow.Author.Rules.{rules}
 use Rattle.words.proofs.found_px_word.Statement.{statement}
@@ -40,16 +40,16 @@ answer-word-requires : tie.Need-answer-word-requires
 answer-word-requires c κs = let (p, f, e, b) = subst (λ (x : FoundPx). SmallPX (values x)) c.before.cell2.given.1 c.before.before.before.requires in omega arith
 
 returns : tie.Need-returns
-unfolding foundPxWord
-returns c = omega (arith, ap (λ (x : FoundPx). foundPxWord (values x)) c.before.cell.given.1)
+unfolding found_px_word
+returns c = omega (arith, ap (λ (x : FoundPx). found_px_word (values x)) c.before.cell.given.1)
 
 returns-2 : tie.Need-returns-2
-unfolding foundPxWord
-returns-2 c = omega (arith, ap (λ (x : FoundPx). foundPxWord (values x)) c.enum_told.given.1)
+unfolding found_px_word
+returns-2 c = omega (arith, ap (λ (x : FoundPx). found_px_word (values x)) c.enum_told.given.1)
 
 returns-3 : tie.Need-returns-3
-unfolding foundPxWord answerWord
-returns-3 c = omega (arith, ap (λ (x : FoundPx). foundPxWord (values x)) c.before.before.cell2.given.1, c.answer_word.ensures)
+unfolding found_px_word answer_word
+returns-3 c = omega (arith, ap (λ (x : FoundPx). found_px_word (values x)) c.before.before.cell2.given.1, c.answer_word.ensures)
 
 pub found-px-word-spec : {M : Type 1} → statement M
 found-px-word-spec =

@@ -3,7 +3,7 @@ use mathlib.Core.Path.{ap, subst}
 use native.Mathlib.Omega.{arith}
 use Rattle.queries.specs.declared.finder.Found.{Found}
 use Rattle.queries.specs.Finder.{values}
-use Rattle.words.specs.Words.{answerWord, foundWord}
+use Rattle.words.specs.Words.{answer_word, found_word}
 use Rattle.words.proofs.Fields.{Small}
 use borrow.Author.Rules.{rules}
 use Rattle.words.proofs.found_word.Statement.{statement}
@@ -40,16 +40,16 @@ answer-word-requires : tie.Need-answer-word-requires
 answer-word-requires c κs = let (p, f, b) = subst (λ (x : Found). Small (values x)) c.before.cell3.given.1 c.before.before.before.requires in omega arith
 
 returns : tie.Need-returns
-unfolding foundWord
-returns c = omega (arith, ap (λ (x : Found). foundWord (values x)) c.before.cell.given.1)
+unfolding found_word
+returns c = omega (arith, ap (λ (x : Found). found_word (values x)) c.before.cell.given.1)
 
 returns-2 : tie.Need-returns-2
-unfolding foundWord
-returns-2 c = omega (arith, ap (λ (x : Found). foundWord (values x)) c.before.cell2.given.1)
+unfolding found_word
+returns-2 c = omega (arith, ap (λ (x : Found). found_word (values x)) c.before.cell2.given.1)
 
 returns-3 : tie.Need-returns-3
-unfolding foundWord answerWord
-returns-3 c = omega (arith, ap (λ (x : Found). foundWord (values x)) c.before.before.cell3.given.1, c.answer_word.ensures)
+unfolding found_word answer_word
+returns-3 c = omega (arith, ap (λ (x : Found). found_word (values x)) c.before.before.cell3.given.1, c.answer_word.ensures)
 
 pub found-word-spec : {M : Type 1} → statement M
 found-word-spec =

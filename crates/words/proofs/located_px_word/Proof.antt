@@ -3,7 +3,7 @@ use mathlib.Core.Path.{ap, subst}
 use native.Mathlib.Omega.{arith}
 use Rattle.locating.specs.declared.locator_px.LocatedPx.{LocatedPx}
 use Rattle.locating.specs.LocatorPX.{values}
-use Rattle.words.specs.Words.{answerWord, locatedPxWord}
+use Rattle.words.specs.Words.{answer_word, located_px_word}
 use Rattle.words.proofs.Fields.{SmallLocatedPX}
 use borrow.Author.Rules.{rules}
 use Rattle.words.proofs.located_px_word.Statement.{statement}
@@ -44,12 +44,12 @@ answer-word-requires : tie.Need-answer-word-requires
 answer-word-requires c κs = let (p, a, q, r, k) = subst Small c.before.cell2.given.1 c.before.before.before.requires in omega arith
 
 returns : tie.Need-returns
-unfolding locatedPxWord
-returns c = omega (arith, ap (λ (x : LocatedPx). locatedPxWord (values x)) c.before.cell.given.1)
+unfolding located_px_word
+returns c = omega (arith, ap (λ (x : LocatedPx). located_px_word (values x)) c.before.cell.given.1)
 
 returns-2 : tie.Need-returns-2
-unfolding locatedPxWord answerWord
-returns-2 c = omega (arith, ap (λ (x : LocatedPx). locatedPxWord (values x)) c.before.before.cell2.given.1, c.answer_word.ensures)
+unfolding located_px_word answer_word
+returns-2 c = omega (arith, ap (λ (x : LocatedPx). located_px_word (values x)) c.before.before.cell2.given.1, c.answer_word.ensures)
 
 pub located-px-word-spec : {M : Type 1} → statement M
 located-px-word-spec =

@@ -3,7 +3,7 @@ use mathlib.Core.Path.{ap, sym, subst, ◌∙◌}
 use native.Mathlib.Omega.{arith}
 use Rattle.locating.specs.declared.locator.Located.{Located}
 use Rattle.locating.specs.Locator.{values}
-use Rattle.words.specs.Words.{answerWord, placedWord, locatedWord}
+use Rattle.words.specs.Words.{answer_word, placed_word, located_word}
 use Rattle.words.proofs.Fields.{SmallLocated}
 use borrow.Author.Rules.{rules}
 use Rattle.words.proofs.located_word.Statement.{statement}
@@ -24,12 +24,12 @@ answer-word-requires c κs =
     omega arith
 
 returns : tie.Need-returns
-unfolding locatedWord
-returns c = c.placed-word.ensures ∙ sym (ap (λ (x : Located). locatedWord (values x)) c.before.before.cell.given.1)
+unfolding located_word
+returns c = c.placed-word.ensures ∙ sym (ap (λ (x : Located). located_word (values x)) c.before.before.cell.given.1)
 
 returns-2 : tie.Need-returns-2
-unfolding locatedWord placedWord answerWord
-returns-2 c = omega (arith, ap (λ (x : Located). locatedWord (values x)) c.before.before.cell2.given.1, c.answer_word.ensures)
+unfolding located_word placed_word answer_word
+returns-2 c = omega (arith, ap (λ (x : Located). located_word (values x)) c.before.before.cell2.given.1, c.answer_word.ensures)
 
 pub located-word-spec : {M : Type 1} → statement M
 located-word-spec =

@@ -3,7 +3,7 @@ use mathlib.Core.Path.{ap, subst}
 use native.Mathlib.Omega.{arith}
 use Rattle.queries.specs.declared.blocks.LookedUp.{LookedUp}
 use Rattle.queries.specs.Lookup.{values}
-use Rattle.words.specs.Words.{answerWord, lookedUpWord}
+use Rattle.words.specs.Words.{answer_word, looked_up_word}
 use Prim.Native.Nat.{◌<◌, ◌^◌}
 use borrow.Author.Rules.{rules}
 use Rattle.words.proofs.looked_up_word.Statement.{statement}
@@ -43,12 +43,12 @@ answer-word-requires : tie.Need-answer-word-requires
 answer-word-requires c κs = let p = subst (λ (x : LookedUp). (values x).place < 2 ^ 8) c.before.said2.given.1 c.before.before.before.requires in omega arith
 
 returns : tie.Need-returns
-unfolding lookedUpWord
-returns c = omega (arith, ap (λ (x : LookedUp). lookedUpWord (values x)) c.before.said.given.1)
+unfolding looked_up_word
+returns c = omega (arith, ap (λ (x : LookedUp). looked_up_word (values x)) c.before.said.given.1)
 
 returns-2 : tie.Need-returns-2
-unfolding lookedUpWord answerWord
-returns-2 c = omega (arith, ap (λ (x : LookedUp). lookedUpWord (values x)) c.before.before.said2.given.1, c.answer_word.ensures)
+unfolding looked_up_word answer_word
+returns-2 c = omega (arith, ap (λ (x : LookedUp). looked_up_word (values x)) c.before.before.said2.given.1, c.answer_word.ensures)
 
 pub looked-up-word-spec : {M : Type 1} → statement M
 looked-up-word-spec =

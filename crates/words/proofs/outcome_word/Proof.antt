@@ -1,6 +1,6 @@
 -- `outcome_word` meets its contract: the fields are those of the answer and the state. Assumes nothing.
 use native.Mathlib.Omega.{arith}
-use Rattle.words.specs.Words.{outcomeWord}
+use Rattle.words.specs.Words.{outcome_word}
 use Rattle.words.proofs.Fields.{number-told}
 use borrow.Author.Rules.{rules}
 use Rattle.words.proofs.outcome_word.Statement.{statement}
@@ -58,7 +58,7 @@ add-result-3 : tie.Need-overflow-add-result-3
 add-result-3 c = search rules
 
 returns : tie.Need-returns
-unfolding outcomeWord
+unfolding outcome_word
 returns c =
     let s = c.before.before.before.before.before.before in
     number-told s.args.answer s.args.state _ (omega arith) (omega arith) (omega arith) s.requires

@@ -9,7 +9,7 @@ use Rattle.interleaving.specs.Matrix.{Inside}
 use Rattle.queries.specs.declared.places.Placed.{Placed}
 use Rattle.queries.specs.declared.places.Placed.TheVariants.{At, Refused}
 use Rattle.queries.specs.Places.{values}
-use Rattle.words.specs.Words.{answerWord, placedWord}
+use Rattle.words.specs.Words.{answer_word, placed_word}
 use Rattle.words.proofs.Fields.{SmallPlace}
 use borrow.Author.Rules.{rules}
 use Rattle.words.proofs.placed_word.Statement.{statement}
@@ -55,12 +55,12 @@ answer-word-requires c κs =
     omega arith
 
 returns : tie.Need-returns
-unfolding placedWord
-returns c = omega (arith, ap (λ (x : Placed). placedWord (values x)) c.before.found.given.1)
+unfolding placed_word
+returns c = omega (arith, ap (λ (x : Placed). placed_word (values x)) c.before.found.given.1)
 
 returns-2 : tie.Need-returns-2
-unfolding placedWord answerWord
-returns-2 c = omega (arith, ap (λ (x : Placed). placedWord (values x)) c.before.before.found2.given.1, c.answer_word.ensures)
+unfolding placed_word answer_word
+returns-2 c = omega (arith, ap (λ (x : Placed). placed_word (values x)) c.before.before.found2.given.1, c.answer_word.ensures)
 
 pub placed-word-spec : {M : Type 1} → statement M
 placed-word-spec =

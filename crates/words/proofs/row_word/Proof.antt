@@ -3,14 +3,14 @@ use Prim.Native.Nat.{◌<◌}
 use lib.ListN.{length}
 use native.Mathlib.Omega.{arith}
 use borrow.Author.Tests.{eq-eqb, ne_eqb}
-use Rattle.words.specs.Words.{rowWord}
+use Rattle.words.specs.Words.{row_word}
 use Rattle.words.proofs.Fields.{start-lt}
 use borrow.Author.Rules.{rules}
 use Rattle.words.proofs.row_word.Statement.{statement}
 use Rattle.words.proofs.row_word.Tie as tie
 
 returns : tie.Need-returns
-unfolding rowWord
+unfolding row_word
 returns c = rw (eq-eqb _ _ c.if1.true)
 
 mul-result : tie.Need-overflow-mul-result
@@ -29,7 +29,7 @@ add-result c =
     omega (arith, start-lt _ _ small (within some))
 
 returns-2 : tie.Need-returns-2
-unfolding rowWord
+unfolding row_word
 returns-2 c = rw (ne_eqb _ _ c.if1.false)
 
 pub row-word-spec : {M : Type 1} → statement M

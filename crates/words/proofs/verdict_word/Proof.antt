@@ -1,7 +1,7 @@
 -- `verdict_word` meets its contract: the fields are those of the verdict. Assumes nothing.
 use native.Mathlib.Omega.{arith}
 use borrow.Author.Rules.{rules}
-use Rattle.words.specs.Words.{verdictWord}
+use Rattle.words.specs.Words.{verdict_word}
 use Rattle.words.proofs.verdict_word.Statement.{statement}
 use Rattle.words.proofs.verdict_word.Tie as tie
 
@@ -27,7 +27,7 @@ add-result : tie.Need-overflow-add-result
 add-result c = search rules
 
 returns : tie.Need-returns
-unfolding verdictWord
+unfolding verdict_word
 returns c = omega (arith, c.place.ensures, c.before.number.ensures)
 
 pub verdict-word-spec : {M : Type 1} → statement M

@@ -1,7 +1,7 @@
 -- `put_place` meets its contract. Assumes nothing.
 use native.Mathlib.Omega.{arith}
 use Rattle.text.proofs.Stored.{put-most, put_then}
-use Rattle.worktext.specs.Texts.{placeText}
+use Rattle.worktext.specs.Texts.{place_text}
 use borrow.Author.Rules.{rules}
 use Rattle.worktext.proofs.put_place.Statement.{statement}
 use Rattle.worktext.proofs.put_place.Tie as tie
@@ -43,7 +43,7 @@ same_length : tie.Need-same-length
 same_length c = search rules
 
 returns : tie.Need-returns
-unfolding placeText
+unfolding place_text
 returns c =
     put-most (omega arith)
     (put_then c.before.before.before.before.before.before.before.before.before.before.before.before.before.before.before.before.before.before.before.before.before.before.before.before.before.before.put-named.ensures

@@ -1,7 +1,7 @@
 -- `put_sum` meets its contract. Assumes nothing.
 use native.Mathlib.Omega.{arith}
 use Rattle.text.proofs.Stored.{put-most, put_then}
-use Rattle.worktext.specs.Texts.{sumText}
+use Rattle.worktext.specs.Texts.{sum_text}
 use borrow.Author.Rules.{rules}
 use Rattle.worktext.proofs.put_sum.Statement.{statement}
 use Rattle.worktext.proofs.put_sum.Tie as tie
@@ -40,7 +40,7 @@ same_length : tie.Need-same-length
 same_length c = search rules
 
 returns : tie.Need-returns
-unfolding sumText
+unfolding sum_text
 returns c =
     put-most (omega arith)
     (put_then c.before.before.before.before.before.before.before.before.before.before.before.before.before.before.before.before.before.before.before.before.before.before.put.ensures

@@ -6,7 +6,7 @@ use native.Mathlib.Omega.{arith}
 use Rattle.text.specs.Letters.{ascii}
 use Rattle.text.specs.Numbers.{decimal}
 use Rattle.text.proofs.Stored.{put-most, put-text, put_then}
-use Rattle.worktext.specs.Texts.{workLine}
+use Rattle.worktext.specs.Texts.{work_line}
 use borrow.Author.Rules.{rules}
 use Rattle.worktext.proofs.put_work.Statement.{statement}
 use Rattle.worktext.proofs.put_work.Tie as tie
@@ -36,7 +36,7 @@ same_length : tie.Need-same-length
 same_length c = search rules
 
 returns : tie.Need-returns
-unfolding workLine
+unfolding work_line
 returns c =
     put-most (omega arith)
     (put_then c.before.before.before.before.before.before.before.before.before.before.before.before.before.before.before.before.before.before.before.put-named.ensures

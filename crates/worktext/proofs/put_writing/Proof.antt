@@ -1,7 +1,7 @@
 -- `put_writing` meets its contract. Assumes nothing.
 use native.Mathlib.Omega.{arith}
 use Rattle.text.proofs.Stored.{put-most, put_then}
-use Rattle.worktext.specs.Texts.{writingText}
+use Rattle.worktext.specs.Texts.{writing_text}
 use borrow.Author.Rules.{rules}
 use Rattle.worktext.proofs.put_writing.Statement.{statement}
 use Rattle.worktext.proofs.put_writing.Tie as tie
@@ -25,7 +25,7 @@ same_length : tie.Need-same-length
 same_length c = search rules
 
 returns : tie.Need-returns
-unfolding writingText
+unfolding writing_text
 returns c =
     put-most (omega arith)
     (put_then c.before.before.before.before.before.before.before.before.before.before.before.before.put-named.ensures

@@ -1,7 +1,7 @@
 -- `channels_in` meets its contract: the texts are tried in the order of the definition. Assumes nothing.
 use mathlib.Core.Path.{◌∙◌, sym}
 use Rattle.argument_words.specs.Words.{ended}
-use Rattle.argument_words.specs.Asked.{channelsIn}
+use Rattle.argument_words.specs.Asked.{channels_in}
 use borrow.Author.Rules.{rules}
 use Rattle.argument_words.proofs.asked.channels_in.Statement.{statement}
 use Rattle.argument_words.proofs.asked.channels_in.Tie as tie
@@ -13,7 +13,7 @@ same-requires : tie.Need-same-requires
 same-requires c κs = search rules
 
 returns : tie.Need-returns
-unfolding channelsIn ended
+unfolding channels_in ended
 returns c = rw (sym c.before.same.ensures ∙ c.if1.true)
 
 slice-aggregate-same-2 : tie.Need-slice-aggregate-same-2
@@ -23,7 +23,7 @@ same-requires-2 : tie.Need-same-requires-2
 same-requires-2 c κs = search rules
 
 returns-2 : tie.Need-returns-2
-unfolding channelsIn ended
+unfolding channels_in ended
 returns-2 c =
     let c1 = c.before.before.before in
     rw (
@@ -38,7 +38,7 @@ same-requires-3 : tie.Need-same-requires-3
 same-requires-3 c κs = search rules
 
 returns-3 : tie.Need-returns-3
-unfolding channelsIn ended
+unfolding channels_in ended
 returns-3 c =
     let c2 = c.before.before.before in
     let c1 = c2.before.before.before in
@@ -55,7 +55,7 @@ same-requires-4 : tie.Need-same-requires-4
 same-requires-4 c κs = search rules
 
 returns-4 : tie.Need-returns-4
-unfolding channelsIn ended
+unfolding channels_in ended
 returns-4 c =
     let c3 = c.before.before.before in
     let c2 = c3.before.before.before in
@@ -68,7 +68,7 @@ returns-4 c =
     )
 
 returns-5 : tie.Need-returns-5
-unfolding channelsIn ended
+unfolding channels_in ended
 returns-5 c =
     let c3 = c.before.before.before in
     let c2 = c3.before.before.before in

@@ -1,6 +1,6 @@
 -- `start_reader` meets its contract: a start with the reader's lengths. Assumes nothing.
 use mathlib.Core.Path.{◌∙◌, ap}
-use Rattle.runs.specs.Lengths.{readerLen}
+use Rattle.runs.specs.Lengths.{reader_len}
 use borrow.Author.Rules.{rules}
 use Rattle.calls.proofs.starting.start_reader.Statement.{statement}
 use Rattle.calls.proofs.starting.start_reader.Tie as tie
@@ -33,9 +33,9 @@ returns : tie.Need-returns
 returns c =
     let s = c.before.before.before.before.before.before in
     let k = s.before.before.before.before in
-    s.start-side.ensures readerLen
-    (k.before.before.reader-len.ensures ∙ ap readerLen k.before.before.before.kind-of.ensures)
-    (k.reader-len2.ensures ∙ ap readerLen k.before.kind-of2.ensures)
+    s.start-side.ensures reader_len
+    (k.before.before.reader-len.ensures ∙ ap reader_len k.before.before.before.kind-of.ensures)
+    (k.reader-len2.ensures ∙ ap reader_len k.before.kind-of2.ensures)
 
 pub start-reader-spec : {M : Type 1} → statement M
 start-reader-spec =

@@ -1,6 +1,6 @@
 -- `start_sender` meets its contract: a start with the sender's lengths. Assumes nothing.
 use mathlib.Core.Path.{◌∙◌, ap}
-use Rattle.runs.specs.Lengths.{senderLen}
+use Rattle.runs.specs.Lengths.{sender_len}
 use borrow.Author.Rules.{rules}
 use Rattle.calls.proofs.starting.start_sender.Statement.{statement}
 use Rattle.calls.proofs.starting.start_sender.Tie as tie
@@ -33,9 +33,9 @@ returns : tie.Need-returns
 returns c =
     let s = c.before.before.before.before.before.before in
     let k = s.before.before.before.before in
-    s.start-side.ensures senderLen
-    (k.before.before.sender-len.ensures ∙ ap senderLen k.before.before.before.kind-of.ensures)
-    (k.sender-len2.ensures ∙ ap senderLen k.before.kind-of2.ensures)
+    s.start-side.ensures sender_len
+    (k.before.before.sender-len.ensures ∙ ap sender_len k.before.before.before.kind-of.ensures)
+    (k.sender-len2.ensures ∙ ap sender_len k.before.kind-of2.ensures)
 
 pub start-sender-spec : {M : Type 1} → statement M
 start-sender-spec =

@@ -1,6 +1,6 @@
 -- `start_side` meets its contract: the case that the tests chose. Assumes nothing.
 use mathlib.Core.Path.{sym, ap, ◌∙◌}
-use Rattle.runs.specs.MainChannels.{delayLen}
+use Rattle.runs.specs.MainChannels.{delay_len}
 use borrow.Author.Tests.{not-true, not-false}
 use Rattle.calls.proofs.StartCases.{not_covered, wrong-length, filled}
 use borrow.Author.Rules.{rules}
@@ -45,7 +45,7 @@ returns-2 c len h3 h4 =
     let t = d.before.before in
     let a = t.before.before.before.before.before.args in
     wrong-length a.mode a.memory3.now a.memory4.now a.delay.now _ _ _ _ (sym t.before.is-covered.ensures ∙ not-false _ t.if1.false)
-    p.first-wrong.ensures len h3 h4 (d.delay-len.ensures ∙ ap delayLen d.before.main-of.ensures) _ c.fresh-state2.ensures c.before.if2.true
+    p.first-wrong.ensures len h3 h4 (d.delay-len.ensures ∙ ap delay_len d.before.main-of.ensures) _ c.fresh-state2.ensures c.before.if2.true
 
 fill-requires : tie.Need-fill-requires
 fill-requires c κs = search rules
@@ -78,7 +78,7 @@ returns-3 c len h3 h4 =
     let t = d.before.before in
     let a = t.before.before.before.before.before.args in
     filled a.mode a.memory3.now a.memory4.now a.delay.now _ _ _ _ (sym t.before.is-covered.ensures ∙ not-false _ t.if1.false)
-    p.first-wrong.ensures len h3 h4 (d.delay-len.ensures ∙ ap delayLen d.before.main-of.ensures) _ _ _ _ c.fresh-state3.ensures
+    p.first-wrong.ensures len h3 h4 (d.delay-len.ensures ∙ ap delay_len d.before.main-of.ensures) _ _ _ _ c.fresh-state3.ensures
     g.fill.ensures f.fill2.ensures h.fill3.ensures g.before.before.if2.false
 
 pub start-side-spec : {M : Type 1} → statement M

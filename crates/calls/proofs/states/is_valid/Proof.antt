@@ -3,7 +3,7 @@ use mathlib.Core.Path.{◌≡◌, sym, ap, ◌∙◌}
 use mathlib.Core.Bool.{Bool}
 use Prim.Native.Nat.{ℕ}
 use borrow.Author.Tests.{not-true, not-false}
-use Rattle.runs.specs.MainChannels.{lastAge, mainOf}
+use Rattle.runs.specs.MainChannels.{last_age, main_of}
 use Rattle.runs.specs.declared.Main.{Main}
 use Rattle.runs.specs.declared.State.{State}
 use Rattle.runs.specs.Starting.{aged, valid}
@@ -12,9 +12,9 @@ use Rattle.calls.proofs.states.is_valid.Statement.{statement}
 use Rattle.calls.proofs.states.is_valid.Tie as tie
 
 -- what was found of the age
-age-is : (s : State) (k : Main) (last : ℕ) (t : Bool) → k ≡ mainOf s.mode → last ≡ lastAge k → t ≡ aged last s.half s.age
-    → aged (lastAge (mainOf s.mode)) s.half s.age ≡ t
-age-is s k last t hk hl e = sym (e ∙ ap (λ (n : ℕ). aged n s.half s.age) (hl ∙ ap lastAge hk))
+age-is : (s : State) (k : Main) (last : ℕ) (t : Bool) → k ≡ main_of s.mode → last ≡ last_age k → t ≡ aged last s.half s.age
+    → aged (last_age (main_of s.mode)) s.half s.age ≡ t
+age-is s k last t hk hl e = sym (e ∙ ap (λ (n : ℕ). aged n s.half s.age) (hl ∙ ap last_age hk))
 
 is-covered-requires : tie.Need-is-covered-requires
 is-covered-requires c κs = search rules

@@ -3,13 +3,13 @@ use mathlib.Core.Path.{◌≡◌, ap, ◌∙◌}
 use Prim.Native.Nat.{ℕ, ◌+◌, ◌%◌, min}
 use native.Mathlib.Omega.{arith}
 use Rattle.runs.specs.declared.State.{State}
-use Rattle.runs.specs.MainChannels.{mainOf, lastAge}
+use Rattle.runs.specs.MainChannels.{main_of, last_age}
 use Rattle.runs.specs.Starting.{next}
 use borrow.Author.Rules.{rules}
 use Rattle.calls.proofs.states.next_of.Statement.{statement}
 use Rattle.calls.proofs.states.next_of.Tie as tie
 
-next-is : (s : State) (z age : ℕ) → age ≡ min (lastAge (mainOf s.mode)) (s.age + 1)
+next-is : (s : State) (z age : ℕ) → age ≡ min (last_age (main_of s.mode)) (s.age + 1)
     → ◌≡◌ {A = State} (record { mode = s.mode; half = (s.half % 2 + 1) % 2; age = age; reserved = z }) (next z s)
 unfolding next
 next-is s z age e = λ i. record { mode = s.mode; half = turned i; age = e i; reserved = z }
@@ -33,7 +33,7 @@ returns : tie.Need-returns
 returns c =
     let s = c.before.before.before.before.args.state in
     next-is s c.before.before.before.before.args.reserved _
-    (c.next-age.ensures ∙ ap (λ (n : ℕ). min n (s.age + 1)) (c.before.last-age.ensures ∙ ap lastAge c.before.before.main-of.ensures))
+    (c.next-age.ensures ∙ ap (λ (n : ℕ). min n (s.age + 1)) (c.before.last-age.ensures ∙ ap last_age c.before.before.main-of.ensures))
 
 pub next-of-spec : {M : Type 1} → statement M
 next-of-spec =

@@ -2,7 +2,7 @@
 use mathlib.Core.Path.{ap, sym}
 use Rattle.text.proofs.Stored.{put-text}
 use Rattle.cause_words.specs.Rows.{rows}
-use Rattle.cause_words.specs.NoSheet.{wordsFor}
+use Rattle.cause_words.specs.NoSheet.{words_for}
 use borrow.Author.Rules.{rules}
 use Rattle.cause_words.proofs.no_sheet.put_written.Statement.{statement}
 use Rattle.cause_words.proofs.no_sheet.put_written.Tie as tie
@@ -23,7 +23,7 @@ same_length : tie.Need-same-length
 same_length c = search rules
 
 returns : tie.Need-returns
-returns c = put-text (sym (ap wordsFor c.before.before.before.before.before.number.given.1)) c.before.before.put-words.ensures
+returns c = put-text (sym (ap words_for c.before.before.before.before.before.number.given.1)) c.before.before.put-words.ensures
 
 same-length-2 : tie.Need-same-length-2
 same-length-2 c = search rules

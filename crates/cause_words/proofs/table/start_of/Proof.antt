@@ -1,7 +1,7 @@
 -- `start_of` meets its contract: the table is the places of the rows. Assumes nothing.
 use Rattle.cause_words.specs.Table.{causes, sheets}
 use Rattle.cause_words.specs.Rows.{rows}
-use Rattle.cause_words.proofs.Found.{starts, starts-are, startsFrom}
+use Rattle.cause_words.proofs.Found.{starts, starts-are, starts_from}
 use borrow.Author.Rules.{rules}
 use Rattle.cause_words.proofs.table.start_of.Statement.{statement}
 use Rattle.cause_words.proofs.table.start_of.Tie as tie
@@ -13,7 +13,7 @@ array-read-result : tie.Need-array-read-result
 array-read-result c = search rules
 
 returns : tie.Need-returns
-unfolding starts startsFrom rows causes sheets
+unfolding starts starts_from rows causes sheets
 returns c = starts-are c.args.row c.requires
 
 pub start-of-spec : {M : Type 1} → statement M

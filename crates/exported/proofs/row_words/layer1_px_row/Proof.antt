@@ -1,7 +1,7 @@
 -- `layer1_px_row` meets its contract: the word tells the part that is handed back. Assumes nothing.
 use mathlib.Core.Path.{sym, ap, subst, ◌∙◌}
 use native.Mathlib.Omega.{arith}
-use Rattle.words.specs.Words.{rowWord}
+use Rattle.words.specs.Words.{row_word}
 use Rattle.exported.proofs.Parts.{Handed, long, px-handed, tells}
 use borrow.Author.Rules.{rules}
 use Rattle.exported.proofs.row_words.layer1_px_row.Statement.{statement}
@@ -16,7 +16,7 @@ row-word-requires c κs =
     (omega arith, short, within)
 
 returns : tie.Need-returns
-returns c = tells 18 _ _ _ _ (omega arith) (omega arith) (px-handed _ _ _ _) (c.row_word.ensures ∙ ap (rowWord 18 _) c.before.px-row.ensures)
+returns c = tells 18 _ _ _ _ (omega arith) (omega arith) (px-handed _ _ _ _) (c.row_word.ensures ∙ ap (row_word 18 _) c.before.px-row.ensures)
 
 pub layer1-px-row-spec : {M : Type 1} → statement M
 layer1-px-row-spec = tie.close (tie.spec px-row-requires row-word-requires returns)

@@ -3,8 +3,8 @@ use mathlib.Core.Path.{ap, subst}
 use native.Mathlib.Omega.{arith}
 use Rattle.finding.specs.declared.finder.Owner.{Owner}
 use Rattle.finding.specs.Finder.{values}
-use Rattle.words.specs.Words.{answerWord}
-use Rattle.exported_places.specs.Found.{SmallFound, foundInWord}
+use Rattle.words.specs.Words.{answer_word}
+use Rattle.exported_places.specs.Found.{SmallFound, found_in_word}
 use borrow.Author.Rules.{rules}
 use Rattle.exported_places.proofs.found.found_in_word.Statement.{statement}
 use Rattle.exported_places.proofs.found.found_in_word.Tie as tie
@@ -77,20 +77,20 @@ answer-word-requires c κs =
     omega arith
 
 returns : tie.Need-returns
-unfolding foundInWord
-returns c = omega (arith, ap (λ (x : Owner). foundInWord (values x)) c.before.cell.given.1)
+unfolding found_in_word
+returns c = omega (arith, ap (λ (x : Owner). found_in_word (values x)) c.before.cell.given.1)
 
 returns-2 : tie.Need-returns-2
-unfolding foundInWord
-returns-2 c = omega (arith, ap (λ (x : Owner). foundInWord (values x)) c.before.cell2.given.1)
+unfolding found_in_word
+returns-2 c = omega (arith, ap (λ (x : Owner). found_in_word (values x)) c.before.cell2.given.1)
 
 returns-3 : tie.Need-returns-3
-unfolding foundInWord
-returns-3 c = omega (arith, ap (λ (x : Owner). foundInWord (values x)) c.before.cell3.given.1)
+unfolding found_in_word
+returns-3 c = omega (arith, ap (λ (x : Owner). found_in_word (values x)) c.before.cell3.given.1)
 
 returns-4 : tie.Need-returns-4
-unfolding foundInWord answerWord
-returns-4 c = omega (arith, ap (λ (x : Owner). foundInWord (values x)) c.before.before.cell4.given.1, c.answer_word.ensures)
+unfolding found_in_word answer_word
+returns-4 c = omega (arith, ap (λ (x : Owner). found_in_word (values x)) c.before.before.cell4.given.1, c.answer_word.ensures)
 
 pub found-in-word-spec : {M : Type 1} → statement M
 found-in-word-spec =

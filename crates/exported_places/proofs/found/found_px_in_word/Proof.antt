@@ -3,8 +3,8 @@ use mathlib.Core.Path.{ap, subst}
 use native.Mathlib.Omega.{arith}
 use Rattle.finding_px.specs.declared.finder.FoundPxIn.{FoundPxIn}
 use Rattle.finding_px.specs.Finder.{values}
-use Rattle.words.specs.Words.{answerWord}
-use Rattle.exported_places.specs.Found.{SmallFoundPX, foundPxInWord}
+use Rattle.words.specs.Words.{answer_word}
+use Rattle.exported_places.specs.Found.{SmallFoundPX, found_px_in_word}
 use borrow.Author.Rules.{rules}
 use Rattle.exported_places.proofs.found.found_px_in_word.Statement.{statement}
 use Rattle.exported_places.proofs.found.found_px_in_word.Tie as tie
@@ -80,24 +80,24 @@ answer-word-requires c κs =
     omega arith
 
 returns : tie.Need-returns
-unfolding foundPxInWord
-returns c = omega (arith, ap (λ (x : FoundPxIn). foundPxInWord (values x)) c.before.cell.given.1)
+unfolding found_px_in_word
+returns c = omega (arith, ap (λ (x : FoundPxIn). found_px_in_word (values x)) c.before.cell.given.1)
 
 returns-2 : tie.Need-returns-2
-unfolding foundPxInWord
-returns-2 c = omega (arith, ap (λ (x : FoundPxIn). foundPxInWord (values x)) c.enum_told.given.1)
+unfolding found_px_in_word
+returns-2 c = omega (arith, ap (λ (x : FoundPxIn). found_px_in_word (values x)) c.enum_told.given.1)
 
 returns-3 : tie.Need-returns-3
-unfolding foundPxInWord
-returns-3 c = omega (arith, ap (λ (x : FoundPxIn). foundPxInWord (values x)) c.before.cell2.given.1)
+unfolding found_px_in_word
+returns-3 c = omega (arith, ap (λ (x : FoundPxIn). found_px_in_word (values x)) c.before.cell2.given.1)
 
 returns-4 : tie.Need-returns-4
-unfolding foundPxInWord
-returns-4 c = omega (arith, ap (λ (x : FoundPxIn). foundPxInWord (values x)) c.enum-told2.given.1)
+unfolding found_px_in_word
+returns-4 c = omega (arith, ap (λ (x : FoundPxIn). found_px_in_word (values x)) c.enum-told2.given.1)
 
 returns-5 : tie.Need-returns-5
-unfolding foundPxInWord answerWord
-returns-5 c = omega (arith, ap (λ (x : FoundPxIn). foundPxInWord (values x)) c.before.before.cell3.given.1, c.answer_word.ensures)
+unfolding found_px_in_word answer_word
+returns-5 c = omega (arith, ap (λ (x : FoundPxIn). found_px_in_word (values x)) c.before.before.cell3.given.1, c.answer_word.ensures)
 
 pub found-px-in-word-spec : {M : Type 1} → statement M
 found-px-in-word-spec =

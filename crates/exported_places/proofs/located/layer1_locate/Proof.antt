@@ -1,6 +1,6 @@
 -- `layer1_locate` meets its contract: where the bit was located, in a word. Assumes nothing.
 use mathlib.Core.Path.{sym, ap, subst, ◌∙◌}
-use Rattle.words.specs.Words.{locatedWord}
+use Rattle.words.specs.Words.{located_word}
 use Rattle.words.proofs.Fields.{SmallLocated}
 use Rattle.exported_places.proofs.Small.{located-told}
 use borrow.Author.Rules.{rules}
@@ -14,7 +14,7 @@ located-word-requires : tie.Need-located-word-requires
 located-word-requires c κs = subst SmallLocated (sym c.locate.ensures.1) (located-told _ _ _).0
 
 returns : tie.Need-returns
-returns c = c.located-word.ensures ∙ ap locatedWord c.before.locate.ensures.1
+returns c = c.located-word.ensures ∙ ap located_word c.before.locate.ensures.1
 
 pub layer1-locate-spec : {M : Type 1} → statement M
 layer1-locate-spec = tie.close (tie.spec locate-requires located-word-requires returns)

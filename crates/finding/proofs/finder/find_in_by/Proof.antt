@@ -3,7 +3,7 @@ use mathlib.Core.Path.{ap, sym, ◌∙◌}
 use borrow.Author.Tests.{not-true, not-false}
 use Rattle.runs.specs.declared.Main.{Main}
 use Rattle.queries.proofs.Valued.{valued}
-use Rattle.finding.specs.Finder.{ownerIn, values}
+use Rattle.finding.specs.Finder.{owner_in, values}
 use Rattle.finding.proofs.Cases.{found_none, found-told}
 use borrow.Author.Rules.{rules}
 use Rattle.finding.proofs.finder.find_in_by.Statement.{statement}
@@ -41,7 +41,7 @@ returns-2 c =
     let is = sym f.before.before.is-covered.ensures ∙ not-false _ f.before.if1.false in
     valued values
     (c.owner_of.ensures
-    ∙ ap (λ (k : Main). ownerIn k b.bit.given.0.0) m.main-of.ensures
+    ∙ ap (λ (k : Main). owner_in k b.bit.given.0.0) m.main-of.ensures
     ∙ found-told _ _ _ is _ (sym f.find-by.ensures.0 ∙ b.bit.given.1))
 
 returns-3 : tie.Need-returns-3

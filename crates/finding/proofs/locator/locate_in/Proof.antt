@@ -4,7 +4,7 @@ use borrow.Author.Tests.{not-true, not-false}
 use Rattle.runs.specs.declared.Main.{Main}
 use Rattle.queries.proofs.Valued.{valued}
 use Rattle.locating.specs.Locator.{values}
-use Rattle.finding.specs.Locator.{p1In, p2In}
+use Rattle.finding.specs.Locator.{p1_in, p2_in}
 use Rattle.finding.proofs.Cases.{located-none, located-p1, located-p2, located-other}
 use borrow.Author.Rules.{rules}
 use Rattle.finding.proofs.locator.locate_in.Statement.{statement}
@@ -31,7 +31,7 @@ returns-2 c =
     let a = i.before.before.args in
     valued values
     (c.locate-p1.ensures
-    ∙ ap (λ (k : Main). p1In k a.frame a.bit) m.main-of.ensures
+    ∙ ap (λ (k : Main). p1_in k a.frame a.bit) m.main-of.ensures
     ∙ located-p1 _ _ _ _ is j.if2.true)
 
 main-of-requires-2 : tie.Need-main-of-requires-2
@@ -50,7 +50,7 @@ returns-3 c =
     let a = i.before.before.args in
     valued values
     (c.locate-p2.ensures
-    ∙ ap (λ (k : Main). p2In k a.frame a.bit) m.main-of2.ensures
+    ∙ ap (λ (k : Main). p2_in k a.frame a.bit) m.main-of2.ensures
     ∙ located-p2 _ _ _ _ is j.if2.false l.if3.true)
 
 locate-requires : tie.Need-locate-requires

@@ -2,7 +2,7 @@
 use mathlib.Core.Path.{ap, sym}
 use native.Mathlib.Omega.{arith}
 use borrow.Author.Rules.{rules}
-use Rattle.runs.specs.Chain.{p1Coded}
+use Rattle.runs.specs.Chain.{p1_coded}
 use Rattle.finding.proofs.vector_u.p1_coded.Statement.{statement}
 use Rattle.finding.proofs.vector_u.p1_coded.Tie as tie
 
@@ -16,13 +16,13 @@ enum-told-3 : tie.Need-enum-told-3
 enum-told-3 c = search rules
 
 returns : tie.Need-returns
-returns c = (ap p1Coded (sym c.enum_told.given.1), omega arith)
+returns c = (ap p1_coded (sym c.enum_told.given.1), omega arith)
 
 returns-2 : tie.Need-returns-2
-returns-2 c = (ap p1Coded (sym c.enum-told2.given.1), omega arith)
+returns-2 c = (ap p1_coded (sym c.enum-told2.given.1), omega arith)
 
 returns-3 : tie.Need-returns-3
-returns-3 c = (ap p1Coded (sym c.enum-told3.given.1), omega arith)
+returns-3 c = (ap p1_coded (sym c.enum-told3.given.1), omega arith)
 
 pub p1-coded-spec : {M : Type 1} → statement M
 p1-coded-spec =

@@ -2,7 +2,7 @@
 use mathlib.Core.Path.{ap, sym}
 use native.Mathlib.Omega.{arith}
 use borrow.Author.Rules.{rules}
-use Rattle.finding.specs.VectorU.{p2Coded}
+use Rattle.finding.specs.VectorU.{p2_coded}
 use Rattle.finding.proofs.vector_u.p2_coded.Statement.{statement}
 use Rattle.finding.proofs.vector_u.p2_coded.Tie as tie
 
@@ -16,13 +16,13 @@ enum-told-3 : tie.Need-enum-told-3
 enum-told-3 c = search rules
 
 returns : tie.Need-returns
-returns c = (ap p2Coded (sym c.enum_told.given.1), omega arith)
+returns c = (ap p2_coded (sym c.enum_told.given.1), omega arith)
 
 returns-2 : tie.Need-returns-2
-returns-2 c = (ap p2Coded (sym c.enum-told2.given.1), omega arith)
+returns-2 c = (ap p2_coded (sym c.enum-told2.given.1), omega arith)
 
 returns-3 : tie.Need-returns-3
-returns-3 c = (ap p2Coded (sym c.enum-told3.given.1), omega arith)
+returns-3 c = (ap p2_coded (sym c.enum-told3.given.1), omega arith)
 
 pub p2-coded-spec : {M : Type 1} → statement M
 p2-coded-spec =

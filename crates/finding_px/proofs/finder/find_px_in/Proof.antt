@@ -2,9 +2,9 @@
 use mathlib.Core.Path.{ap, sym, ◌∙◌}
 use borrow.Author.Tests.{not-true, not-false}
 use Rattle.runs.specs.declared.State.{State}
-use Rattle.queries.specs.FinderPX.{foundPX}
+use Rattle.queries.specs.FinderPX.{found_px}
 use Rattle.queries.proofs.Valued.{valued}
-use Rattle.finding_px.specs.Finder.{asIn, values}
+use Rattle.finding_px.specs.Finder.{as_in, values}
 use Rattle.finding_px.proofs.Cases.{found_none, found-second, found-older}
 use borrow.Author.Rules.{rules}
 use Rattle.finding_px.proofs.finder.find_px_in.Statement.{statement}
@@ -55,7 +55,7 @@ returns-3 c =
     let o = c.before.before.as-older.ensures in
     valued values
     (c.as-in.ensures
-    ∙ ap asIn (c.before.find-px.ensures.0 ∙ ap (λ (s : State). foundPX s a.channel a.pair a.row a.column) o)
+    ∙ ap as_in (c.before.find-px.ensures.0 ∙ ap (λ (s : State). found_px s a.channel a.pair a.row a.column) o)
     ∙ found-older _ _ _ _ _ v _ m.main-of.ensures (sym n.is-named.ensures ∙ c.before.before.before.if2.false))
 
 pub find-px-in-spec : {M : Type 1} → statement M

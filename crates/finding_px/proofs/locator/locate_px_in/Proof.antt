@@ -3,7 +3,7 @@ use mathlib.Core.Path.{ap, sym, ◌∙◌}
 use borrow.Author.Tests.{not-true, not-false}
 use Rattle.runs.specs.declared.State.{State}
 use Rattle.queries.proofs.Valued.{valued}
-use Rattle.locating.specs.LocatorPX.{locatedPX, values}
+use Rattle.locating.specs.LocatorPX.{located_px, values}
 use Rattle.finding_px.proofs.Cases.{located-none, located-second, located-older}
 use borrow.Author.Rules.{rules}
 use Rattle.finding_px.proofs.locator.locate_px_in.Statement.{statement}
@@ -47,7 +47,7 @@ returns-3 c =
     let v = sym i.before.is-valid.ensures ∙ not-false _ i.if1.false in
     valued values
     (c.locate-px.ensures.0
-    ∙ ap (λ (s : State). locatedPX s a.channel a.frame a.bit) c.before.as-older.ensures
+    ∙ ap (λ (s : State). located_px s a.channel a.frame a.bit) c.before.as-older.ensures
     ∙ located-older _ _ _ _ v _ m.main-of.ensures (sym n.is-named.ensures ∙ c.before.before.if2.false))
 
 pub locate-px-in-spec : {M : Type 1} → statement M

@@ -1,7 +1,7 @@
 -- `as_older` meets its contract: a case for each kind of mode. Assumes nothing.
 use mathlib.Core.Path.{ap, sym, ◌∙◌}
 use Rattle.runs.specs.declared.Main.{Main}
-use Rattle.finding_px.specs.Finder.{asOlder}
+use Rattle.finding_px.specs.Finder.{as_older}
 use borrow.Author.Rules.{rules}
 use Rattle.finding_px.proofs.older.as_older.Statement.{statement}
 use Rattle.finding_px.proofs.older.as_older.Tie as tie
@@ -25,10 +25,10 @@ returns : tie.Need-returns
 returns c = search rules
 
 returns-2 : tie.Need-returns-2
-returns-2 c = let a = c.before.before.before.args in c.in-mode.ensures ∙ ap (λ (m : Main). asOlder m a.state) (sym c.before.enum-told2.given.1)
+returns-2 c = let a = c.before.before.before.args in c.in-mode.ensures ∙ ap (λ (m : Main). as_older m a.state) (sym c.before.enum-told2.given.1)
 
 returns-3 : tie.Need-returns-3
-returns-3 c = let a = c.before.before.before.args in c.in-mode2.ensures ∙ ap (λ (m : Main). asOlder m a.state) (sym c.before.enum-told3.given.1)
+returns-3 c = let a = c.before.before.before.args in c.in-mode2.ensures ∙ ap (λ (m : Main). as_older m a.state) (sym c.before.enum-told3.given.1)
 
 pub as-older-spec : {M : Type 1} → statement M
 as-older-spec =

@@ -1,7 +1,7 @@
 -- `index_of` meets its contract: the definition is computed as it stands. Assumes nothing.
 use mathlib.Core.Path.{refl}
 use native.Mathlib.Omega.{arith}
-use Rattle.interleaving.specs.InverseI.{kAt, turn}
+use Rattle.interleaving.specs.InverseI.{k_at, turn}
 use borrow.Author.Rules.{rules}
 use Rattle.finding_px.proofs.second.index_of.Statement.{statement}
 use Rattle.finding_px.proofs.second.index_of.Tie as tie
@@ -34,7 +34,7 @@ add-result-3 : tie.Need-overflow-add-result-3
 add-result-3 c = search rules
 
 returns : tie.Need-returns
-unfolding kAt turn
+unfolding k_at turn
 returns c = (refl, omega arith)
 
 pub index-of-spec : {M : Type 1} → statement M

@@ -4,7 +4,7 @@ use mathlib.Core.List.{List}
 use Prim.Native.Nat.{ℕ, ◌+◌}
 use native.Mathlib.Omega.{arith}
 use lib.ListN.{get_or}
-use Rattle.layout.specs.Layout.{frameBytes}
+use Rattle.layout.specs.Layout.{frame_bytes}
 use Rattle.layout.proofs.Cut.{lengths-small}
 use borrow.Author.Rules.{rules}
 use Rattle.layout.proofs.lengths.frame_bytes.Statement.{statement}
@@ -35,7 +35,7 @@ add-result-3 : tie.Need-overflow-add-result-3
 add-result-3 c = omega (arith, lengths-small _ _ _ _ c.reader-lengths.ensures)
 
 returns : tie.Need-returns
-unfolding frameBytes
+unfolding frame_bytes
 returns c = ap (λ (l : List ℕ). get_or l 5 0 + get_or l 6 0 + get_or l 7 0 + get_or l 8 0) c.reader-lengths.ensures
 
 pub frame-bytes-spec : {M : Type 1} → statement M

@@ -1,6 +1,6 @@
 -- `listing::empty` meets its contract, by computing. Assumes nothing.
 use mathlib.Core.Path.{refl}
-use Rattle.text.specs.Numbers.{digitsAlone, value}
+use Rattle.text.specs.Numbers.{digits_alone, value}
 use Rattle.text.specs.Lines.{before, after}
 use Rattle.linewise.specs.Going.{begun, contains}
 use Rattle.listing.specs.Running.{part_of, line_of}
@@ -8,7 +8,7 @@ use Rattle.listing.proofs.parsing.empty.Statement.{statement}
 use Rattle.listing.proofs.parsing.empty.Tie as tie
 
 returns : tie.Need-returns
-unfolding digitsAlone value before after begun contains part_of line_of
+unfolding digits_alone value before after begun contains part_of line_of
 returns c = refl
 
 pub empty-spec : {M : Type 1} → statement M

@@ -1,6 +1,6 @@
 -- `listing::print` meets its contract: the answer's line is the one that the line's state tells. Assumes nothing.
 use mathlib.Core.Path.{refl, sym, ap, ◌∙◌}
-use Rattle.listing.specs.Printed.{namedP1, namedPIDS, told}
+use Rattle.listing.specs.Printed.{named_p1, named_pids, told}
 use Rattle.listing.proofs.Meaning.{told-shown, shown-printed}
 use Rattle.text.proofs.Stored.{put-text}
 use borrow.Author.Rules.{rules}
@@ -48,7 +48,7 @@ returns c =
     let m = c.before.before.before.before.before.before in
     let f = m.before.before in (
       put-text (ap (told _ _ _) (sym m.bit.given.1) ∙ told-shown _ _ _ _ _ f.before.before.number_of_lem.ensures f.before.number-of2.ensures f.find-by.ensures.0)
-          (c.before.before.cell.ensures namedP1 refl),
+          (c.before.before.cell.ensures named_p1 refl),
       λ bytes e. shown-printed _ _ bytes e,
     )
 
@@ -60,7 +60,7 @@ returns-2 c =
     let m = c.before.before.before.before.before.before in
     let f = m.before.before in (
       put-text (ap (told _ _ _) (sym m.frame.given.1) ∙ told-shown _ _ _ _ _ f.before.before.number_of_lem.ensures f.before.number-of2.ensures f.find-by.ensures.0)
-          (c.before.before.cell2.ensures namedPIDS refl),
+          (c.before.before.cell2.ensures named_pids refl),
       λ bytes e. shown-printed _ _ bytes e,
     )
 

@@ -1,5 +1,5 @@
 -- `standing` meets its contract. Assumes nothing.
-use Rattle.interleaving.specs.Matrix.{matrixRow, matrixColumn}
+use Rattle.interleaving.specs.Matrix.{matrix_row, matrix_column}
 use Rattle.locating.specs.Locator.{standing}
 use mathlib.Core.Path.{refl}
 use borrow.Author.Rules.{rules}
@@ -19,7 +19,7 @@ add-column : tie.Need-overflow-add-column
 add-column c = search rules
 
 returns : tie.Need-returns
-unfolding standing matrixRow matrixColumn
+unfolding standing matrix_row matrix_column
 returns c = refl
 
 pub standing-spec : {M : Type 1} → statement M

@@ -1,6 +1,6 @@
 -- `later` meets its contract: the laws `around` and `ahead`. Assumes nothing.
 use native.Mathlib.Omega.{arith}
-use Rattle.interleaving.proofs.PXKinds.{codedBytes-le}
+use Rattle.interleaving.proofs.PXKinds.{coded_bytes-le}
 use Rattle.queries.proofs.Origins.{step-lt, step_small}
 use Rattle.locating.proofs.Counted.{around, ahead}
 use Rattle.locating.proofs.WritingsOf.{cell-written}
@@ -18,10 +18,10 @@ write-px-requires : tie.Need-write-px-requires
 write-px-requires c κs = (c.requires.0, step-lt c.args.kind c.args.n c.args.half c.args.j c.requires.0 c.requires.1 c.requires.2 c.requires.3)
 
 mul-result : tie.Need-overflow-mul-result
-mul-result c = omega (arith, codedBytes-le c.before.before.args.kind c.before.before.requires.0)
+mul-result c = omega (arith, coded_bytes-le c.before.before.args.kind c.before.before.requires.0)
 
 add-result : tie.Need-overflow-add-result
-add-result c = omega (arith, codedBytes-le c.before.before.args.kind c.before.before.requires.0)
+add-result c = omega (arith, coded_bytes-le c.before.before.args.kind c.before.before.requires.0)
 
 sub-result : tie.Need-overflow-sub-result
 sub-result c =
@@ -29,7 +29,7 @@ sub-result c =
     omega (arith, step-lt s.args.kind s.args.n s.args.half s.args.j s.requires.0 s.requires.1 s.requires.2 s.requires.3)
 
 add-result-2 : tie.Need-overflow-add-result-2
-add-result-2 c = omega (arith, codedBytes-le c.before.before.args.kind c.before.before.requires.0)
+add-result-2 c = omega (arith, coded_bytes-le c.before.before.args.kind c.before.before.requires.0)
 
 returns : tie.Need-returns
 returns c =

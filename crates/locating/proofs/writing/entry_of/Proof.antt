@@ -1,14 +1,14 @@
 -- `entry_of` meets its contract: the laws `narrow-entry` and `wide-entry`. Assumes nothing.
 use mathlib.Core.Path.{refl}
 use native.Mathlib.Omega.{arith}
-use Rattle.interleaving.proofs.PXKinds.{codedBytes-le}
+use Rattle.interleaving.proofs.PXKinds.{coded_bytes-le}
 use Rattle.locating.proofs.Counted.{narrow-entry, wide-entry}
 use borrow.Author.Rules.{rules}
 use Rattle.locating.proofs.writing.entry_of.Statement.{statement}
 use Rattle.locating.proofs.writing.entry_of.Tie as tie
 
 add-x : tie.Need-overflow-add-x
-add-x c = omega (arith, codedBytes-le c.before.args.kind c.before.requires.0)
+add-x c = omega (arith, coded_bytes-le c.before.args.kind c.before.requires.0)
 
 mul-count : tie.Need-overflow-mul-count
 mul-count c = search rules

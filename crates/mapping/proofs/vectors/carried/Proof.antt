@@ -4,8 +4,8 @@ use native.Mathlib.Omega.{arith}
 use lib.Ieee.{of_bits}
 use Rattle.calls.specs.Called.{signal}
 use Rattle.subcarriers.specs.declared.Source.{Source}
-use Rattle.points.specs.Points.{noPoint}
-use Rattle.mapping.specs.Vector.{pointFor}
+use Rattle.points.specs.Points.{no_point}
+use Rattle.mapping.specs.Vector.{point_for}
 use Rattle.mapping.proofs.Rows.{small, pm-in, px1-in, px2-in, control-in}
 use borrow.Author.Rules.{rules}
 use Rattle.mapping.proofs.vectors.carried.Statement.{statement}
@@ -83,39 +83,39 @@ single-requires c κs =
     control-in p.0 _ p.1 _ c.before.source4.given.1
 
 returns : tie.Need-returns
-unfolding pointFor noPoint of_bits
+unfolding point_for no_point of_bits
 returns c =
     let a = c.before.before.before.before.before.before.args in
     let g = signal a.pm.now a.px1.now a.px2.now a.control.now in
-    ap (λ (x : Source). pointFor a.symbol a.width1 a.width2 g x a.scale) (sym c.enum_told.given.1)
+    ap (λ (x : Source). point_for a.symbol a.width1 a.width2 g x a.scale) (sym c.enum_told.given.1)
 
 returns-2 : tie.Need-returns-2
-unfolding pointFor
+unfolding point_for
 returns-2 c =
     let a = c.before.before.before.before.before.before.before.before.args in
     let g = signal a.pm.now a.px1.now a.px2.now a.control.now in
-    c.pair.ensures ∙ ap (λ (x : Source). pointFor a.symbol a.width1 a.width2 g x a.scale) (sym c.before.before.source.given.1)
+    c.pair.ensures ∙ ap (λ (x : Source). point_for a.symbol a.width1 a.width2 g x a.scale) (sym c.before.before.source.given.1)
 
 returns-3 : tie.Need-returns-3
-unfolding pointFor
+unfolding point_for
 returns-3 c =
     let a = c.before.before.before.before.before.before.before.before.args in
     let g = signal a.pm.now a.px1.now a.px2.now a.control.now in
-    c.pair2.ensures ∙ ap (λ (x : Source). pointFor a.symbol a.width1 a.width2 g x a.scale) (sym c.before.before.source2.given.1)
+    c.pair2.ensures ∙ ap (λ (x : Source). point_for a.symbol a.width1 a.width2 g x a.scale) (sym c.before.before.source2.given.1)
 
 returns-4 : tie.Need-returns-4
-unfolding pointFor
+unfolding point_for
 returns-4 c =
     let a = c.before.before.before.before.before.before.before.before.args in
     let g = signal a.pm.now a.px1.now a.px2.now a.control.now in
-    c.pair3.ensures ∙ ap (λ (x : Source). pointFor a.symbol a.width1 a.width2 g x a.scale) (sym c.before.before.source3.given.1)
+    c.pair3.ensures ∙ ap (λ (x : Source). point_for a.symbol a.width1 a.width2 g x a.scale) (sym c.before.before.source3.given.1)
 
 returns-5 : tie.Need-returns-5
-unfolding pointFor
+unfolding point_for
 returns-5 c =
     let a = c.before.before.before.before.before.before.before.before.args in
     let g = signal a.pm.now a.px1.now a.px2.now a.control.now in
-    c.single.ensures ∙ ap (λ (x : Source). pointFor a.symbol a.width1 a.width2 g x a.scale) (sym c.before.before.source4.given.1)
+    c.single.ensures ∙ ap (λ (x : Source). point_for a.symbol a.width1 a.width2 g x a.scale) (sym c.before.before.source4.given.1)
 
 pub carried-spec : {M : Type 1} → statement M
 carried-spec =

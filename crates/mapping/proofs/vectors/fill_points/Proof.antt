@@ -4,7 +4,7 @@ use Prim.Native.Nat.{◌-◌, ◌≤◌}
 use native.Mathlib.Omega.{arith}
 use borrow.Author.Rules.{rules}
 use Rattle.calls.specs.Called.{signal}
-use Rattle.mapping.specs.Vector.{pointAt}
+use Rattle.mapping.specs.Vector.{point_at}
 use Rattle.bits.proofs.Listed.{Filled, filled_none, filled-stored, filled-all}
 use Rattle.mapping.proofs.VectorCases.{of-mode, width1-is, width2-is, readable-is}
 use Rattle.mapping.proofs.vectors.fill_points.Statement.{statement}
@@ -13,8 +13,8 @@ use Rattle.mapping.proofs.vectors.fill_points.Tie as tie
 abbrev invariant-loop : tie.invariant-loop
 invariant-loop mode symbol lower upper pm px1 px2 control re₀ im₀ n width1 width2 k₀ re im k =
     (k ≤ 1093)
-    × Filled 1093 (λ j. (pointAt mode symbol lower upper (signal pm px1 px2 control) j).re) re k
-    × Filled 1093 (λ j. (pointAt mode symbol lower upper (signal pm px1 px2 control) j).im) im k
+    × Filled 1093 (λ j. (point_at mode symbol lower upper (signal pm px1 px2 control) j).re) re k
+    × Filled 1093 (λ j. (point_at mode symbol lower upper (signal pm px1 px2 control) j).im) im k
 
 abbrev decreases-loop : tie.decreases-loop
 decreases-loop mode symbol lower upper pm px1 px2 control re₀ im₀ n width1 width2 k₀ re im k = 1093 - k

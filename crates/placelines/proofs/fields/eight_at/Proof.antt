@@ -3,14 +3,14 @@ use mathlib.Core.Path.{refl}
 use Prim.Native.Nat.{◌+◌, ◌-◌, ◌≤◌}
 use native.Mathlib.Omega.{arith}
 use Rattle.bits.proofs.Listed.{Filled, filled_none, filled-turn, filled-all}
-use Rattle.placelines.specs.Read.{eightAt, numberAt}
+use Rattle.placelines.specs.Read.{eight_at, number_at}
 use Rattle.placelines.proofs.Numbers.{read_at}
 use borrow.Author.Rules.{rules}
 use Rattle.placelines.proofs.fields.eight_at.Statement.{statement}
 use Rattle.placelines.proofs.fields.eight_at.Tie as tie
 
 abbrev invariant-loop : tie.invariant-loop
-invariant-loop line k numbers₀ d₀ numbers d = (d ≤ 8) × Filled 8 (λ d. numberAt (k + d) line) numbers d
+invariant-loop line k numbers₀ d₀ numbers d = (d ≤ 8) × Filled 8 (λ d. number_at (k + d) line) numbers d
 
 abbrev decreases-loop : tie.decreases-loop
 decreases-loop line k numbers₀ d₀ numbers d = 8 - d
@@ -42,7 +42,7 @@ loop-again : tie.Need-loop-preserved invariant-loop decreases-loop
 loop-again c = (omega arith, filled-turn _ c.before.before.loop.invariant.1 c.before.loop-test.true c.number_at.ensures)
 
 returns : tie.Need-returns invariant-loop decreases-loop
-unfolding eightAt
+unfolding eight_at
 returns c = filled-all c.before.loop.invariant.1 c.loop-test.false c.before.loop.invariant.0
 
 pub eight-at-spec : {M : Type 1} → statement M

@@ -3,14 +3,14 @@ use mathlib.Core.Path.{◌≡◌, sym, ap, subst, ◌∙◌}
 use mathlib.Core.Bool.{true}
 use Prim.Native.Nat.{ℕ, ◌-◌, ◌<◌, ◌≤◌}
 use native.Mathlib.Omega.{arith}
-use Rattle.placelines.specs.Read.{isRead}
+use Rattle.placelines.specs.Read.{is_read}
 use Rattle.placelines.proofs.Numbers.{read_none, read_more, not-read}
 use borrow.Author.Rules.{rules}
 use Rattle.placelines.proofs.fields.is_read.Statement.{statement}
 use Rattle.placelines.proofs.fields.is_read.Tie as tie
 
 abbrev invariant-loop : tie.invariant-loop
-invariant-loop line k₀ k = (k ≤ 16) × (isRead k line ≡ true)
+invariant-loop line k₀ k = (k ≤ 16) × (is_read k line ≡ true)
 
 abbrev decreases-loop : tie.decreases-loop
 decreases-loop line k₀ k = 16 - k
@@ -42,7 +42,7 @@ loop-again c =
 returns-2 : tie.Need-returns-2 invariant-loop decreases-loop
 returns-2 c =
     let e : c.before.loop.k ≡ 16 = omega arith in
-    sym c.before.loop.invariant.1 ∙ ap (λ (k : ℕ). isRead k c.before.before.before.args.line.now) e
+    sym c.before.loop.invariant.1 ∙ ap (λ (k : ℕ). is_read k c.before.before.before.args.line.now) e
 
 pub is-read-spec : {M : Type 1} → statement M
 is-read-spec =

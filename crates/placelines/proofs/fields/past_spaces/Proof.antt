@@ -3,14 +3,14 @@ use mathlib.Core.Path.{◌≡◌, ap, ◌∙◌}
 use Prim.Native.Nat.{ℕ, ◌-◌, ◌≤◌}
 use native.Mathlib.Omega.{arith}
 use lib.ListN.{length, drop}
-use Rattle.placelines.specs.Read.{afterSpaces}
+use Rattle.placelines.specs.Read.{after_spaces}
 use Rattle.placelines.proofs.Numbers.{spaces-none, spaces-more}
 use borrow.Author.Rules.{rules}
 use Rattle.placelines.proofs.fields.past_spaces.Statement.{statement}
 use Rattle.placelines.proofs.fields.past_spaces.Tie as tie
 
 abbrev invariant-loop : tie.invariant-loop
-invariant-loop line k at₀ i₀ at i = (i ≤ k) × (at ≤ length line) × (drop at line ≡ afterSpaces i line)
+invariant-loop line k at₀ i₀ at i = (i ≤ k) × (at ≤ length line) × (drop at line ≡ after_spaces i line)
 
 abbrev decreases-loop : tie.decreases-loop
 decreases-loop line k at₀ i₀ at i = k - i
@@ -35,7 +35,7 @@ loop-again c =
 returns : tie.Need-returns invariant-loop decreases-loop
 returns c =
     let e : c.before.loop.i ≡ c.before.before.before.args.k = omega arith in
-    (c.before.loop.invariant.1, c.before.loop.invariant.2 ∙ ap (λ (n : ℕ). afterSpaces n c.before.before.before.args.line.now) e)
+    (c.before.loop.invariant.1, c.before.loop.invariant.2 ∙ ap (λ (n : ℕ). after_spaces n c.before.before.before.args.line.now) e)
 
 pub past-spaces-spec : {M : Type 1} → statement M
 past-spaces-spec =

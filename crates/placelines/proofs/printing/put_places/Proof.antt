@@ -3,14 +3,14 @@ use mathlib.Core.Path.{refl}
 use Prim.Native.Nat.{◌*◌, ◌-◌, ◌≤◌}
 use native.Mathlib.Omega.{arith}
 use Rattle.text.specs.Put.{Put}
-use Rattle.placelines.specs.Printed.{spelledPlaces}
+use Rattle.placelines.specs.Printed.{spelled_places}
 use Rattle.placelines.proofs.Texts.{no-places, more-places, all-places}
 use borrow.Author.Rules.{rules}
 use Rattle.placelines.proofs.printing.put_places.Statement.{statement}
 use Rattle.placelines.proofs.printing.put_places.Tie as tie
 
 abbrev invariant-loop : tie.invariant-loop
-invariant-loop out₀ at places end₀ k₀ out end k = (k ≤ 16) × Put out₀ out at end (4 * k) (spelledPlaces k places)
+invariant-loop out₀ at places end₀ k₀ out end k = (k ≤ 16) × Put out₀ out at end (4 * k) (spelled_places k places)
 
 abbrev decreases-loop : tie.decreases-loop
 decreases-loop out₀ at places end₀ k₀ out end k = 16 - k

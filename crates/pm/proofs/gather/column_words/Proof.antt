@@ -5,7 +5,7 @@ use native.Mathlib.Omega.{arith}
 use lib.ListN.{length, length-set}
 use Rattle.interleaving.specs.Matrix.{cell_of}
 use Rattle.transposing.specs.Words.{Begins}
-use Rattle.pm.specs.Rows.{nibbleIn, word_in, placed}
+use Rattle.pm.specs.Rows.{nibble_in, word_in, placed}
 use Rattle.transposing.proofs.Words.{begins-none, begins-at, begins-turn}
 use Rattle.pm.proofs.BackLaws.{word-nibble, word_of}
 use borrow.Author.Rules.{rules}
@@ -14,7 +14,7 @@ use Rattle.pm.proofs.gather.column_words.Tie as tie
 
 abbrev invariant-loop : tie.invariant-loop
 invariant-loop spreads nibbles x words₀ j₀ words j =
-    (j ≤ 40) × (length words ≡ 40) × ((f : ℕ → ℕ) (r : ℕ) → ((c : ℕ) → f c < 2) → Begins (nibbleIn f r) 2880 nibbles → Begins (word_in f r x) j words)
+    (j ≤ 40) × (length words ≡ 40) × ((f : ℕ → ℕ) (r : ℕ) → ((c : ℕ) → f c < 2) → Begins (nibble_in f r) 2880 nibbles → Begins (word_in f r x) j words)
 
 abbrev decreases-loop : tie.decreases-loop
 decreases-loop spreads nibbles x words₀ j₀ words j = 40 - j

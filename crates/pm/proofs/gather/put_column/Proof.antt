@@ -5,8 +5,8 @@ use native.Mathlib.Omega.{arith}
 use Rattle.bits.specs.Bits.{number, byte_of}
 use Rattle.bits.proofs.Numbers.{number_lt}
 use Rattle.interleaving.specs.Matrix.{cell_of}
-use Rattle.interleaving.specs.TableI.{kFor}
-use Rattle.interleaving.specs.PM.{p1Place}
+use Rattle.interleaving.specs.TableI.{k_for}
+use Rattle.interleaving.specs.PM.{p1_place}
 use Rattle.pm.specs.Rows.{placed}
 use Rattle.pm.proofs.BackLaws.{columns-p1, columns-pids, column-byte, word_of}
 use borrow.Author.Rules.{rules}
@@ -26,7 +26,7 @@ returns : tie.Need-returns
 returns c =
     let a = c.before.before.before.args in
     let pre = c.before.before.before.requires in
-    let k : 1142 ≤ kFor a.r (4 * a.x + a.i) = omega (arith, c.before.k-at.ensures.0) in
+    let k : 1142 ≤ k_for a.r (4 * a.x + a.i) = omega (arith, c.before.k-at.ensures.0) in
     λ f b s d. columns-pids pre.2 (omega (arith, pre.3, pre.4)) k d
 
 mul-copy-column : tie.Need-overflow-mul-copy-column
@@ -45,11 +45,11 @@ returns-2 c =
     let k = c.before.before.before.before.before.k-at.ensures.0 in
     let in_row : 4 * a.x + a.i < 36 = omega (arith, pre.3, pre.4) in
     λ f b s d. columns-p1 pre.2 in_row d
-    (rw k at (c.before.before.copy-column.ensures (byte_of (λ i. f (p1Place i)))
+    (rw k at (c.before.before.copy-column.ensures (byte_of (λ i. f (p1_place i)))
     (λ j i. number 8 (λ u. f (cell_of 20 36 (placed (8 * j + u) a.r (4 * a.x + i)))))
     (λ j i. number_lt 8 _ (λ u l. b _))
     (λ j h. s.is j h ∙ word_of f a.r a.x j)
-    (λ j h. ap (λ (n : ℕ). byte_of (λ i. f (p1Place i)) (40 * n + j)) k ∙ column-byte f a.r (4 * a.x + a.i) j pre.2 in_row h)))
+    (λ j h. ap (λ (n : ℕ). byte_of (λ i. f (p1_place i)) (40 * n + j)) k ∙ column-byte f a.r (4 * a.x + a.i) j pre.2 in_row h)))
 
 pub put-column-spec : {M : Type 1} → statement M
 put-column-spec =

@@ -4,7 +4,7 @@ use Prim.Native.Nat.{ℕ, ◌≤◌, ◌<◌, ◌+◌, ◌-◌, ◌*◌}
 use native.Mathlib.Omega.{arith}
 use lib.ListN.{length}
 use Rattle.transposing.specs.Words.{Begins}
-use Rattle.pm.specs.Rows.{nibbleIn, ColumnsDone}
+use Rattle.pm.specs.Rows.{nibble_in, ColumnsDone}
 use Rattle.pm.proofs.BackLaws.{columns-at}
 use borrow.Author.Rules.{rules}
 use Rattle.pm.proofs.gather.put_columns.Statement.{statement}
@@ -13,7 +13,7 @@ use Rattle.pm.proofs.gather.put_columns.Tie as tie
 abbrev invariant-loop : tie.invariant-loop
 invariant-loop spreads table nibbles r coded₀ words₀ x₀ coded words x =
     (x ≤ 9) × (length coded ≡ 45680) × (length words ≡ 40)
-    × ((f : ℕ → ℕ) → ((q : ℕ) → f q < 2) → Begins (nibbleIn f r) 2880 nibbles → ColumnsDone f (36 * r) coded₀ → ColumnsDone f (36 * r + 4 * x) coded)
+    × ((f : ℕ → ℕ) → ((q : ℕ) → f q < 2) → Begins (nibble_in f r) 2880 nibbles → ColumnsDone f (36 * r) coded₀ → ColumnsDone f (36 * r + 4 * x) coded)
 
 abbrev decreases-loop : tie.decreases-loop
 decreases-loop spreads table nibbles r coded₀ words₀ x₀ coded words x = 9 - x

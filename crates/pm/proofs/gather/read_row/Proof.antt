@@ -4,9 +4,9 @@ use Prim.Native.Nat.{ℕ, ◌≤◌, ◌+◌, ◌-◌, ◌*◌}
 use native.Mathlib.Omega.{arith}
 use lib.ListN.{length}
 use Rattle.bits.specs.Bits.{bit_at, number}
-use Rattle.interleaving.specs.PM.{p1Place}
+use Rattle.interleaving.specs.PM.{p1_place}
 use Rattle.transposing.specs.Words.{Begins}
-use Rattle.pm.specs.Rows.{nibbleIn}
+use Rattle.pm.specs.Rows.{nibble_in}
 use Rattle.transposing.proofs.Words.{begins-none, begins-at}
 use Rattle.pm.proofs.BackLaws.{row-cell, nibble-at}
 use borrow.Author.Rules.{rules}
@@ -14,7 +14,7 @@ use Rattle.pm.proofs.gather.read_row.Statement.{statement}
 use Rattle.pm.proofs.gather.read_row.Tie as tie
 
 abbrev invariant-loop : tie.invariant-loop
-invariant-loop pm cells r out₀ t₀ out t = (t ≤ 320) × (length out ≡ 2880) × Begins (nibbleIn (bit_at pm) r) (9 * t) out
+invariant-loop pm cells r out₀ t₀ out t = (t ≤ 320) × (length out ≡ 2880) × Begins (nibble_in (bit_at pm) r) (9 * t) out
 
 abbrev decreases-loop : tie.decreases-loop
 decreases-loop pm cells r out₀ t₀ out t = 320 - t
@@ -38,14 +38,14 @@ add-read-columns : tie.Need-overflow-add-read-columns invariant-loop decreases-l
 add-read-columns c =
     let t = c.before.before.before.loop.t in
     let r = c.before.before.before.before.before.args.r in
-    let first : c.wide-cell.result ≡ p1Place t = c.wide-cell.ensures ∙ c.before.before.before.before.before.requires.1 t (omega arith) in
+    let first : c.wide-cell.result ≡ p1_place t = c.wide-cell.ensures ∙ c.before.before.before.before.before.requires.1 t (omega arith) in
     omega (arith, (row-cell t r (omega arith) (omega arith)).0)
 
 read-columns-requires : tie.Need-read-columns-requires invariant-loop decreases-loop
 read-columns-requires c κs =
     let t = c.before.before.before.before.loop.t in
     let r = c.before.before.before.before.before.before.args.r in
-    let first : c.before.wide-cell.result ≡ p1Place t = c.before.wide-cell.ensures ∙ c.before.before.before.before.before.before.requires.1 t (omega arith) in
+    let first : c.before.wide-cell.result ≡ p1_place t = c.before.wide-cell.ensures ∙ c.before.before.before.before.before.before.requires.1 t (omega arith) in
     let cell = row-cell t r (omega arith) (omega arith) in
     (c.before.before.before.before.before.before.requires.0, omega (arith, cell.0), rw first cell.1, omega arith, c.before.before.before.before.loop.invariant.1)
 
@@ -61,11 +61,11 @@ loop-again c =
     let t = loop.t in
     let a = c.before.before.before.before.before.before.before.args in
     let f : ℕ → ℕ = bit_at a.pm.now in
-    let first : c.before.before.wide-cell.result ≡ p1Place t = c.before.before.wide-cell.ensures ∙ c.before.before.before.before.before.before.before.requires.1 t (omega arith) in (
+    let first : c.before.before.wide-cell.result ≡ p1_place t = c.before.before.wide-cell.ensures ∙ c.before.before.before.before.before.before.before.requires.1 t (omega arith) in (
       search rules,
       c.read-columns.ensures.0,
       begins-at _
-          (c.read-columns.ensures.1 (nibbleIn f a.r)
+          (c.read-columns.ensures.1 (nibble_in f a.r)
           (λ x h. nibble-at f a.r t x (omega arith) h ∙ ap (λ (c : ℕ). number 4 (λ i. f (c + 720 * a.r + 4 * x + i))) (sym first)) loop.invariant.2)
           (omega arith),
     )

@@ -6,7 +6,7 @@ use lib.ListN.{length}
 use Rattle.bits.specs.Bits.{bit_at}
 use Rattle.bits.proofs.Packed.{bit_at_lt}
 use Rattle.transposing.specs.Words.{Begins}
-use Rattle.pm.specs.Rows.{nibbleFor}
+use Rattle.pm.specs.Rows.{nibble_for}
 use Rattle.transposing.proofs.Words.{begins-none, begins-at}
 use Rattle.pm.proofs.RowLaws.{nibble-of, nibble-lt}
 use borrow.Author.Rules.{rules}
@@ -14,7 +14,7 @@ use Rattle.pm.proofs.scatter.row_nibbles.Statement.{statement}
 use Rattle.pm.proofs.scatter.row_nibbles.Tie as tie
 
 abbrev invariant-loop : tie.invariant-loop
-invariant-loop spreads table coded r out₀ x₀ out x = (x ≤ 9) × (length out ≡ length out₀) × Begins (nibbleFor (bit_at coded) r) (320 * x) out
+invariant-loop spreads table coded r out₀ x₀ out x = (x ≤ 9) × (length out ≡ length out₀) × Begins (nibble_for (bit_at coded) r) (320 * x) out
 
 abbrev decreases-loop : tie.decreases-loop
 decreases-loop spreads table coded r out₀ x₀ out x = 9 - x
@@ -74,11 +74,11 @@ loop-again c =
     let loop = c.before.before.before.before.before.before.before.before.before.loop in
     let a = c.before.before.before.before.before.before.before.before.before.before.before.before.args in
     let f : ℕ → ℕ = bit_at a.coded.now in
-    let small : (q : ℕ) → nibbleFor f a.r q < 256 = λ q. omega (arith, nibble-lt f (bit_at_lt a.coded.now) a.r q) in (
+    let small : (q : ℕ) → nibble_for f a.r q < 256 = λ q. omega (arith, nibble-lt f (bit_at_lt a.coded.now) a.r q) in (
       search rules,
       search rules,
       begins-at _
-          (c.before.before.four-columns.ensures (nibbleFor f a.r) small
+          (c.before.before.four-columns.ensures (nibble_for f a.r) small
           (nibble-of f a.r loop.x c.before.before.before.before.before.before.before.start_of_lem.ensures.0 c.before.before.before.before.before.before.start-of2.ensures.0 c.before.before.before.before.before.start-of3.ensures.0 c.before.before.before.before.start-of4.ensures.0) loop.invariant.2)
           (omega arith),
     )

@@ -1,10 +1,10 @@
--- `pm::scatter::seat` meets its contract: the two cases of `seatOf`. Assumes nothing.
+-- `pm::scatter::seat` meets its contract: the two cases of `seat_of`. Assumes nothing.
 use mathlib.Core.Path.{sym, ap}
 use mathlib.Core.Bool.{Bool, cond}
 use Prim.Native.Nat.{◌+◌, ◌-◌, ◌*◌}
 use native.Mathlib.Omega.{arith}
 use borrow.Author.Tests.{lt-ltb, le-ltb}
-use Rattle.pm.specs.Rows.{seatOf}
+use Rattle.pm.specs.Rows.{seat_of}
 use borrow.Author.Rules.{rules}
 use Rattle.pm.proofs.scatter.seat.Statement.{statement}
 use Rattle.pm.proofs.scatter.seat.Tie as tie
@@ -16,7 +16,7 @@ add-result : tie.Need-overflow-add-result
 add-result c = search rules
 
 returns : tie.Need-returns
-unfolding seatOf
+unfolding seat_of
 returns c =
     let a = c.before.args in
     (sym (ap (λ (s : Bool). cond s (320 * a.z + a.t) (320 * (a.z - 9) + a.u)) (lt-ltb a.z 9 c.if1.true)), omega arith)
@@ -28,7 +28,7 @@ add-result-2 : tie.Need-overflow-add-result-2
 add-result-2 c = search rules
 
 returns-2 : tie.Need-returns-2
-unfolding seatOf
+unfolding seat_of
 returns-2 c =
     let a = c.before.args in
     (sym (ap (λ (s : Bool). cond s (320 * a.z + a.t) (320 * (a.z - 9) + a.u)) (le-ltb a.z 9 (omega arith))), omega arith)

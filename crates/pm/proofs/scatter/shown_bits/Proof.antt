@@ -4,14 +4,14 @@ use Prim.Native.Nat.{◌≤◌, ◌-◌, ◌/◌, ◌%◌}
 use native.Mathlib.Omega.{arith}
 use lib.ListN.{length, length-set}
 use Rattle.transposing.specs.Words.{Begins}
-use Rattle.pm.specs.Rows.{shownOf}
+use Rattle.pm.specs.Rows.{shown_of}
 use Rattle.transposing.proofs.Words.{begins-none, begins-turn}
 use borrow.Author.Rules.{rules}
 use Rattle.pm.proofs.scatter.shown_bits.Statement.{statement}
 use Rattle.pm.proofs.scatter.shown_bits.Tie as tie
 
 abbrev invariant-loop : tie.invariant-loop
-invariant-loop found₀ i₀ found i = (i ≤ 320) × (length found ≡ 320) × Begins (λ q. shownOf (q / 20) (q % 20)) i found
+invariant-loop found₀ i₀ found i = (i ≤ 320) × (length found ≡ 320) × Begins (λ q. shown_of (q / 20) (q % 20)) i found
 
 abbrev decreases-loop : tie.decreases-loop
 decreases-loop found₀ i₀ found i = 320 - i

@@ -2,7 +2,7 @@
 use mathlib.Core.Path.{sym, ap, ◌∙◌}
 use Prim.Native.Nat.{ℕ, ◌*◌, ◌<◌, ◌≤◌}
 use native.Mathlib.Omega.{arith}
-use Rattle.interleaving.specs.TableI.{kFor}
+use Rattle.interleaving.specs.TableI.{k_for}
 use Rattle.pm.proofs.RowLaws.{group-p1, group-pids}
 use borrow.Author.Rules.{rules}
 use Rattle.pm.proofs.scatter.start_of.Statement.{statement}
@@ -18,14 +18,14 @@ returns : tie.Need-returns
 returns c =
     let a = c.before.before.args in
     let k = c.before.k-at.ensures.0 in
-    let l : kFor a.r a.c < 1142 = omega arith in
+    let l : k_for a.r a.c < 1142 = omega arith in
     (ap (λ (i : ℕ). 40 * i) (k ∙ sym (group-p1 a.r a.c l)), omega arith)
 
 returns-2 : tie.Need-returns-2
 returns-2 c =
     let a = c.before.before.args in
     let k = c.before.k-at.ensures.0 in
-    let l : 1142 ≤ kFor a.r a.c = omega arith in
+    let l : 1142 ≤ k_for a.r a.c = omega arith in
     (omega (arith, group-pids a.r a.c l), omega arith)
 
 pub start-of-spec : {M : Type 1} → statement M

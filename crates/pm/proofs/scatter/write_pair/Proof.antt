@@ -3,7 +3,7 @@ use mathlib.Core.Path.{◌≡◌, sym, ap₂, ◌∙◌}
 use Prim.Native.Nat.{ℕ, ◌≤◌, ◌<◌, ◌+◌, ◌-◌, ◌*◌}
 use native.Mathlib.Omega.{arith}
 use lib.ListN.{length, get_or, length-set}
-use Rattle.pm.specs.Rows.{Changed, seatOf}
+use Rattle.pm.specs.Rows.{Changed, seat_of}
 use Rattle.pm.proofs.RowLaws.{changed-none, changed-turn, changed-at}
 use borrow.Author.Rules.{rules}
 use Rattle.pm.proofs.scatter.write_pair.Statement.{statement}
@@ -12,7 +12,7 @@ use Rattle.pm.proofs.scatter.write_pair.Tie as tie
 abbrev invariant-loop : tie.invariant-loop
 invariant-loop nibbles t u n pm₀ y₀ pm y =
     (y ≤ 9) × (length pm ≡ length pm₀)
-    × ((g : ℕ → ℕ) → ((y : ℕ) → y < 9 → g (n + y) ≡ 16 * get_or nibbles (seatOf t u (2 * y)) 0 + get_or nibbles (seatOf t u (2 * y + 1)) 0) → Changed n (n + y) g pm₀ pm)
+    × ((g : ℕ → ℕ) → ((y : ℕ) → y < 9 → g (n + y) ≡ 16 * get_or nibbles (seat_of t u (2 * y)) 0 + get_or nibbles (seat_of t u (2 * y + 1)) 0) → Changed n (n + y) g pm₀ pm)
 
 abbrev decreases-loop : tie.decreases-loop
 decreases-loop nibbles t u n pm₀ y₀ pm y = 9 - y

@@ -6,7 +6,7 @@ use lib.ListN.{length}
 use Rattle.bits.specs.Bits.{byte_of}
 use Rattle.interleaving.specs.Matrix.{position_of}
 use Rattle.transposing.specs.Words.{Begins}
-use Rattle.pm.specs.Rows.{bitFor, nibbleFor, RowsDone}
+use Rattle.pm.specs.Rows.{bit_for, nibble_for, RowsDone}
 use Rattle.pm.proofs.RowLaws.{PairsDone, pairs-none, pairs-turn, pairs-all, pair-shown, shown-lt}
 use borrow.Author.Rules.{rules}
 use Rattle.pm.proofs.scatter.write_row.Statement.{statement}
@@ -14,7 +14,7 @@ use Rattle.pm.proofs.scatter.write_row.Tie as tie
 
 abbrev invariant-loop : tie.invariant-loop
 invariant-loop nibbles shown r pm₀ i₀ pm i =
-    (i ≤ 160) × (length pm ≡ 46080) × ((f : ℕ → ℕ) → Begins (nibbleFor f r) 2880 nibbles → RowsDone f r pm₀ → PairsDone f r i pm)
+    (i ≤ 160) × (length pm ≡ 46080) × ((f : ℕ → ℕ) → Begins (nibble_for f r) 2880 nibbles → RowsDone f r pm₀ → PairsDone f r i pm)
 
 abbrev decreases-loop : tie.decreases-loop
 decreases-loop nibbles shown r pm₀ i₀ pm i = 160 - i
@@ -88,7 +88,7 @@ loop-again c =
       search rules,
       search rules,
       λ f b d. pairs-turn c.before.before.before.before.before.before.before.before.before.before.before.requires.2 (omega arith) (loop.invariant.2 f b d)
-          (c.before.before.write-pair.ensures (byte_of (λ c. bitFor f (position_of 20 36 c))) (λ y h. rw (c.before.before.before.before.before.before.wide.ensures, c.before.before.before.before.wide2.ensures) (pair-shown f a.r loop.i a.shown.now a.nibbles.now c.before.before.before.before.before.before.before.before.before.before.before.requires.2 (omega arith) b is y h))),
+          (c.before.before.write-pair.ensures (byte_of (λ c. bit_for f (position_of 20 36 c))) (λ y h. rw (c.before.before.before.before.before.before.wide.ensures, c.before.before.before.before.wide2.ensures) (pair-shown f a.r loop.i a.shown.now a.nibbles.now c.before.before.before.before.before.before.before.before.before.before.before.requires.2 (omega arith) b is y h))),
     )
 
 same_length : tie.Need-same-length invariant-loop decreases-loop

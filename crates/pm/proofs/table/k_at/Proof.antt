@@ -4,7 +4,7 @@ use mathlib.Core.List.{List}
 use Prim.Native.Nat.{ℕ, ◌+◌, ◌*◌}
 use native.Mathlib.Omega.{arith}
 use lib.ListN.{get_or}
-use Rattle.interleaving.specs.TableI.{kFor}
+use Rattle.interleaving.specs.TableI.{k_for}
 use Rattle.interleaving.proofs.TableI.{together}
 use borrow.Author.Rules.{rules}
 use Rattle.pm.proofs.table.k_at.Statement.{statement}
@@ -26,12 +26,12 @@ wide-requires : tie.Need-wide-requires
 wide-requires c κs = search rules
 
 returns : tie.Need-returns
-unfolding kFor
+unfolding k_for
 returns c =
     let start = c.before.before in
     let r = start.args.r in
     let k = start.args.c in
-    let is : c.wide.result ≡ kFor r k = c.wide.ensures ∙ ap (λ (l : List ℕ). get_or l (36 * r + k) 0) start.requires.0 in
+    let is : c.wide.result ≡ k_for r k = c.wide.ensures ∙ ap (λ (l : List ℕ). get_or l (36 * r + k) 0) start.requires.0 in
     (is, omega (arith, together.below r k start.requires.1 start.requires.2))
 
 pub k-at-spec : {M : Type 1} → statement M

@@ -5,21 +5,21 @@ use Prim.Native.Nat.{ℕ}
 use borrow.Author.Tests.{eq-eqb, ne_eqb}
 use lib.ListN.{length}
 use Rattle.control.specs.declared.Looked.{Looked}
-use Rattle.control.specs.Lookup.{lookedUp}
+use Rattle.control.specs.Lookup.{looked_up}
 use Rattle.runs.specs.declared.Answer.TheVariants.{WrongLength}
 use Rattle.queries.specs.declared.blocks.LookedUp.TheVariants.{Refused}
-use Rattle.queries.specs.Lookup.{lookupOf, told, values}
+use Rattle.queries.specs.Lookup.{lookup_of, told, values}
 use Rattle.queries.proofs.Valued.{valued}
 use borrow.Author.Rules.{rules}
 use Rattle.queries.proofs.blocks.lookup.Statement.{statement}
 use Rattle.queries.proofs.blocks.lookup.Tie as tie
 
-other_length : (block : List ℕ) → (length block ≡ 256 → ⊥) → Refused (WrongLength 0) ≡ lookupOf block
-unfolding lookupOf
+other_length : (block : List ℕ) → (length block ≡ 256 → ⊥) → Refused (WrongLength 0) ≡ lookup_of block
+unfolding lookup_of
 other_length block h = rw (ne_eqb (length block) 256 h)
 
-of-block : (block : List ℕ) (r : Looked) → length block ≡ 256 → r ≡ lookedUp block → told r ≡ lookupOf block
-unfolding lookupOf
+of-block : (block : List ℕ) (r : Looked) → length block ≡ 256 → r ≡ looked_up block → told r ≡ lookup_of block
+unfolding lookup_of
 of-block block r h e = rw (eq-eqb (length block) 256 h) (ap told e)
 
 returns : tie.Need-returns

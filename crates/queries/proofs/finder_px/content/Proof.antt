@@ -2,7 +2,7 @@
 use mathlib.Core.Path.{◌≡◌}
 use Prim.Native.Nat.{ℕ, ◌*◌}
 use native.Mathlib.Omega.{arith}
-use Rattle.interleaving.specs.PX.{codedBits}
+use Rattle.interleaving.specs.PX.{coded_bits}
 use Rattle.interleaving.proofs.Mod.{quotient-lt}
 use Rattle.queries.proofs.CasesPX.{fill-told, coded-told}
 use Rattle.queries.proofs.Origins.{rows-hold, has-columns, cell-lt, cell-small}
@@ -48,7 +48,7 @@ sub-earlier : tie.Need-overflow-sub-earlier
 sub-earlier c =
     let s = c.before.before.before in
     let n : ℕ = 8 * (64 * c.before.before.columns.result) in
-    let all : codedBits c.before.table-row.result ≡ n = rw c.before.table-row.ensures (omega (arith, rows-hold s.args.kind)) in
+    let all : coded_bits c.before.table-row.result ≡ n = rw c.before.table-row.ensures (omega (arith, rows-hold s.args.kind)) in
     omega (arith, quotient-lt c.origin.result n 3 (omega (arith, c.origin.ensures.1)))
 
 returns : tie.Need-returns

@@ -1,6 +1,6 @@
 -- `origin` meets its contract: the laws `around` and `behind`. Assumes nothing.
 use native.Mathlib.Omega.{arith}
-use Rattle.interleaving.proofs.PXKinds.{codedBytes-le}
+use Rattle.interleaving.proofs.PXKinds.{coded_bytes-le}
 use Rattle.queries.proofs.Origins.{step-lt, step_small, around, behind}
 use borrow.Author.Rules.{rules}
 use Rattle.queries.proofs.finder_px.origin.Statement.{statement}
@@ -37,10 +37,10 @@ returns c =
     around a.kind a.n a.half a.cell p.0 p.1 p.2 p.3 _ c.before.source.ensures c.if1.true
 
 mul-result : tie.Need-overflow-mul-result
-mul-result c = omega (arith, codedBytes-le c.before.before.args.kind c.before.before.requires.0)
+mul-result c = omega (arith, coded_bytes-le c.before.before.args.kind c.before.before.requires.0)
 
 add-result-2 : tie.Need-overflow-add-result-2
-add-result-2 c = omega (arith, codedBytes-le c.before.before.args.kind c.before.before.requires.0)
+add-result-2 c = omega (arith, coded_bytes-le c.before.before.args.kind c.before.before.requires.0)
 
 sub-result-2 : tie.Need-overflow-sub-result-2
 sub-result-2 c =

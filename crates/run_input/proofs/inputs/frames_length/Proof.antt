@@ -4,8 +4,8 @@ use mathlib.Core.List.{List}
 use Prim.Native.Nat.{ℕ, ◌+◌}
 use native.Mathlib.Omega.{arith}
 use lib.ListN.{get_or}
-use Rattle.runs.specs.MainChannels.{mainOf, p1Len, p2Len}
-use Rattle.runs.specs.Lengths.{pidsLen}
+use Rattle.runs.specs.MainChannels.{main_of, p1_len, p2_len}
+use Rattle.runs.specs.Lengths.{pids_len}
 use Rattle.layout.proofs.Cut.{lengths-small}
 use borrow.Author.Rules.{rules}
 use Rattle.run_input.proofs.inputs.frames_length.Statement.{statement}
@@ -49,9 +49,9 @@ returns c =
     let l = c.before.before in
     let mode = l.before.args.mode in
     let want : List ℕ = l.sender-lengths.result in
-    let e0 : get_or want 0 0 ≡ p1Len (mainOf mode) = ap (λ (l : List ℕ). get_or l 0 0) l.sender-lengths.ensures in
-    let e1 : get_or want 1 0 ≡ pidsLen = ap (λ (l : List ℕ). get_or l 1 0) l.sender-lengths.ensures in
-    let e2 : get_or want 2 0 ≡ p2Len (mainOf mode) = ap (λ (l : List ℕ). get_or l 2 0) l.sender-lengths.ensures in
+    let e0 : get_or want 0 0 ≡ p1_len (main_of mode) = ap (λ (l : List ℕ). get_or l 0 0) l.sender-lengths.ensures in
+    let e1 : get_or want 1 0 ≡ pids_len = ap (λ (l : List ℕ). get_or l 1 0) l.sender-lengths.ensures in
+    let e2 : get_or want 2 0 ≡ p2_len (main_of mode) = ap (λ (l : List ℕ). get_or l 2 0) l.sender-lengths.ensures in
     let e3 = c.before.capped.ensures.0 in
     let e4 = c.capped2.ensures.0 in
     λ i. 1 + e0 i + e1 i + e2 i + e3 i + e4 i

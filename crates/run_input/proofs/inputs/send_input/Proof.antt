@@ -2,7 +2,7 @@
 use mathlib.Core.Path.{sym, ◌∙◌}
 use Rattle.runs.specs.Lent.{Lent, Memory}
 use Rattle.calls.specs.Called.{memory, signal}
-use Rattle.layout.specs.Inputs.{framesIn, handed}
+use Rattle.layout.specs.Inputs.{frames_in, handed}
 use Rattle.run_input.proofs.Whole.{cut_off, whole}
 use borrow.Author.Rules.{rules}
 use Rattle.run_input.proofs.inputs.send_input.Statement.{statement}
@@ -12,10 +12,10 @@ use Rattle.run_input.proofs.inputs.send_input.Tie as tie
 abbrev lent_at : tie.Start → Lent
 lent_at s =
     let a = s.args in
-    handed (framesIn a.state.mode a.n3 a.n4 a.input.now) (signal a.pm.now a.px1.now a.px2.now a.control.now)
+    handed (frames_in a.state.mode a.n3 a.n4 a.input.now) (signal a.pm.now a.px1.now a.px2.now a.control.now)
 
-abbrev memoryAt : tie.Start → Memory
-memoryAt s = memory s.args.memory3.now s.args.memory4.now s.args.delay.now
+abbrev memory_at : tie.Start → Memory
+memory_at s = memory s.args.memory3.now s.args.memory4.now s.args.delay.now
 
 whole-answer-requires : tie.Need-whole-answer-requires
 whole-answer-requires c κs = search rules
@@ -27,7 +27,7 @@ returns : tie.Need-returns
 returns c =
     let w = c.before.before in
     let s = w.before.before.before.before.before.before.before.before.before in
-    cut_off s.args.n3 s.args.n4 s.args.state (memoryAt s) (lent_at s) _ w.whole-answer.ensures
+    cut_off s.args.n3 s.args.n4 s.args.state (memory_at s) (lent_at s) _ w.whole-answer.ensures
     (λ z. c.if1.true (c.before.number.ensures ∙ z))
 
 send-frame-requires : tie.Need-send-frame-requires
@@ -61,7 +61,7 @@ returns-2 c =
     let w = i.before.before in
     let s = w.before.before.before.before.before.before.before.before.before in
     f.send-frame.ensures
-    ∙ whole s.args.n3 s.args.n4 s.args.state (memoryAt s) (lent_at s) _ w.whole-answer.ensures
+    ∙ whole s.args.n3 s.args.n4 s.args.state (memory_at s) (lent_at s) _ w.whole-answer.ensures
     (sym i.before.number.ensures ∙ i.if1.false)
 
 pub send-input-spec : {M : Type 1} → statement M

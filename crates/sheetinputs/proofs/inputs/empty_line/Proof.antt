@@ -5,13 +5,13 @@ use Prim.Native.Nat.{◌+◌, ◌-◌, ◌≤◌}
 use native.Mathlib.Omega.{arith}
 use borrow.Author.Rules.{rules}
 use lib.ListN.{length, drop}
-use Rattle.sheetinputs.specs.Inputs.{emptyLine}
+use Rattle.sheetinputs.specs.Inputs.{empty_line}
 use Rattle.sheetinputs.proofs.Empty.{empty-here, empty-later, empty-nowhere}
 use Rattle.sheetinputs.proofs.inputs.empty_line.Statement.{statement}
 use Rattle.sheetinputs.proofs.inputs.empty_line.Tie as tie
 
 abbrev invariant-loop : tie.invariant-loop
-invariant-loop input fresh₀ i₀ fresh i = (i ≤ length input) × (emptyLine true input ≡ i + emptyLine fresh (drop i input))
+invariant-loop input fresh₀ i₀ fresh i = (i ≤ length input) × (empty_line true input ≡ i + empty_line fresh (drop i input))
 
 abbrev decreases-loop : tie.decreases-loop
 decreases-loop input fresh₀ i₀ fresh i = length input - i

@@ -1,6 +1,6 @@
 -- `bit_entry` meets its contract. Assumes nothing.
 use mathlib.Core.Path.{sym, ◌∙◌}
-use Rattle.sheetlines.specs.Entries.{bitEntry}
+use Rattle.sheetlines.specs.Entries.{bit_entry}
 use borrow.Author.Rules.{rules}
 use Rattle.sheetlines.proofs.entries.bit_entry.Statement.{statement}
 use Rattle.sheetlines.proofs.entries.bit_entry.Tie as tie
@@ -12,14 +12,14 @@ pm-placed-requires : tie.Need-pm-placed-requires
 pm-placed-requires c κs = search rules
 
 returns : tie.Need-returns
-unfolding bitEntry
+unfolding bit_entry
 returns c = rw (sym c.before.before.is-of-pm.ensures ∙ c.before.if1.true) c.pm-placed.ensures
 
 px-placed-requires : tie.Need-px-placed-requires
 px-placed-requires c κs = search rules
 
 returns-2 : tie.Need-returns-2
-unfolding bitEntry
+unfolding bit_entry
 returns-2 c = rw (sym c.before.before.is-of-pm.ensures ∙ c.before.if1.false) c.px-placed.ensures
 
 pub bit-entry-spec : {M : Type 1} → statement M

@@ -1,7 +1,7 @@
 -- `px_entry` meets its contract: the match is the definition's, and a cell in which a bit is found is one of the matrix. Assumes nothing.
 use mathlib.Core.Path.{ap, ◌∙◌}
 use native.Mathlib.Omega.{arith}
-use Rattle.runs.specs.MainChannels.{delayFrames}
+use Rattle.runs.specs.MainChannels.{delay_frames}
 use Rattle.sheetlines.proofs.Inside.{found_as, px-in-range, second-in-range}
 use borrow.Author.Rules.{rules}
 use Rattle.sheetlines.proofs.entries.px_entry.Statement.{statement}
@@ -48,7 +48,7 @@ sub-from-2 c =
     omega (
       arith,
       (second-in-range _ _ _ _ _ _ _ (found_as _ _ _ _ _ _ f.before.state-before.ensures f.find-px-in.ensures.0 k.frame.given.1)).3,
-      c.delay.ensures ∙ ap delayFrames m.main-of.ensures,
+      c.delay.ensures ∙ ap delay_frames m.main-of.ensures,
     )
 
 in-px-requires-2 : tie.Need-in-px-requires-2
@@ -82,7 +82,7 @@ returns-3 c =
     let f = k.before.before in
     rw (
       found_as _ _ _ _ _ _ f.before.state-before.ensures f.find-px-in.ensures.0 k.frame.given.1,
-      ← (c.before.delay.ensures ∙ ap delayFrames m.main-of.ensures),
+      ← (c.before.delay.ensures ∙ ap delay_frames m.main-of.ensures),
     ) c.in-px2.ensures
 
 returns-4 : tie.Need-returns-4

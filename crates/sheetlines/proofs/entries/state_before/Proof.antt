@@ -5,14 +5,14 @@ use native.Mathlib.Omega.{arith}
 use borrow.Author.Rules.{rules}
 use Rattle.runs.specs.declared.State.{State}
 use Rattle.runs.specs.declared.Main.{Main}
-use Rattle.runs.specs.MainChannels.{mainOf, lastAge}
-use Rattle.runs.specs.Starting.{stateAt}
+use Rattle.runs.specs.MainChannels.{main_of, last_age}
+use Rattle.runs.specs.Starting.{state_at}
 use Rattle.sheetlines.proofs.entries.state_before.Statement.{statement}
 use Rattle.sheetlines.proofs.entries.state_before.Tie as tie
 
-aged : (mode frame age last : ℕ) (k : Main) → k ≡ mainOf mode → last ≡ lastAge k → age ≡ min last frame
-    → ◌≡◌ {A = State} (record { mode = mode; half = frame % 2; age = age; reserved = 0 }) (stateAt mode 0 frame)
-aged mode frame age last k ek el e = rw (e ∙ ap (λ (n : ℕ). min n frame) (el ∙ ap lastAge ek))
+aged : (mode frame age last : ℕ) (k : Main) → k ≡ main_of mode → last ≡ last_age k → age ≡ min last frame
+    → ◌≡◌ {A = State} (record { mode = mode; half = frame % 2; age = age; reserved = 0 }) (state_at mode 0 frame)
+aged mode frame age last k ek el e = rw (e ∙ ap (λ (n : ℕ). min n frame) (el ∙ ap last_age ek))
 
 cast-half : tie.Need-overflow-cast-half
 cast-half c = search rules

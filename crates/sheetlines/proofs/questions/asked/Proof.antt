@@ -1,6 +1,6 @@
 -- `asked` meets its contract. Assumes nothing.
 use mathlib.Core.Path.{ap, ◌∙◌}
-use Rattle.sheetlines.specs.Questions.{plainQuestion, questionOf}
+use Rattle.sheetlines.specs.Questions.{plain_question, question_of}
 use borrow.Author.Rules.{rules}
 use Rattle.sheetlines.proofs.questions.asked.Statement.{statement}
 use Rattle.sheetlines.proofs.questions.asked.Tie as tie
@@ -12,8 +12,8 @@ asked-plain-requires : tie.Need-asked-plain-requires
 asked-plain-requires c κs = search rules
 
 returns : tie.Need-returns
-unfolding questionOf
-returns c = c.asked-plain.ensures ∙ ap plainQuestion c.before.plain-line.ensures
+unfolding question_of
+returns c = c.asked-plain.ensures ∙ ap plain_question c.before.plain-line.ensures
 
 pub asked-spec : {M : Type 1} → statement M
 asked-spec = tie.close (tie.spec plain-line-requires asked-plain-requires returns)

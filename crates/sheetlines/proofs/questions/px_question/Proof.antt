@@ -1,7 +1,7 @@
 -- `px_question` meets its contract: each word as the code read it, and the first that is no number ends it. Assumes nothing.
 use mathlib.Core.Path.{refl, ap, ◌∙◌}
 use borrow.Author.Rules.{rules}
-use Rattle.sheetlines.specs.Questions.{pxQuestion, rest, word}
+use Rattle.sheetlines.specs.Questions.{px_question, rest, word}
 use Rattle.sheetlines.proofs.Known.{read_as}
 use Rattle.sheetlines.proofs.questions.px_question.Statement.{statement}
 use Rattle.sheetlines.proofs.questions.px_question.Tie as tie
@@ -16,7 +16,7 @@ enum_told : tie.Need-enum-told
 enum_told c = search rules
 
 returns : tie.Need-returns
-unfolding pxQuestion
+unfolding px_question
 returns c =
     rw (read_as refl c.before.before.decimal.ensures c.enum_told.given.1)
 
@@ -33,7 +33,7 @@ enum-told-2 : tie.Need-enum-told-2
 enum-told-2 c = search rules
 
 returns-2 : tie.Need-returns-2
-unfolding pxQuestion
+unfolding px_question
 returns-2 c =
     let f = c.before.before.before.before.before in
     rw (
@@ -57,7 +57,7 @@ enum-told-3 : tie.Need-enum-told-3
 enum-told-3 c = search rules
 
 returns-3 : tie.Need-returns-3
-unfolding pxQuestion
+unfolding px_question
 returns-3 c =
     let t = c.before.before.before.before in
     let p = t.before.before in
@@ -81,7 +81,7 @@ enum-told-4 : tie.Need-enum-told-4
 enum-told-4 c = search rules
 
 returns-4 : tie.Need-returns-4
-unfolding pxQuestion
+unfolding px_question
 returns-4 c =
     let r = c.before.before.before.before.before in
     let t = r.before.before.before.before in
@@ -95,7 +95,7 @@ returns-4 c =
     )
 
 returns-5 : tie.Need-returns-5
-unfolding pxQuestion
+unfolding px_question
 returns-5 c =
     let k = c.before in
     let r = k.before.before.before.before.before in

@@ -1,7 +1,7 @@
 -- `two_question` meets its contract: each word as the code read it, and the first that is no number ends it. Assumes nothing.
 use mathlib.Core.Path.{refl}
 use borrow.Author.Rules.{rules}
-use Rattle.sheetlines.specs.Questions.{twoQuestion}
+use Rattle.sheetlines.specs.Questions.{two_question}
 use Rattle.sheetlines.proofs.Known.{read_as}
 use Rattle.sheetlines.proofs.questions.two_question.Statement.{statement}
 use Rattle.sheetlines.proofs.questions.two_question.Tie as tie
@@ -16,7 +16,7 @@ enum_told : tie.Need-enum-told
 enum_told c = search rules
 
 returns : tie.Need-returns
-unfolding twoQuestion
+unfolding two_question
 returns c =
     rw (read_as refl c.before.before.decimal.ensures c.enum_told.given.1)
 
@@ -33,7 +33,7 @@ enum-told-2 : tie.Need-enum-told-2
 enum-told-2 c = search rules
 
 returns-2 : tie.Need-returns-2
-unfolding twoQuestion
+unfolding two_question
 returns-2 c =
     let f = c.before.before.before.before.before in
     rw (
@@ -54,7 +54,7 @@ enum-told-3 : tie.Need-enum-told-3
 enum-told-3 c = search rules
 
 returns-3 : tie.Need-returns-3
-unfolding twoQuestion
+unfolding two_question
 returns-3 c =
     let r = c.before.before.before.before.before in
     let f = r.before.before.before.before.before in
@@ -68,7 +68,7 @@ two-requires : tie.Need-two-requires
 two-requires c κs = search rules
 
 returns-4 : tie.Need-returns-4
-unfolding twoQuestion
+unfolding two_question
 returns-4 c =
     let k = c.before.before in
     let r = k.before.before.before.before.before in

@@ -3,8 +3,8 @@ use native.Mathlib.Omega.{arith}
 use borrow.Author.Tests.{not-false, not-true}
 use Rattle.calls.specs.Called.{matrices}
 use Rattle.text.proofs.Stored.{put-text, put_then}
-use Rattle.sheettext.specs.Texts.{valueIn}
-use Rattle.sheetworks.specs.Works.{workText}
+use Rattle.sheettext.specs.Texts.{value_in}
+use Rattle.sheetworks.specs.Works.{work_text}
 use Rattle.sheetlists.proofs.Said.{is-asked, not-asked, value-known}
 use borrow.Author.Rules.{rules}
 use Rattle.sheetlists.proofs.lists.put_answer.Statement.{statement}
@@ -43,7 +43,7 @@ returns-2 : tie.Need-returns-2
 returns-2 c =
     is-asked _ c.before.before.before.before.before.before.before.before.before.before.before.before.before.before.before.before.before.before.before.before.before.before.before.args.mode c.before.before.before.before.before.before.before.before.before.before.before.before.before.before.before.before.before.before.before.before.before.before.before.args.count c.before.before.before.before.before.before.before.before.before.before.before.before.before.before.before.before.before.before.before.before.before.before.before.args.t c.before.before.before.before.before.before.before.before.before.before.before.before.before.before.before.before.before.before.before.before.before.before.before.args.line.now _ c.before.before.before.before.before.before.before.before.before.before.before.before.before.before.before.before.asked.ensures _ c.before.before.before.before.before.before.before.before.before.before.before.before.before.before.before.entry-for.ensures _ c.before.before.before.before.before.before.before.before.before.before.before.before.before.before.stands-in.ensures _ _ (not-false _ c.before.before.before.before.before.before.before.before.before.before.before.before.before.if1.false) _ _ 779 (omega arith)
     (put_then c.before.before.before.before.before.before.before.before.before.before.put-names.ensures
-    (put-text (value-known c.before.before.before.before.before.before.before.before.before.before.before.before.before.before.before.before.before.before.before.before.before.before.before.args.count c.before.before.before.before.before.before.before.before.before.before.before.before.before.before.before.entry-for.result (valueIn (matrices c.before.before.before.before.before.before.before.before.before.before.before.before.before.before.before.before.before.before.before.before.before.before.before.args.pm.now c.before.before.before.before.before.before.before.before.before.before.before.before.before.before.before.before.before.before.before.before.before.before.before.args.px1.now c.before.before.before.before.before.before.before.before.before.before.before.before.before.before.before.before.before.before.before.before.before.before.before.args.px2.now)) (workText c.before.before.before.before.before.before.before.before.before.before.before.before.before.before.before.before.before.before.before.before.before.before.before.args.work c.before.before.before.before.before.before.before.before.before.before.before.before.before.before.before.before.before.before.before.before.before.before.before.args.mode c.before.before.before.before.before.before.before.before.before.before.before.before.before.before.before.before.before.before.before.before.before.before.before.args.n3 c.before.before.before.before.before.before.before.before.before.before.before.before.before.before.before.before.before.before.before.before.before.before.before.args.n4 c.before.before.before.before.before.before.before.before.before.before.before.before.before.before.before.before.before.before.before.before.before.before.before.args.bytes.now) c.before.before.before.before.before.before.before.before.before.before.before.before.value_of_lem.ensures) (put_then c.before.before.before.before.before.before.put-value.ensures c.before.before.put-working.ensures)))
+    (put-text (value-known c.before.before.before.before.before.before.before.before.before.before.before.before.before.before.before.before.before.before.before.before.before.before.before.args.count c.before.before.before.before.before.before.before.before.before.before.before.before.before.before.before.entry-for.result (value_in (matrices c.before.before.before.before.before.before.before.before.before.before.before.before.before.before.before.before.before.before.before.before.before.before.before.args.pm.now c.before.before.before.before.before.before.before.before.before.before.before.before.before.before.before.before.before.before.before.before.before.before.before.args.px1.now c.before.before.before.before.before.before.before.before.before.before.before.before.before.before.before.before.before.before.before.before.before.before.before.args.px2.now)) (work_text c.before.before.before.before.before.before.before.before.before.before.before.before.before.before.before.before.before.before.before.before.before.before.before.args.work c.before.before.before.before.before.before.before.before.before.before.before.before.before.before.before.before.before.before.before.before.before.before.before.args.mode c.before.before.before.before.before.before.before.before.before.before.before.before.before.before.before.before.before.before.before.before.before.before.before.args.n3 c.before.before.before.before.before.before.before.before.before.before.before.before.before.before.before.before.before.before.before.before.before.before.before.args.n4 c.before.before.before.before.before.before.before.before.before.before.before.before.before.before.before.before.before.before.before.before.before.before.before.args.bytes.now) c.before.before.before.before.before.before.before.before.before.before.before.before.value_of_lem.ensures) (put_then c.before.before.before.before.before.before.put-value.ensures c.before.before.put-working.ensures)))
 
 pub put-answer-spec : {M : Type 1} → statement M
 put-answer-spec =

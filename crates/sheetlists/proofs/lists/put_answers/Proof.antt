@@ -8,8 +8,8 @@ use Rattle.calls.specs.Called.{matrices}
 use Rattle.text.specs.Lines.{lines}
 use Rattle.text.specs.Lines.{newline}
 use Rattle.text.proofs.Ends.{end-within}
-use Rattle.sheettext.specs.Texts.{valueIn}
-use Rattle.sheetworks.specs.Works.{workText}
+use Rattle.sheettext.specs.Texts.{value_in}
+use Rattle.sheetworks.specs.Works.{work_text}
 use Rattle.sheetlists.specs.Lists.{answers, asking, valued}
 use Rattle.text.proofs.Walk.{walk-on, walk_end}
 use Rattle.text.proofs.Left.{Left, left-begins, left-on, left-done}
@@ -20,7 +20,7 @@ use Rattle.sheetlists.proofs.lists.put_answers.Tie as tie
 abbrev invariant-loop : tie.invariant-loop
 invariant-loop out₀ at mode count t list pm px1 px2 work n3 n4 bytes table end₀ i₀ out end i =
     (i ≤ length list + 1) × (end + 782 * asking mode count t (lines (drop i list)) ≤ at + 782 * asking mode count t (lines list))
-    × Left out₀ out at end (answers (valued (workText work mode n3 n4 bytes) count (valueIn (matrices pm px1 px2))) mode count t (lines list)) (answers (valued (workText work mode n3 n4 bytes) count (valueIn (matrices pm px1 px2))) mode count t (lines (drop i list)))
+    × Left out₀ out at end (answers (valued (work_text work mode n3 n4 bytes) count (value_in (matrices pm px1 px2))) mode count t (lines list)) (answers (valued (work_text work mode n3 n4 bytes) count (value_in (matrices pm px1 px2))) mode count t (lines (drop i list)))
 
 abbrev decreases-loop : tie.decreases-loop
 decreases-loop out₀ at mode count t list pm px1 px2 work n3 n4 bytes table end₀ i₀ out end i = length list + 1 - i

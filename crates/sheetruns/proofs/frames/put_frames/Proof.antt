@@ -5,8 +5,8 @@ use native.Mathlib.Omega.{arith}
 use borrow.Author.Rules.{rules}
 use lib.ListN.{length, take}
 use Rattle.calls.specs.Called.{memory}
-use Rattle.sheetinputs.specs.Inputs.{frameSize}
-use Rattle.sheetworks.specs.Works.{workText}
+use Rattle.sheetinputs.specs.Inputs.{frame_size}
+use Rattle.sheetworks.specs.Works.{work_text}
 use Rattle.sheetruns.proofs.Loop.{Going, bytes-few, frame-within, going-begins, going-ends, going_on, going-stops, room_for, room-last}
 use Rattle.sheetruns.proofs.Loop.{put_first}
 use Rattle.sheetruns.proofs.frames.put_frames.Statement.{statement}
@@ -14,9 +14,9 @@ use Rattle.sheetruns.proofs.frames.put_frames.Tie as tie
 
 abbrev invariant-loop : tie.invariant-loop
 invariant-loop mode count work n3 n4 list bytes memory3₀ memory4₀ delay₀ out₀ at n state₀ end₀ from₀ t₀ memory3 memory4 delay out state end from t =
-    (n ≡ frameSize mode n3 n4)
+    (n ≡ frame_size mode n3 n4)
     × (length memory3 ≡ length memory3₀) × (length memory4 ≡ length memory4₀) × (length delay ≡ length delay₀) × (length out ≡ length out₀)
-    × Going (workText work mode n3 n4 bytes) mode count n3 n4 list bytes (take at out₀) at out state (memory memory3 memory4 delay) end from t
+    × Going (work_text work mode n3 n4 bytes) mode count n3 n4 list bytes (take at out₀) at out state (memory memory3 memory4 delay) end from t
 
 abbrev decreases-loop : tie.decreases-loop
 decreases-loop mode count work n3 n4 list bytes memory3₀ memory4₀ delay₀ out₀ at n state₀ end₀ from₀ t₀ memory3 memory4 delay out state end from t = count - t

@@ -3,7 +3,7 @@ use mathlib.Core.Path.{ap}
 use native.Mathlib.Omega.{arith}
 use Rattle.text.proofs.Stored.{put-most, put-text, put_then}
 use Rattle.sheettext.specs.Texts.{last, word}
-use Rattle.sheetruns.specs.Told.{noFrame}
+use Rattle.sheetruns.specs.Told.{no_frame}
 use borrow.Author.Rules.{rules}
 use Rattle.sheetruns.proofs.frames.put_no_frame.Statement.{statement}
 use Rattle.sheetruns.proofs.frames.put_no_frame.Tie as tie
@@ -48,7 +48,7 @@ same_length : tie.Need-same-length
 same_length c = search rules
 
 returns : tie.Need-returns
-unfolding noFrame
+unfolding no_frame
 returns c =
     put-most (omega arith)
     (put_then c.before.before.before.before.before.before.before.before.before.before.before.before.before.before.before.before.before.before.before.before.before.before.before.before.before.before.put.ensures

@@ -1,7 +1,7 @@
 -- `put_long` meets its contract. Assumes nothing.
 use native.Mathlib.Omega.{arith}
 use Rattle.text.proofs.Stored.{put-most, put_then}
-use Rattle.sheets.specs.Sheet.{noLong}
+use Rattle.sheets.specs.Sheet.{no_long}
 use borrow.Author.Rules.{rules}
 use Rattle.sheets.proofs.refusals.put_long.Statement.{statement}
 use Rattle.sheets.proofs.refusals.put_long.Tie as tie
@@ -19,7 +19,7 @@ same_length : tie.Need-same-length
 same_length c = search rules
 
 returns : tie.Need-returns
-unfolding noLong
+unfolding no_long
 returns c =
     put-most (omega arith) (put_then c.before.before.before.before.before.before.put.ensures c.before.before.field.ensures)
 

@@ -2,7 +2,7 @@
 use mathlib.Core.Path.{sym, ◌∙◌}
 use native.Mathlib.Omega.{arith}
 use borrow.Author.Tests.{not-false, not-true}
-use Rattle.sheets.specs.Sheet.{noCount, noMode, noWithout}
+use Rattle.sheets.specs.Sheet.{no_count, no_mode, no_without}
 use Rattle.sheets.proofs.Cleared.{begins}
 use Rattle.sheetruns.proofs.Loop.{put_first}
 use Rattle.sheets.proofs.Texts.{by_count, by_mode, by-without}
@@ -23,7 +23,7 @@ same_length : tie.Need-same-length
 same_length c = c.before.out.given
 
 returns : tie.Need-returns
-unfolding noMode
+unfolding no_mode
 returns c =
     begins (put_first _ _ (omega (arith, c.before.before.before.before.before.before.before.before.before.requires))
     (by_mode c.before.before.before.before.before.before.before.before.before.args.mode c.before.before.before.before.before.before.before.before.before.args.count c.before.before.before.before.before.before.before.before.before.args.without3 c.before.before.before.before.before.before.before.before.before.args.without4 c.before.before.before.before.before.before.before.before.before.args.work c.before.before.before.before.before.before.before.before.before.args.input.now (sym c.before.before.before.before.before.before.is-older.ensures ∙ not-true _ c.before.before.before.before.before.if1.true)) c.before.before.put.ensures)
@@ -41,7 +41,7 @@ same-length-2 : tie.Need-same-length-2
 same-length-2 c = c.before.out2.given
 
 returns-2 : tie.Need-returns-2
-unfolding noWithout
+unfolding no_without
 returns-2 c =
     begins (put_first _ _ (omega (arith, c.before.before.before.before.before.before.before.before.before.before.before.requires))
     (by-without c.before.before.before.before.before.before.before.before.before.before.before.args.mode c.before.before.before.before.before.before.before.before.before.before.before.args.count c.before.before.before.before.before.before.before.before.before.before.before.args.without3 c.before.before.before.before.before.before.before.before.before.before.before.args.without4 c.before.before.before.before.before.before.before.before.before.before.before.args.work c.before.before.before.before.before.before.before.before.before.before.before.args.input.now (sym c.before.before.before.before.before.before.before.before.is-older.ensures ∙ not-false _ c.before.before.before.before.before.before.before.if1.false) (sym c.before.before.before.before.before.before.are-named.ensures ∙ not-true _ c.before.before.before.before.before.if2.true)) c.before.before.put2.ensures)
@@ -56,7 +56,7 @@ same-length-3 : tie.Need-same-length-3
 same-length-3 c = c.before.out3.given
 
 returns-3 : tie.Need-returns-3
-unfolding noCount
+unfolding no_count
 returns-3 c =
     begins (put_first _ _ (omega (arith, c.before.before.before.before.before.before.before.before.before.before.before.before.requires))
     (by_count c.before.before.before.before.before.before.before.before.before.before.before.before.args.mode c.before.before.before.before.before.before.before.before.before.before.before.before.args.count c.before.before.before.before.before.before.before.before.before.before.before.before.args.without3 c.before.before.before.before.before.before.before.before.before.before.before.before.args.without4 c.before.before.before.before.before.before.before.before.before.before.before.before.args.work c.before.before.before.before.before.before.before.before.before.before.before.before.args.input.now (sym c.before.before.before.before.before.before.before.before.before.is-older.ensures ∙ not-false _ c.before.before.before.before.before.before.before.before.if1.false) (sym c.before.before.before.before.before.before.before.are-named.ensures ∙ not-false _ c.before.before.before.before.before.before.if2.false) c.before.before.before.before.before.if3.true) c.before.before.put3.ensures)

@@ -1,7 +1,7 @@
 -- `put_carried` meets its contract. Assumes nothing.
 use mathlib.Core.Path.{ap₂, ◌∙◌}
 use Prim.Native.Nat.{ℕ}
-use Rattle.sheets.specs.Sheet.{sheetFor}
+use Rattle.sheets.specs.Sheet.{sheet_for}
 use Rattle.sheetinputs.proofs.Older.{carried-p3, carried-p4, carried-small}
 use borrow.Author.Rules.{rules}
 use Rattle.sheets.proofs.sheets.put_carried.Statement.{statement}
@@ -39,7 +39,7 @@ returns : tie.Need-returns
 returns c = (
   c.before.before.put-sheet.ensures.0,
   c.before.before.put-sheet.ensures.1
-      ∙ ap₂ (λ (x y : ℕ). sheetFor c.before.before.before.before.before.before.before.before.before.before.args.mode c.before.before.before.before.before.before.before.before.before.before.args.count c.before.before.before.before.before.before.before.before.before.before.args.without3 c.before.before.before.before.before.before.before.before.before.before.args.without4 c.before.before.before.before.before.before.before.before.before.before.args.work x y c.before.before.before.before.before.before.before.before.before.before.args.list.now c.before.before.before.before.before.before.before.before.before.before.args.bytes.now)
+      ∙ ap₂ (λ (x y : ℕ). sheet_for c.before.before.before.before.before.before.before.before.before.before.args.mode c.before.before.before.before.before.before.before.before.before.before.args.count c.before.before.before.before.before.before.before.before.before.before.args.without3 c.before.before.before.before.before.before.before.before.before.before.args.without4 c.before.before.before.before.before.before.before.before.before.before.args.work x y c.before.before.before.before.before.before.before.before.before.before.args.list.now c.before.before.before.before.before.before.before.before.before.before.args.bytes.now)
       (carried-p3 _ _ c.before.before.before.before.before.before.sender-lengths.ensures _ _ c.before.before.before.before.before.carried.ensures) (carried-p4 _ _ c.before.before.before.before.before.before.sender-lengths.ensures _ _ c.before.before.before.before.carried2.ensures),
 )
 

@@ -2,7 +2,7 @@
 use mathlib.Core.Path.{refl, sym, ◌∙◌}
 use native.Mathlib.Omega.{arith}
 use lib.Seq.{length-take-le}
-use Rattle.sheets.specs.Sheet.{noList, noLongList}
+use Rattle.sheets.specs.Sheet.{no_list, no_long_list}
 use Rattle.sheetruns.proofs.Loop.{put_first}
 use Rattle.sheets.proofs.Texts.{by-long, by-open, by_parts}
 use borrow.Author.Rules.{rules}
@@ -22,7 +22,7 @@ same_length : tie.Need-same-length
 same_length c = c.before.out.given
 
 returns : tie.Need-returns
-unfolding noLongList
+unfolding no_long_list
 returns c =
     put_first _ _ (omega (arith, c.before.before.before.before.before.before.before.before.before.requires.3))
     (by-long c.before.before.before.before.before.before.before.before.before.args.mode c.before.before.before.before.before.before.before.before.before.args.count c.before.before.before.before.before.before.before.before.before.args.without3 c.before.before.before.before.before.before.before.before.before.args.without4 c.before.before.before.before.before.before.before.before.before.args.work c.before.before.before.before.before.before.before.before.before.args.input.now c.before.before.before.before.before.before.before.before.before.requires.0 c.before.before.before.before.before.before.before.before.before.requires.1 c.before.before.before.before.before.before.before.before.before.requires.2 (omega (arith, c.before.before.before.before.before.if1.true, c.before.before.before.before.before.before.empty-line.ensures.0))) c.before.before.put.ensures
@@ -37,7 +37,7 @@ same-length-2 : tie.Need-same-length-2
 same-length-2 c = c.before.out2.given
 
 returns-2 : tie.Need-returns-2
-unfolding noList
+unfolding no_list
 returns-2 c =
     put_first _ _ (omega (arith, c.before.before.before.before.before.before.before.before.before.before.requires.3))
     (by-open c.before.before.before.before.before.before.before.before.before.before.args.mode c.before.before.before.before.before.before.before.before.before.before.args.count c.before.before.before.before.before.before.before.before.before.before.args.without3 c.before.before.before.before.before.before.before.before.before.before.args.without4 c.before.before.before.before.before.before.before.before.before.before.args.work c.before.before.before.before.before.before.before.before.before.before.args.input.now c.before.before.before.before.before.before.before.before.before.before.requires.0 c.before.before.before.before.before.before.before.before.before.before.requires.1 c.before.before.before.before.before.before.before.before.before.before.requires.2 (omega (arith, c.before.before.before.before.before.before.if1.false, c.before.before.before.before.before.before.before.empty-line.ensures.0)) (omega (arith, c.before.before.before.before.before.if2.true, c.before.before.before.before.before.before.before.empty-line.ensures.0))) c.before.before.put2.ensures

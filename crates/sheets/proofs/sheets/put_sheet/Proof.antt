@@ -5,7 +5,7 @@ use Prim.Native.Nat.{ℕ}
 use native.Mathlib.Omega.{arith}
 use Rattle.text.specs.Lines.{lines}
 use Rattle.text.proofs.Stored.{put_then}
-use Rattle.sheetworks.specs.Works.{workText}
+use Rattle.sheetworks.specs.Works.{work_text}
 use Rattle.sheetinputs.specs.Run.{sent}
 use Rattle.sheetruns.specs.Told.{told}
 use Rattle.sheetruns.proofs.Loop.{put_first}
@@ -63,7 +63,7 @@ returns-3 : tie.Need-returns-3
 returns-3 c = (
   c.before.before.put-run.ensures.0,
   c.before.before.put-run.ensures.1
-      ∙ ap (λ (x : List ℕ). told (workText c.before.before.before.before.before.before.before.before.before.before.before.before.before.before.before.before.before.before.args.work c.before.before.before.before.before.before.before.before.before.before.before.before.before.before.before.before.before.before.args.mode c.before.before.before.before.before.before.before.before.before.before.before.before.before.before.before.before.before.before.args.n3 c.before.before.before.before.before.before.before.before.before.before.before.before.before.before.before.before.before.before.args.n4 c.before.before.before.before.before.before.before.before.before.before.before.before.before.before.before.before.before.before.args.bytes.now) c.before.before.before.before.before.before.before.before.before.before.before.before.before.before.before.before.before.before.args.mode c.before.before.before.before.before.before.before.before.before.before.before.before.before.before.before.before.before.before.args.count (lines c.before.before.before.before.before.before.before.before.before.before.before.before.before.before.before.before.before.before.args.list.now) 0 x (sent c.before.before.before.before.before.before.before.before.before.before.before.before.before.before.before.before.before.before.args.mode c.before.before.before.before.before.before.before.before.before.before.before.before.before.before.before.before.before.before.args.count c.before.before.before.before.before.before.before.before.before.before.before.before.before.before.before.before.before.before.args.n3 c.before.before.before.before.before.before.before.before.before.before.before.before.before.before.before.before.before.before.args.n4 c.before.before.before.before.before.before.before.before.before.before.before.before.before.before.before.before.before.before.args.bytes.now))
+      ∙ ap (λ (x : List ℕ). told (work_text c.before.before.before.before.before.before.before.before.before.before.before.before.before.before.before.before.before.before.args.work c.before.before.before.before.before.before.before.before.before.before.before.before.before.before.before.before.before.before.args.mode c.before.before.before.before.before.before.before.before.before.before.before.before.before.before.before.before.before.before.args.n3 c.before.before.before.before.before.before.before.before.before.before.before.before.before.before.before.before.before.before.args.n4 c.before.before.before.before.before.before.before.before.before.before.before.before.before.before.before.before.before.before.args.bytes.now) c.before.before.before.before.before.before.before.before.before.before.before.before.before.before.before.before.before.before.args.mode c.before.before.before.before.before.before.before.before.before.before.before.before.before.before.before.before.before.before.args.count (lines c.before.before.before.before.before.before.before.before.before.before.before.before.before.before.before.before.before.before.args.list.now) 0 x (sent c.before.before.before.before.before.before.before.before.before.before.before.before.before.before.before.before.before.before.args.mode c.before.before.before.before.before.before.before.before.before.before.before.before.before.before.before.before.before.before.args.count c.before.before.before.before.before.before.before.before.before.before.before.before.before.before.before.before.before.before.args.n3 c.before.before.before.before.before.before.before.before.before.before.before.before.before.before.before.before.before.before.args.n4 c.before.before.before.before.before.before.before.before.before.before.before.before.before.before.before.before.before.before.args.bytes.now))
       (put_then c.before.before.before.before.before.before.before.before.before.before.put-head.ensures c.before.before.before.before.before.before.put-refusals.ensures).holds
       ∙ by_frames c.before.before.before.before.before.before.before.before.before.before.before.before.before.before.before.before.before.before.args.mode c.before.before.before.before.before.before.before.before.before.before.before.before.before.before.before.before.before.before.args.count c.before.before.before.before.before.before.before.before.before.before.before.before.before.before.before.before.before.before.args.without3 c.before.before.before.before.before.before.before.before.before.before.before.before.before.before.before.before.before.before.args.without4 c.before.before.before.before.before.before.before.before.before.before.before.before.before.before.before.before.before.before.args.work c.before.before.before.before.before.before.before.before.before.before.before.before.before.before.before.before.before.before.args.n3 c.before.before.before.before.before.before.before.before.before.before.before.before.before.before.before.before.before.before.args.n4 c.before.before.before.before.before.before.before.before.before.before.before.before.before.before.before.before.before.before.args.list.now c.before.before.before.before.before.before.before.before.before.before.before.before.before.before.before.before.before.before.args.bytes.now _ c.before.before.before.before.before.before.before.before.before.before.before.before.before.before.frames-size.ensures (omega (arith, c.before.before.before.before.before.before.before.before.before.before.before.before.before.if1.false, c.before.before.before.before.before.before.before.before.before.before.before.before.if2.false)),
 )

@@ -3,7 +3,7 @@ use mathlib.Core.Path.{sym}
 use native.Mathlib.Omega.{arith}
 use borrow.Author.Tests.{eq-eqb, ne_eqb}
 use Rattle.text.proofs.Stored.{put-most, put-text}
-use Rattle.sheettext.specs.Texts.{channelName}
+use Rattle.sheettext.specs.Texts.{channel_name}
 use borrow.Author.Rules.{rules}
 use Rattle.sheettext.proofs.lines.put_channel.Statement.{statement}
 use Rattle.sheettext.proofs.lines.put_channel.Tie as tie
@@ -18,7 +18,7 @@ same_length : tie.Need-same-length
 same_length c = search rules
 
 returns : tie.Need-returns
-unfolding channelName
+unfolding channel_name
 returns c =
     let t1 = c.before.before.before.before.before in
     put-most (omega arith) (put-text (sym (rw (eq-eqb _ _ t1.if1.true))) c.before.before.put.ensures)
@@ -33,7 +33,7 @@ same-length-2 : tie.Need-same-length-2
 same-length-2 c = search rules
 
 returns-2 : tie.Need-returns-2
-unfolding channelName
+unfolding channel_name
 returns-2 c =
     let t2 = c.before.before.before.before.before in
     let t1 = t2.before in
@@ -49,7 +49,7 @@ same-length-3 : tie.Need-same-length-3
 same-length-3 c = search rules
 
 returns-3 : tie.Need-returns-3
-unfolding channelName
+unfolding channel_name
 returns-3 c =
     let t3 = c.before.before.before.before.before in
     let t2 = t3.before in
@@ -73,7 +73,7 @@ same-length-4 : tie.Need-same-length-4
 same-length-4 c = search rules
 
 returns-4 : tie.Need-returns-4
-unfolding channelName
+unfolding channel_name
 returns-4 c =
     let t4 = c.before.before.before.before.before in
     let t3 = t4.before in
@@ -99,7 +99,7 @@ same-length-5 : tie.Need-same-length-5
 same-length-5 c = search rules
 
 returns-5 : tie.Need-returns-5
-unfolding channelName
+unfolding channel_name
 returns-5 c =
     let t5 = c.before.before.before.before.before in
     let t4 = t5.before in
@@ -127,7 +127,7 @@ same-length-6 : tie.Need-same-length-6
 same-length-6 c = search rules
 
 returns-6 : tie.Need-returns-6
-unfolding channelName
+unfolding channel_name
 returns-6 c =
     let t5 = c.before.before.before.before.before in
     let t4 = t5.before in

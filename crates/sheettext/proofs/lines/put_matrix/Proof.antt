@@ -3,7 +3,7 @@ use mathlib.Core.Path.{sym, ◌∙◌}
 use native.Mathlib.Omega.{arith}
 use borrow.Author.Tests.{eq-eqb, ne_eqb}
 use Rattle.text.proofs.Stored.{put-most, put-text}
-use Rattle.sheettext.specs.Texts.{matrixName}
+use Rattle.sheettext.specs.Texts.{matrix_name}
 use borrow.Author.Rules.{rules}
 use Rattle.sheettext.proofs.lines.put_matrix.Statement.{statement}
 use Rattle.sheettext.proofs.lines.put_matrix.Tie as tie
@@ -21,7 +21,7 @@ same_length : tie.Need-same-length
 same_length c = search rules
 
 returns : tie.Need-returns
-unfolding matrixName
+unfolding matrix_name
 returns c =
     let t = c.before.before.before.before.before in
     put-most (omega arith) (put-text (sym (rw (sym t.before.is-of-pm.ensures ∙ t.if1.true))) c.before.before.put.ensures)
@@ -36,7 +36,7 @@ same-length-2 : tie.Need-same-length-2
 same-length-2 c = search rules
 
 returns-2 : tie.Need-returns-2
-unfolding matrixName
+unfolding matrix_name
 returns-2 c =
     let t = c.before.before.before.before.before in
     let u = t.before in
@@ -52,7 +52,7 @@ same-length-3 : tie.Need-same-length-3
 same-length-3 c = search rules
 
 returns-3 : tie.Need-returns-3
-unfolding matrixName
+unfolding matrix_name
 returns-3 c =
     let t = c.before.before.before.before.before in
     let u = t.before in

@@ -2,7 +2,7 @@
 use mathlib.Core.Path.{sym, ◌∙◌}
 use Rattle.text.proofs.Stored.{put-text}
 use Rattle.text.proofs.Left.{put-nothing}
-use Rattle.sheettext.specs.Texts.{ofPX}
+use Rattle.sheettext.specs.Texts.{of_px}
 use borrow.Author.Rules.{rules}
 use Rattle.sheettext.proofs.lines.put_of_px.Statement.{statement}
 use Rattle.sheettext.proofs.lines.put_of_px.Tie as tie
@@ -11,7 +11,7 @@ is-of-pm-requires : tie.Need-is-of-pm-requires
 is-of-pm-requires c κs = search rules
 
 returns : tie.Need-returns
-unfolding ofPX
+unfolding of_px
 returns c = put-nothing _ _ _ _ (rw (sym c.before.is-of-pm.ensures ∙ c.if1.true))
 
 field-requires : tie.Need-field-requires
@@ -21,7 +21,7 @@ same_length : tie.Need-same-length
 same_length c = search rules
 
 returns-2 : tie.Need-returns-2
-unfolding ofPX
+unfolding of_px
 returns-2 c =
     let t = c.before.before.before.before in
     put-text (sym (rw (sym t.before.is-of-pm.ensures ∙ t.if1.false))) c.before.before.field.ensures

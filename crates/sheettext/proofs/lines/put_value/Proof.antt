@@ -3,7 +3,7 @@ use mathlib.Core.Path.{sym}
 use native.Mathlib.Omega.{arith}
 use Rattle.text.proofs.Stored.{put-most, put-text}
 use Rattle.text.proofs.Left.{put-nothing}
-use Rattle.sheettext.specs.Texts.{valueText}
+use Rattle.sheettext.specs.Texts.{value_text}
 use borrow.Author.Rules.{rules}
 use Rattle.sheettext.proofs.lines.put_value.Statement.{statement}
 use Rattle.sheettext.proofs.lines.put_value.Tie as tie
@@ -39,25 +39,25 @@ same_length : tie.Need-same-length
 same_length c = search rules
 
 returns : tie.Need-returns
-unfolding valueText
+unfolding value_text
 returns c = put-text (sym (rw c.before.before.before.before.before.before.entry.given.1)) c.before.before.put-bit.ensures
 
 same-length-2 : tie.Need-same-length-2
 same-length-2 c = search rules
 
 returns-2 : tie.Need-returns-2
-unfolding valueText
+unfolding value_text
 returns-2 c = put-most (omega arith) (put-text (sym (rw c.before.before.before.before.before.enum_told.given.1)) c.before.before.put.ensures)
 
 same-length-3 : tie.Need-same-length-3
 same-length-3 c = search rules
 
 returns-3 : tie.Need-returns-3
-unfolding valueText
+unfolding value_text
 returns-3 c = put-most (omega arith) (put-text (sym (rw c.before.before.before.before.before.enum-told2.given.1)) c.before.before.put2.ensures)
 
 returns-4 : tie.Need-returns-4
-unfolding valueText
+unfolding value_text
 returns-4 c = put-nothing _ _ _ _ (rw c.enum-told3.given.1)
 
 pub put-value-spec : {M : Type 1} → statement M

@@ -1,7 +1,7 @@
 -- `value_of` meets its contract: the match is the definition's. Assumes nothing.
 use mathlib.Core.Path.{sym, ◌∙◌}
 use borrow.Author.Tests.{eq-eqb, ne_eqb}
-use Rattle.sheettext.specs.Texts.{valueIn}
+use Rattle.sheettext.specs.Texts.{value_in}
 use borrow.Author.Rules.{rules}
 use Rattle.sheettext.proofs.lines.value_of.Statement.{statement}
 use Rattle.sheettext.proofs.lines.value_of.Tie as tie
@@ -16,7 +16,7 @@ bit-at-requires : tie.Need-bit-at-requires
 bit-at-requires c κs = search rules
 
 returns : tie.Need-returns
-unfolding valueIn
+unfolding value_in
 returns c =
     let t = c.before in
     rw (t.before.before.before.entry.given.1, sym t.before.is-of-pm.ensures ∙ t.if1.true) c.bit-at.ensures
@@ -25,7 +25,7 @@ bit-at-requires-2 : tie.Need-bit-at-requires-2
 bit-at-requires-2 c κs = search rules
 
 returns-2 : tie.Need-returns-2
-unfolding valueIn
+unfolding value_in
 returns-2 c =
     let t = c.before.before.before in
     rw (t.before.before.before.entry.given.1, sym t.before.is-of-pm.ensures ∙ t.if1.false, eq-eqb _ _ c.before.if2.true) c.bit-at2.ensures
@@ -43,21 +43,21 @@ enum-told-3 : tie.Need-enum-told-3
 enum-told-3 c = search rules
 
 returns-3 : tie.Need-returns-3
-unfolding valueIn
+unfolding value_in
 returns-3 c =
     let t = c.before.before.before in
     rw (t.before.before.before.entry.given.1, sym t.before.is-of-pm.ensures ∙ t.if1.false, ne_eqb _ _ c.before.if2.false) c.bit-at3.ensures
 
 returns-4 : tie.Need-returns-4
-unfolding valueIn
+unfolding value_in
 returns-4 c = rw c.enum_told.given.1
 
 returns-5 : tie.Need-returns-5
-unfolding valueIn
+unfolding value_in
 returns-5 c = rw c.enum-told2.given.1
 
 returns-6 : tie.Need-returns-6
-unfolding valueIn
+unfolding value_in
 returns-6 c = rw c.enum-told3.given.1
 
 pub value-of-spec : {M : Type 1} → statement M

@@ -3,7 +3,7 @@ use mathlib.Core.Path.{sym, ap₂}
 use Prim.Native.Nat.{ℕ}
 use lib.Seq.{length-take-le}
 use Rattle.runs.specs.Lent.{Signal}
-use Rattle.layout.specs.Inputs.{framesIn, handed}
+use Rattle.layout.specs.Inputs.{frames_in, handed}
 use Rattle.sheetinputs.proofs.Older.{room-px1, room-px2}
 use Rattle.sheetturns.proofs.Turning.{blank-lent, turned_as}
 use borrow.Author.Rules.{rules}
@@ -56,7 +56,7 @@ returns : tie.Need-returns
 returns c =
     let s = c.before.before.before.before.before.before.before.before.before.before.before.before.before.before.before.before.before.before.before.before.before.before.before.before.before.before.before.before.before in
     let a = s.args in
-    turned_as _ _ (ap₂ (λ (k : ℕ) (x : Signal). handed (framesIn k a.n3 a.n4 a.bytes.now) x) s.requires.0 (blank-lent a.mode _ c.before.before.before.before.before.before.before.before.before.before.before.before.before.before.before.before.before.before.before.before.before.sender-lengths.ensures s.requires.1)) c.before.before.before.before.before.before.before.before.before.before.before.before.send-and-put.ensures
+    turned_as _ _ (ap₂ (λ (k : ℕ) (x : Signal). handed (frames_in k a.n3 a.n4 a.bytes.now) x) s.requires.0 (blank-lent a.mode _ c.before.before.before.before.before.before.before.before.before.before.before.before.before.before.before.before.before.before.before.before.before.sender-lengths.ensures s.requires.1)) c.before.before.before.before.before.before.before.before.before.before.before.before.send-and-put.ensures
 
 pub take-turn-spec : {M : Type 1} → statement M
 take-turn-spec =

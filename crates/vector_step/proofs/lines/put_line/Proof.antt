@@ -1,7 +1,7 @@
 -- `put_line` meets its contract. Assumes nothing.
 use mathlib.Core.Path.{ap}
 use Rattle.text.proofs.Stored.{put-text, put_then}
-use Rattle.vector_step.specs.Printed.{line, sourceText}
+use Rattle.vector_step.specs.Printed.{line, source_text}
 use borrow.Author.Rules.{rules}
 use Rattle.vector_step.proofs.lines.put_line.Statement.{statement}
 use Rattle.vector_step.proofs.lines.put_line.Tie as tie
@@ -44,7 +44,7 @@ returns c =
     let f = e.before.before.before.before in
     let g = f.before.before.before.before.before in
     put_then g.before.before.before.before.put-subcarrier.ensures (put_then g.put-part.ensures (put_then f.put.ensures (put_then e.put-part2.ensures
-    (put_then d.put2.ensures (put-text (ap sourceText c.before.before.before.source-at.ensures) c.before.before.put-source.ensures)))))
+    (put_then d.put2.ensures (put-text (ap source_text c.before.before.before.source-at.ensures) c.before.before.put-source.ensures)))))
 
 pub put-line-spec : {M : Type 1} → statement M
 put-line-spec =

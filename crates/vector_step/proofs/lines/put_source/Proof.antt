@@ -2,7 +2,7 @@
 use mathlib.Core.Path.{sym}
 use native.Mathlib.Omega.{arith}
 use Rattle.text.proofs.Stored.{put-most, put-text, put_then}
-use Rattle.vector_step.specs.Printed.{sourceText}
+use Rattle.vector_step.specs.Printed.{source_text}
 use borrow.Author.Rules.{rules}
 use Rattle.vector_step.proofs.lines.put_source.Statement.{statement}
 use Rattle.vector_step.proofs.lines.put_source.Tie as tie
@@ -68,14 +68,14 @@ same_length : tie.Need-same-length
 same_length c = search rules
 
 returns : tie.Need-returns
-unfolding sourceText
+unfolding source_text
 returns c = put-text (sym (rw c.before.before.before.before.before.enum_told.given.1)) (put-most (omega arith) c.before.before.put.ensures)
 
 same-length-2 : tie.Need-same-length-2
 same-length-2 c = search rules
 
 returns-2 : tie.Need-returns-2
-unfolding sourceText
+unfolding source_text
 returns-2 c =
     put-text (sym (rw c.before.before.before.before.before.before.before.before.before.before.source.given.1)) (put-most (omega arith) (put_then c.before.before.before.before.before.before.put2.ensures c.before.before.field.ensures))
 
@@ -83,7 +83,7 @@ same-length-3 : tie.Need-same-length-3
 same-length-3 c = search rules
 
 returns-3 : tie.Need-returns-3
-unfolding sourceText
+unfolding source_text
 returns-3 c =
     put-text (sym (rw c.before.before.before.before.before.before.before.before.before.before.source2.given.1)) (put-most (omega arith) (put_then c.before.before.before.before.before.before.put3.ensures c.before.before.field2.ensures))
 
@@ -91,7 +91,7 @@ same-length-4 : tie.Need-same-length-4
 same-length-4 c = search rules
 
 returns-4 : tie.Need-returns-4
-unfolding sourceText
+unfolding source_text
 returns-4 c =
     put-text (sym (rw c.before.before.before.before.before.before.before.before.before.before.source3.given.1)) (put-most (omega arith) (put_then c.before.before.before.before.before.before.put4.ensures c.before.before.field3.ensures))
 
@@ -99,7 +99,7 @@ same-length-5 : tie.Need-same-length-5
 same-length-5 c = search rules
 
 returns-5 : tie.Need-returns-5
-unfolding sourceText
+unfolding source_text
 returns-5 c =
     put-text (sym (rw c.before.before.before.before.before.before.before.before.before.before.source4.given.1)) (put-most (omega arith) (put_then c.before.before.before.before.before.before.put5.ensures c.before.before.field4.ensures))
 
