@@ -1,4 +1,6 @@
 // allocate: reads lines of eight shares and eight counts of messages waiting, and prints for each the sixteen PIDS places.
+#![tactic(auto)]
+
 ghost use Rattle.std.specs.Prelude.{◌≡◌, length};
 
 use libc::{STDERR_FILENO, STDIN_FILENO};

@@ -1,4 +1,6 @@
 // Document 02, S-4: eight sources share the sixteen PIDS places of an L1 frame.
+#![tactic(auto)]
+
 ghost use Rattle.std.specs.Prelude.{◌≡◌, List, ℕ, ◌+◌, ◌<◌, ◌≤◌, min, length};
 ghost use Rattle.allocation.specs.Allocation.{granted, first, outcome, shared, smaller, total, turn};
 ghost use Rattle.allocation.specs.Owners.{owner_of};
@@ -7,7 +9,7 @@ ghost use Rattle.bits.specs.Listed.{listed};
 use runs::Answer;
 
 // How many places each source has been given, and how many are left.
-#[derive(Drop)]
+#[derive(Clone, Copy)]
 pub struct Grants {
     pub given: [u8; 8],
     pub left: u8,

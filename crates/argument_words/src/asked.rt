@@ -9,14 +9,14 @@ use bits::same;
 use operands::{Operand, decimal};
 
 // The channels that are said to be without data.
-#[derive(Drop)]
+#[derive(Clone, Copy)]
 pub enum Channels {
     Without { p3: bool, p4: bool },
     Other,
 }
 
 // A run, its channels without data, and whether the last word that the program takes stands there.
-#[derive(Drop)]
+#[derive(Clone, Copy)]
 pub enum Asked {
     Run {
         mode: u8,
@@ -142,7 +142,7 @@ pub fn fourth_word(text: &[u8]) -> &[u8]
 }
 
 // A run of sums: of how many runs.
-#[derive(Drop)]
+#[derive(Clone, Copy)]
 pub enum Summed {
     Run { mode: u8, count: u64, runs: u64 },
     Wrong,

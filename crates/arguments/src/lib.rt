@@ -1,10 +1,12 @@
 // What the arguments of a run's program say: a mode and a count of L1 frames; of a sender's also the channels without data.
+#![tactic(auto)]
+
 ghost use Rattle.std.specs.Prelude.{◌≡◌};
 ghost use Rattle.arguments.specs.Arguments.{arguments_of, carried_of, misnamed, mode_of, sending_of};
 
 use operands::Operand;
 
-#[derive(Drop)]
+#[derive(Clone, Copy)]
 pub enum Arguments {
     Run { mode: u8, count: u64 },
     Wrong,
@@ -39,7 +41,7 @@ pub fn arguments_of(mode: Operand, count: Operand) -> Arguments
 }
 
 // What a sender's program is to do: also how many bytes of P3 and P4 its input has for an L1 frame.
-#[derive(Drop)]
+#[derive(Clone, Copy)]
 pub enum Sending {
     Run {
         mode: u8,

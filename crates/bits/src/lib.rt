@@ -1,4 +1,6 @@
 // House packing: a bit of a packed buffer is reached by shift and mask, the first of eight weighing 128.
+#![tactic(auto)]
+
 ghost use Rattle.std.specs.Prelude.{◌≡◌, ℕ, ◌+◌, ◌*◌, ◌%◌, ◌<◌, length, replicate};
 ghost use Rattle.bits.specs.Bits.{bit_at, put as «put-bit»};
 ghost use Rattle.bits.specs.Tests.{same as «same_bytes»};

@@ -1,4 +1,6 @@
 // S-8: the sixteen control blocks of an L1 frame, looked up as a set. An internal crate: the length is required, and the crate above gives document 02's numbers.
+#![tactic(auto)]
+
 ghost use Rattle.std.specs.Prelude.{◌≡◌, ◌<◌, length};
 ghost use Rattle.blockset.specs.LookupFrame.{no_block, fitting, named, says, looked_up_frame};
 ghost use Rattle.blockset.specs.Words.{onward};
@@ -6,7 +8,7 @@ ghost use Rattle.blockset.specs.Words.{onward};
 use control::Looked;
 
 // What the sixteen blocks say as a set: a mode and a number; or the lowest block that is faulty by itself; or the lowest that does not fit.
-#[derive(Drop)]
+#[derive(Clone, Copy)]
 pub enum LookedFrame {
     Of { mode: u8, reserved: u8 },
     Faulty { block: u8 },

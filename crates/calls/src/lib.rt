@@ -1,4 +1,6 @@
 // Document 01, "Operations of a run": states, what every call looks at first, and the starts.
+#![tactic(auto)]
+
 mod admission;
 mod starting;
 mod states;

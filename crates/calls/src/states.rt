@@ -6,14 +6,14 @@ use modes::{last_age, main_of};
 use runs::{Answer, State};
 
 // What a start or a sending returns.
-#[derive(Drop)]
+#[derive(Clone, Copy)]
 pub struct Outcome {
     pub answer: Answer,
     pub state: State,
 }
 
 // What a reading returns: also the L1 frame's reserved number, and 0 with any refusal.
-#[derive(Drop)]
+#[derive(Clone, Copy)]
 pub struct ReadOutcome {
     pub answer: Answer,
     pub state: State,

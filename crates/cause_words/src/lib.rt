@@ -1,4 +1,6 @@
 // What a refusal's number means, and why there is no sheet, in the words of causes.tsv.
+#![tactic(auto)]
+
 mod cuts;
 mod no_sheet;
 mod table;

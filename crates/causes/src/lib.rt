@@ -1,4 +1,6 @@
 // Documents 01 and 02, the table of causes: the number and the place of an answer.
+#![tactic(auto)]
+
 ghost use Rattle.std.specs.Prelude.{◌≡◌};
 ghost use Rattle.runs.specs.Answers.{number_of, place_of};
 

@@ -1,11 +1,13 @@
 // Document 01's cell list program: reads lines of a row and a column, and prints whose coded bit stands in each cell of PM.
+#![tactic(auto)]
+
 ghost use Rattle.std.specs.Prelude.{◌≡◌, ◌+◌, ◌^◌, ◌≤◌, ◌<◌, length};
 
 use libc::STDIN_FILENO;
 use listing::Progress;
 
 // Where the input's lines have been listed to, whether there may be more, and whether all went out.
-#[derive(Drop)]
+#[derive(Clone, Copy)]
 struct Turn {
     at: Progress,
     more: bool,

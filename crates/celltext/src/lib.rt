@@ -1,4 +1,6 @@
 // House matter: the cells of one PIDS frame as a line of text, and the line that is printed for the frame that is found or restored.
+#![tactic(auto)]
+
 ghost use Rattle.std.specs.Prelude.{◌≡◌, [], ◌∷◌, ◌++◌, ◌+◌, ◌*◌, ◌/◌, ◌%◌, ◌<◌, ◌≤◌, length, get_or, take};
 ghost use Rattle.bits.specs.Tests.{all};
 ghost use Rattle.io.specs.Counts.{IsPrefixLen};

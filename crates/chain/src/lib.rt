@@ -1,4 +1,6 @@
 // The matrices of an L1 frame from its transfer frames: sections 8, 9 and 10 one after the other.
+#![tactic(auto)]
+
 ghost use Rattle.std.specs.Prelude.{◌≡◌, List, [], ◌++◌, ℕ, ◌+◌, ◌-◌, ◌*◌, ◌/◌, ◌≤◌, ◌<◌, length, replicate, take};
 ghost use Rattle.bits.specs.Bits.{bit_at, packed};
 ghost use Rattle.scrambling.specs.Scrambler.{scrambled_each};

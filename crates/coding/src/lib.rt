@@ -1,5 +1,7 @@
 // The channel coder of section 9 and its inverse, by units: two bytes of a frame, and as many coded bytes as two bits have coded bits.
 // Both are linear, so a unit's word, its coded bits or its own, is the `^` of the words that a table has for the bytes it hangs on.
+#![tactic(auto)]
+
 ghost use Rattle.std.specs.Prelude.{◌≡◌, ℕ, ◌+◌, ◌*◌, ◌/◌, ◌%◌, ◌^◌, ◌<◌, ◌≤◌, true, false, length, take, get_or};
 ghost use Rattle.std.specs.Int.Bits.{bit_xor};
 ghost use Rattle.bits.specs.Bits.{bit_at, number, packed};
@@ -11,7 +13,7 @@ ghost use Rattle.coding.specs.Buffers.{Buffers, coded_each, uncoded_each};
 ghost use Rattle.coding.specs.Units.{group_size, bytes_of, placed, word_of, Words, Within, around as «around-of»};
 
 // The code rates 2/5 and 1/2 of Table 9-1.
-#[derive(Drop)]
+#[derive(Clone, Copy)]
 pub enum Rate {
     TwoFifths,
     Half,

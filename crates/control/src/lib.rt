@@ -1,4 +1,6 @@
 // System control processing: section 11 of SY_IDD_1011s. An internal crate: lengths and ranges are required, and the crate above gives document 01's numbers.
+#![tactic(auto)]
+
 ghost use Rattle.std.specs.Prelude.{◌≡◌, ◌+◌, ◌*◌, ◌/◌, ◌<◌, ◌≤◌, ◌%◌, ◌^◌, length};
 ghost use Rattle.std.specs.Int.Bits.{bit_and};
 ghost use Rattle.std.specs.Int.Count.{ones};
@@ -169,7 +171,7 @@ fn departing_from(mode: u8, reserved: u8, control: &[u8]) -> u8
 }
 
 // What a control block alone says.
-#[derive(Drop)]
+#[derive(Clone, Copy)]
 pub enum Looked {
     Found { mode: u8, count: u8, reserved: u8 },
     NotABlock,

@@ -1,4 +1,6 @@
 // Document 02, S-12: the PIDS frame nearest to cells of which some are mis-copied or unread, with its distance and a margin.
+#![tactic(auto)]
+
 ghost use Rattle.std.specs.Prelude.{◌≡◌, List, ℕ, ◌<◌, ◌≤◌, length};
 ghost use Rattle.trellis.specs.Cells.{scrambled_of, distance};
 ghost use Rattle.trellis.specs.Trellis.{anywhere, Cheap, least, LeastOf, tabled, Tabled};
@@ -9,7 +11,7 @@ ghost use Rattle.decoding.specs.Outcomes.{Answered};
 use runs::Answer;
 
 // What a search answers, with the frame's distance and the margin.
-#[derive(Drop)]
+#[derive(Clone, Copy)]
 pub struct Decoded {
     pub answer: Answer,
     pub distance: u16,
@@ -17,7 +19,7 @@ pub struct Decoded {
 }
 
 // A start, and the least distance of the frames that start there.
-#[derive(Drop)]
+#[derive(Clone, Copy)]
 struct Start {
     e: usize,
     distance: u16,

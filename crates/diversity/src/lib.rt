@@ -1,4 +1,6 @@
 // The digital diversity delay of section 9.2, and P1', the delayed path of P1, in PX2.
+#![tactic(auto)]
+
 ghost use Rattle.std.specs.Prelude.{◌≡◌, List, ℕ, ◌+◌, ◌*◌, ◌≤◌, length};
 ghost use Rattle.bits.specs.Tests.{lowest};
 ghost use Rattle.runs.specs.MainChannels.{delay_len, p1_len, p1'_len, p1'_row};

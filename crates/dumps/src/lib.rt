@@ -1,4 +1,6 @@
 // Document 02, S-13: judging a dump.
+#![tactic(auto)]
+
 ghost use Rattle.std.specs.Prelude.{◌≡◌};
 ghost use Rattle.runs.specs.Lengths.{reader_len};
 ghost use Rattle.runs.specs.Starting.{zeros};
@@ -14,7 +16,7 @@ use modes::reader_lengths;
 use runs::{Answer, State};
 
 // An answer, and the number of the L1 frame that it is given for.
-#[derive(Drop)]
+#[derive(Clone, Copy)]
 pub struct Verdict {
     pub answer: Answer,
     pub frame: usize,
@@ -27,7 +29,7 @@ pub fn judged_as(answer: Answer, frame: usize) -> Verdict
 }
 
 // What is said of an L1 frame, and the state after it.
-#[derive(Drop)]
+#[derive(Clone, Copy)]
 pub struct Judged {
     pub verdict: Verdict,
     pub state: State,

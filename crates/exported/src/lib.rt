@@ -1,4 +1,6 @@
 // The entry points of `layer1` for C but those of a run (crate `exported_runs`): numbers and slices of numbers alone cross, and what a call returns beside its buffers is a word of fields (crate `words`). `include/layer1.h` declares them.
+#![tactic(auto)]
+
 mod decoded;
 mod judged;
 mod lengths;

@@ -1,4 +1,6 @@
 // The finders in six modes, the locators and the workings of `layer1` for C. `include/layer1.h` declares them.
+#![tactic(auto)]
+
 mod found;
 mod located;
 mod worked;

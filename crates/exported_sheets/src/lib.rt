@@ -1,4 +1,6 @@
 // The entry point of `layer1` for C that puts an answer sheet. `include/layer1.h` declares it.
+#![tactic(auto)]
+
 ghost use Rattle.std.specs.Prelude.{◌≡◌};
 ghost use Rattle.sheets.specs.Call.{sheet_call};
 ghost use Rattle.exported_sheets.specs.Left.{said, sheet_left, sheet_left_by};

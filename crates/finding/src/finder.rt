@@ -8,7 +8,7 @@ use queries::Found;
 use runs::{Answer, Main};
 
 // A coded bit of a P1 frame, of P2 or of a PIDS frame of the L1 frame.
-#[derive(Drop)]
+#[derive(Clone, Copy)]
 pub enum Owner {
     P1 { frame: usize, bit: usize },
     P2 { bit: usize },

@@ -1,4 +1,6 @@
 // Whose coded bit stands in a cell of PM, and into which cell a coded bit goes, in all six modes.
+#![tactic(auto)]
+
 mod finder;
 mod locator;
 mod vector_u;

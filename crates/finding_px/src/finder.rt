@@ -8,7 +8,7 @@ use queries::FoundPx;
 use runs::{Answer, Main, State};
 
 // So many L1 frames earlier it was coded, as this bit of this transfer frame of the eight; or the zero fill. Of P1' this coded bit of this P1 frame of the L1 frame three earlier; or the zeros of the diversity delay.
-#[derive(Drop)]
+#[derive(Clone, Copy)]
 pub enum FoundPxIn {
     Coded {
         earlier: usize,

@@ -1,4 +1,6 @@
 // Whose coded bit stands in a cell of PX1 or PX2, into which cell of them a coded bit goes, and how P1' is written there, in all six modes.
+#![tactic(auto)]
+
 mod finder;
 mod locator;
 mod older;

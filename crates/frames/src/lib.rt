@@ -1,4 +1,6 @@
 // Reading an L1 frame of a dump, or of a reader's input: PM, PX1, PX2 and control end to end.
+#![tactic(auto)]
+
 ghost use Rattle.std.specs.Prelude.{◌≡◌};
 ghost use Rattle.runs.specs.Reading.{read_step};
 ghost use Rattle.calls.specs.Called.{frames, memory, read_gave};

@@ -1,5 +1,7 @@
 // judge: reads a dump from standard input, L1 frame by L1 frame, and prints one line: `accepted`, or as what it is refused (document 02, S-13), which it
 // says in words on standard error.
+#![tactic(auto)]
+
 ghost use Rattle.std.specs.Prelude.{◌≤◌, length};
 ghost use Rattle.io.specs.Counts.{IsPrefixLen};
 

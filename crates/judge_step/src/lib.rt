@@ -1,4 +1,6 @@
 // The program `judge`: an L1 frame of a dump from its bytes to the bytes that are printed, and the line of a verdict.
+#![tactic(auto)]
+
 ghost use Rattle.std.specs.Prelude.{◌≡◌, ◌≤◌, length, take};
 ghost use Rattle.io.specs.Counts.{IsPrefixLen};
 ghost use Rattle.calls.specs.Called.{memory};
@@ -41,7 +43,7 @@ pub fn put_last(more: bool, count: usize, out: &mut [u8]) -> usize
 }
 
 // The state after an L1 frame, and how many bytes are printed: none where the dump goes on.
-#[derive(Drop)]
+#[derive(Clone, Copy)]
 pub struct Judged {
     pub state: State,
     pub length: usize,

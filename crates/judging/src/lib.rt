@@ -1,4 +1,6 @@
 // Documents 01 and 02, causes 4 to 8 of a reading: an L1 frame is judged, and its transfer frames are recovered.
+#![tactic(auto)]
+
 ghost use Rattle.std.specs.Prelude.{◌≡◌, ◌+◌, ◌≤◌, ◌<◌, length, drop};
 ghost use Rattle.bits.specs.Tests.{lowest};
 ghost use Rattle.runs.specs.declared.Extended.TheVariants.{P3, P4};

@@ -1,5 +1,7 @@
 // keys MODE COUNT N: reads COUNT L1 frames of N runs, N odd, each as `sender` reads it and the N of an L1 frame one after the other, and writes those of the
 // run of their sums, which `sender` reads (document 02, S-14).
+#![tactic(auto)]
+
 use argument_words::Summed;
 use libc::{STDERR_FILENO, STDIN_FILENO};
 

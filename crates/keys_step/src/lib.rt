@@ -1,10 +1,12 @@
 // The program `keys`: an input of an L1 frame, added to those before it (document 02, S-14).
+#![tactic(auto)]
+
 ghost use Rattle.std.specs.Prelude.{◌≡◌, ◌≤◌, length, take};
 ghost use Rattle.io.specs.Counts.{IsPrefixLen};
 ghost use Rattle.keys_step.specs.Summed.{add_input, added_to, not_taken, step};
 
 // Whether an input was taken, and the length of the line that is said where it was not.
-#[derive(Drop)]
+#[derive(Clone, Copy)]
 pub struct Added {
     pub good: bool,
     pub length: usize,

@@ -1,4 +1,6 @@
 // The entry points: the operations of documents 01 and 02. Every function is total, and its contract is one equation, or a relation that holds of one outcome.
+#![tactic(auto)]
+
 pub use allocation::share_places;
 pub use calls::{Outcome, ReadOutcome, start_reader, start_sender};
 pub use causes::{number, place};

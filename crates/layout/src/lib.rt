@@ -1,4 +1,6 @@
 // Document 02, S-13: a dump and an L1 frame in bytes.
+#![tactic(auto)]
+
 mod headers;
 mod lengths;
 

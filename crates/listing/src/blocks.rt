@@ -10,7 +10,7 @@ use crate::printing::print;
 use text::put;
 
 // The open line, its number, and where the text in the buffer ends.
-#[derive(Drop)]
+#[derive(Clone, Copy)]
 pub struct Progress {
     pub line: Line,
     pub number: u64,

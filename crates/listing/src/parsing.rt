@@ -5,14 +5,14 @@ ghost use Rattle.linewise.specs.Going.{begun};
 ghost use Rattle.listing.specs.Running.{part_of, line_of};
 
 // A part of a line: whether it has bytes, and their number, where 1000 is too many or no number.
-#[derive(Drop)]
+#[derive(Clone, Copy)]
 pub struct Part {
     pub begun: bool,
     pub number: usize,
 }
 
 // A line: whether a space cut it, and the parts before and after it.
-#[derive(Drop)]
+#[derive(Clone, Copy)]
 pub struct Line {
     pub cut: bool,
     pub row: Part,

@@ -1,4 +1,6 @@
 // The finders turned round: into which cell a coded bit goes.
+#![tactic(auto)]
+
 mod locator;
 mod locator_px;
 mod writing;

@@ -7,7 +7,7 @@ use pm::Position;
 use runs::Answer;
 
 // The position of a coded bit of P1 or PIDS, and its row and column of PM.
-#[derive(Drop)]
+#[derive(Clone, Copy)]
 pub enum Located {
     At {
         position: Position,

@@ -9,7 +9,7 @@ use crate::writing::write_px;
 use runs::{Answer, Kind, State};
 
 // The cell of a coded bit of P3 or P4: so many L1 frames later than its own, in the matrix of this block pair.
-#[derive(Drop)]
+#[derive(Clone, Copy)]
 pub enum LocatedPx {
     At {
         later: usize,

@@ -6,7 +6,7 @@ ghost use Rattle.locating.specs.Writing.{partition_of, counter_of, p1_writing, p
 use pm::Position;
 
 // The number of the bit in the equations, i; k of 10.2.3.3 or 10.2.4.3, in 10.2.6 the counter of the partition; the position in the matrix, in 10.2.6 the internal one; and its cell. The step of 10.2.6 that has a cell's number reads it.
-#[derive(Drop)]
+#[derive(Clone, Copy)]
 pub struct Writing {
     pub step: usize,
     pub k: usize,
@@ -45,7 +45,7 @@ pub fn write_pids(i: usize) -> Writing
 }
 
 // An entry of a partition of the internal matrix.
-#[derive(Drop)]
+#[derive(Clone, Copy)]
 struct Entry {
     partition: usize,
     count: usize,

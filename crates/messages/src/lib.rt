@@ -1,4 +1,6 @@
 // What the programs say: the line of a refusal, that an input goes on behind its last L1 frame, and why there is no sheet.
+#![tactic(auto)]
+
 ghost use Rattle.std.specs.Prelude.{◌≡◌, ◌≤◌, length, take};
 ghost use Rattle.io.specs.Counts.{IsPrefixLen};
 ghost use Rattle.text.specs.Put.{Put};

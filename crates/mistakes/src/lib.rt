@@ -1,5 +1,7 @@
 // Functions with the contracts of those that they call: right as they stand. Mistakes that change the shape of the called one are must-fail edits of these, so
 // that what is refused is the mistake.
+#![tactic(auto)]
+
 ghost use Rattle.std.specs.Prelude.{◌≡◌, ◌*◌, ◌<◌, length};
 ghost use Rattle.bits.specs.Bits.{bit_at, packed};
 ghost use Rattle.scrambling.specs.Scrambler.{scrambled_each};

@@ -1,4 +1,6 @@
 // Documents 01 and 02: what a mode has, channels, lent lengths and the last age, and which lent length is wrong.
+#![tactic(auto)]
+
 ghost use Rattle.std.specs.Prelude.{◌≡◌, List, ℕ, ◌≤◌, length};
 ghost use Rattle.runs.specs.Causes.{wrong};
 ghost use Rattle.runs.specs.MainChannels.{delay_len, last_age, main_of, p1_len, p2_len, p1'_len};

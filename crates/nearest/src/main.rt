@@ -1,4 +1,6 @@
 // nearest BUDGET: reads lines of 200 cells, and prints for each the nearest PIDS frame in hexadecimal, its distance and its margin (document 02, S-12).
+#![tactic(auto)]
+
 use operands::Operand;
 
 // Reads a line and writes what is printed for it. Answers whether to go on.

@@ -1,8 +1,10 @@
 // The arguments of the programs.
+#![tactic(auto)]
+
 ghost use Rattle.std.specs.Prelude.{◌≡◌, ◌+◌, ◌-◌, ◌*◌, ◌≤◌, min};
 ghost use Rattle.operands.specs.Operands.{is_digit, limit, operand_of};
 
-#[derive(Drop)]
+#[derive(Clone, Copy)]
 pub enum Operand {
     Number(u64),
     NotDecimal,

@@ -1,5 +1,7 @@
 // What the program `owners` prints, as functions on bytes: `start`, `answer` for each block of the input, `finish`.
 // The open line is held in a buffer of 4,096 bytes that the caller lends.
+#![tactic(auto)]
+
 ghost use Rattle.std.specs.Prelude.{◌≡◌, ℕ, ◌+◌, ◌*◌, ◌^◌, ◌≤◌, ◌<◌, List, [], ◌∷◌, ◌++◌, length, take};
 ghost use Rattle.interleaving.specs.TableI.{ks};
 ghost use Rattle.io.specs.Counts.{IsPrefixLen};
@@ -8,7 +10,7 @@ ghost use Rattle.ownerlines.specs.Printed.{output, printed};
 ghost use Rattle.ownerlines.specs.Running.{Reached, held_of};
 
 // How many bytes of the open line are held, its number, and where the text in the buffer ends.
-#[derive(Drop)]
+#[derive(Clone, Copy)]
 pub struct Progress {
     pub held: usize,
     pub number: u64,

@@ -1,4 +1,6 @@
 // owners MODE: reads lines that ask for a cell or for a coded bit of an L1 frame, and prints whose bit stands in the cell, or in which cell the bit stands.
+#![tactic(auto)]
+
 ghost use Rattle.std.specs.Prelude.{◌≡◌, ◌+◌, ◌^◌, ◌≤◌, ◌<◌, length};
 
 use libc::STDIN_FILENO;
@@ -6,7 +8,7 @@ use operands::Operand;
 use ownerlines::Progress;
 
 // Where the input's lines have been answered to, and whether there may be more.
-#[derive(Drop)]
+#[derive(Clone, Copy)]
 struct Turn {
     at: Progress,
     more: bool,

@@ -1,4 +1,6 @@
 // The lines that the program `allocate` reads and prints, as one function on bytes.
+#![tactic(auto)]
+
 mod fields;
 mod printing;
 

@@ -1,4 +1,6 @@
 // The PM interleaving process (section 10.4.1): P1 by Interleaver I, PIDS by Interleaver II, into one matrix of 368640 cells.
+#![tactic(auto)]
+
 mod gather;
 mod scatter;
 mod table;
@@ -128,7 +130,7 @@ fn shown(b: usize, p: usize) -> usize
 }
 
 // A bit of the coded P1 frame, or of the sixteen coded PIDS frames laid end to end.
-#[derive(Drop)]
+#[derive(Clone, Copy)]
 pub enum Bit {
     P1(usize),
     Pids(usize),

@@ -1,9 +1,11 @@
 // 12.2 and Tables 12-1 and 12-2: the points of a symbol, constellation values, scaled; and which scales are taken.
+#![tactic(auto)]
+
 ghost use Rattle.std.specs.Prelude.{◌≡◌};
 ghost use Rattle.points.specs.Points.{part, point_of, usable};
 
 // An element of the output vector: a real and an imaginary part.
-#[derive(Drop)]
+#[derive(Clone, Copy)]
 pub struct Point {
     pub re: f32,
     pub im: f32,

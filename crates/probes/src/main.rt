@@ -1,4 +1,6 @@
 // Document 01's probe points that are not starred, and the starts, findings, rows and lookups that it refuses.
+#![tactic(auto)]
+
 mod controls;
 mod found;
 mod lent;

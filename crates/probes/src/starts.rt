@@ -3,7 +3,7 @@ use crate::lent::{is_same, memory};
 use crate::lines::{count, given, kept, small, text};
 use layer1::Outcome;
 
-#[derive(Drop)]
+#[derive(Clone, Copy)]
 enum Side {
     Sender,
     Reader,

@@ -1,4 +1,6 @@
 // What every program has: the words that it was started with, its usage and its help, its buffers, and what it writes.
+#![tactic(auto)]
+
 mod buffers;
 mod command_line;
 

@@ -1,4 +1,6 @@
 // The PX interleaving process (section 10.4.2): Interleaver IV over an internal matrix that takes the coded bits of two L1 frames.
+#![tactic(auto)]
+
 ghost use Rattle.std.specs.Prelude.{◌≡◌, List, true, false, ℕ, ◌+◌, ◌-◌, ◌*◌, ◌/◌, ◌%◌, ◌<◌, ◌≤◌, length, get_or, set};
 ghost use Rattle.std.specs.Int.Bits.{bit_and};
 ghost use Rattle.bits.specs.Bits.{bit_at, number, packed};

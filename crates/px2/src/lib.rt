@@ -1,5 +1,7 @@
 // The PX interleaving process of P1' (sections 10.4.2.3 and 10.4.2.4): Interleaver I takes each of the eight P1' frames of an L1 frame to a matrix of its own.
 // The bits of one k are a byte of the coded frame in MP5 and two in MP6; the matrix is written in the order of its cells, four columns at a time.
+#![tactic(auto)]
+
 ghost use Rattle.std.specs.Prelude.{◌≡◌, List, ℕ, ◌+◌, ◌*◌, ◌<◌, ◌≤◌, length, get_or};
 ghost use Rattle.bits.specs.Bits.{bit_at, written};
 ghost use Rattle.interleaving.specs.EquationsI.{row as «row-of», column as «column-of»};

@@ -1,4 +1,6 @@
 // The PX interleaving process (section 10.4.2) turned round: the coded bits of an L1 frame out of its matrix and the two that follow.
+#![tactic(auto)]
+
 ghost use Rattle.std.specs.Prelude.{◌≡◌, ℕ, ◌+◌, ◌-◌, ◌*◌, ◌/◌, ◌%◌, ◌<◌, ◌≤◌, length, get_or};
 ghost use Rattle.bits.specs.Bits.{bit_at, packed, byte_of};
 ghost use Rattle.interleaving.specs.InverseIV.{missed as «missed-of»};

@@ -1,5 +1,7 @@
 // The coded bits of an L1 frame of PX (section 10.4.2) at the places that they are written to, row by row: one look-up gives the bits that a coded byte has
 // for an entry of each partition, each as a digit to the base of 16, so that a sum of four of them turns four columns at once.
+#![tactic(auto)]
+
 ghost use Rattle.std.specs.Prelude.{◌≡◌, List, ℕ, ◌+◌, ◌-◌, ◌*◌, ◌/◌, ◌%◌, ◌^◌, ◌<◌, ◌≤◌, length, get_or};
 ghost use Rattle.bits.specs.Bits.{bit_at, packed};
 ghost use Rattle.interleaving.specs.PX.{partitions as «partitions-of», runs as «runs_of», coded_bytes, coded_bits};

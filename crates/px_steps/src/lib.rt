@@ -1,4 +1,6 @@
 // The steps of the PX interleaving process (section 10.4.2) and the cells that they write: the tables, and Interleaver IV turned round.
+#![tactic(auto)]
+
 ghost use Rattle.std.specs.Prelude.{◌≡◌, ltb, get_or, ◌+◌, ◌-◌, ◌*◌, ◌/◌, ◌%◌, ◌<◌, ◌≤◌};
 ghost use Rattle.interleaving.specs.InverseIV.{missed as «missed-of», count, index};
 ghost use Rattle.interleaving.specs.PX.{partitions as «partitions-of», runs as «runs_of», order as «order-of», coded_bytes, coded_bits, cells};

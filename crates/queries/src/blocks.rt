@@ -7,14 +7,14 @@ use blockset::LookedFrame;
 use runs::Answer;
 
 // What a lookup tells.
-#[derive(Drop)]
+#[derive(Clone, Copy)]
 pub enum LookedUp {
     Found { mode: u8, count: u8, reserved: u8 },
     Refused { answer: Answer },
 }
 
 // What a lookup of a whole L1 frame's control tells.
-#[derive(Drop)]
+#[derive(Clone, Copy)]
 pub enum LookedUpFrame {
     Found { mode: u8, reserved: u8 },
     Refused { answer: Answer },

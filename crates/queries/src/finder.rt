@@ -8,7 +8,7 @@ use pm::Bit;
 use runs::Answer;
 
 // Whose coded bit stands in a cell of PM.
-#[derive(Drop)]
+#[derive(Clone, Copy)]
 pub enum Found {
     P1 { bit: usize },
     Pids { frame: usize, bit: usize },

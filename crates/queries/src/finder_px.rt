@@ -8,7 +8,7 @@ ghost use Rattle.queries.specs.FinderPX.{kind_of_number, columns_of, told, found
 use runs::{Answer, Extended, Kind, State};
 
 // Whose coded bit stands in a cell of PX1 or PX2: so many L1 frames earlier it was coded, as this bit of this transfer frame of the eight; or the zero fill.
-#[derive(Drop)]
+#[derive(Clone, Copy)]
 pub enum FoundPx {
     Coded {
         earlier: usize,

@@ -6,7 +6,7 @@ use pm::Position;
 use runs::Answer;
 
 // The position of a row and a column of PM, or the cell finder's refusal.
-#[derive(Drop)]
+#[derive(Clone, Copy)]
 pub enum Placed {
     At { position: Position },
     Refused { answer: Answer },

@@ -1,12 +1,14 @@
 // reader MODE COUNT [on]: reads COUNT L1 frames, each PM, PX1, PX2, control, and writes for each what its reading returns: its reserved number, one byte; P1, in MP5
 // and MP6 from the fourth on that of the one three earlier; PIDS; P2; and from the third on P3 and P4 of the one two earlier. With `on` it goes on after an L1 frame
 // that is refused.
+#![tactic(auto)]
+
 use argument_words::Asked;
 use libc::STDIN_FILENO;
 use runs::State;
 
 // The state after an L1 frame, and whether to go on.
-#[derive(Drop)]
+#[derive(Clone, Copy)]
 struct Turned {
     state: State,
     go_on: bool,

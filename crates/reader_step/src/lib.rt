@@ -1,4 +1,6 @@
 // An L1 frame of the program `reader`, from the bytes of its input to the bytes that are written.
+#![tactic(auto)]
+
 ghost use Rattle.std.specs.Prelude.{◌≡◌, ◌+◌, ◌≤◌, ltb, length, take};
 ghost use Rattle.io.specs.Counts.{IsPrefixLen};
 ghost use Rattle.runs.specs.Reading.{read_step};

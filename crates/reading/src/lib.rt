@@ -1,4 +1,6 @@
 // Documents 01 and 02: reading an L1 frame.
+#![tactic(auto)]
+
 ghost use Rattle.std.specs.Prelude.{◌≡◌};
 ghost use Rattle.runs.specs.Reading.{read_step};
 ghost use Rattle.calls.specs.Called.{lent, memory, read_gave};

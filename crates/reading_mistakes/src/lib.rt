@@ -1,5 +1,7 @@
 // A reading with the contract of `reading::read`, which it calls: right as it stands. The readers that document 01 rules out by name, and others, are must-fail
 // edits of it, so that what is refused is the mistake.
+#![tactic(auto)]
+
 ghost use Rattle.std.specs.Prelude.{◌≡◌};
 ghost use Rattle.runs.specs.Reading.{read_step};
 ghost use Rattle.calls.specs.Called.{lent, memory, read_gave};

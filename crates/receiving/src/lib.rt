@@ -1,4 +1,6 @@
 // Reading an L1 frame whose state and lengths are right: it is judged, and the frames that it returns and the reader's memory are written.
+#![tactic(auto)]
+
 ghost use Rattle.std.specs.Prelude.{cond, ◌≡◌, ◌≤◌, ltb, length};
 ghost use Rattle.runs.specs.declared.Extended.TheVariants.{P4};
 ghost use Rattle.runs.specs.MainChannels.{main_of, delay_frames, delay_len, p1_len};

@@ -1,4 +1,6 @@
 // The transfer frames of an L1 frame from its matrices: sections 10, 9 and 8 turned round.
+#![tactic(auto)]
+
 ghost use Rattle.std.specs.Prelude.{◌≡◌, List, ℕ, ◌+◌, ◌*◌, ◌<◌, ◌≤◌, length, get_or};
 ghost use Rattle.bits.specs.Bits.{packed};
 ghost use Rattle.bits.specs.Tests.{lowest};

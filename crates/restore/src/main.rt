@@ -1,4 +1,5 @@
 // restore: reads lines of 200 cells, and prints for each the PIDS frame that fits them in hexadecimal, where exactly one does (document 02, S-11).
+#![tactic(auto)]
 
 // Reads a line and writes what is printed for it. Answers whether to go on.
 fn turn(number: u64) -> bool {

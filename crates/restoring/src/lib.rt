@@ -1,4 +1,6 @@
 // Document 02, S-11: the PIDS frame that fits the cells that could be read, where exactly one does.
+#![tactic(auto)]
+
 ghost use Rattle.std.specs.Prelude.{◌≡◌, List, ℕ, suc, ◌+◌, ◌*◌, ◌<◌, ◌≤◌, length};
 ghost use Rattle.bits.specs.Bits.{bit_at, packed};
 ghost use Rattle.scrambling.specs.Scrambler.{scrambled};

@@ -1,4 +1,6 @@
 // Document 01: one row of a matrix, as the part of the lent matrix that it is.
+#![tactic(auto)]
+
 ghost use Rattle.std.specs.Prelude.{◌≡◌};
 ghost use Rattle.rows.specs.Rows.{pm_row, px_row};
 

@@ -43,7 +43,7 @@ pub fn number_of(input: &[u8]) -> u8
 }
 
 // Where the number and the transfer frames of an L1 frame end in an input, one behind the other.
-#[derive(Drop)]
+#[derive(Clone, Copy)]
 struct Ends {
     number: usize,
     p1: usize,

@@ -1,11 +1,13 @@
 // A scale as it is typed: one to three digits, then perhaps a point and one to sixteen digits, which must be a number of single precision exactly.
+#![tactic(auto)]
+
 ghost use Rattle.std.specs.Prelude.{◌≡◌, ◌-◌, ◌*◌, ◌^◌, ◌<◌, ◌≤◌, true, false};
 ghost use Rattle.std.specs.Float.Ieee.Exact.{HasValue};
 ghost use Rattle.text.specs.Numbers.{value};
 ghost use Rattle.scales.specs.Scales.{exact_of, is_short, is_single, scale_of};
 
 // How many times 2^-16 a scale is.
-#[derive(Drop)]
+#[derive(Clone, Copy)]
 pub enum Typed {
     Times(u32),
     NotExact,

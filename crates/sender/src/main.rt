@@ -1,12 +1,14 @@
 // sender MODE COUNT [without P3|P4|P3 P4] [dump]: reads COUNT L1 frames, each its reserved number, one byte, and its transfer frames, P1, PIDS, P2, P3, P4, but not
 // of a channel without data, and writes for each its PM, PX1, PX2 and control. With `dump` the header of a dump goes out before them (document 02, S-13).
+#![tactic(auto)]
+
 use argument_words::Asked;
 use arguments::Sending;
 use libc::STDIN_FILENO;
 use runs::State;
 
 // The state after an L1 frame, and whether it went out.
-#[derive(Drop)]
+#[derive(Clone, Copy)]
 struct Turned {
     state: State,
     good: bool,

@@ -1,4 +1,6 @@
 // An L1 frame of the program `sender`, from the bytes of its input to the bytes that are written.
+#![tactic(auto)]
+
 ghost use Rattle.std.specs.Prelude.{◌≡◌, ◌+◌, ◌≤◌, length, take};
 ghost use Rattle.io.specs.Counts.{IsPrefixLen};
 ghost use Rattle.calls.specs.Called.{memory, signal};

@@ -1,4 +1,6 @@
 // Documents 01 and 02: sending an L1 frame.
+#![tactic(auto)]
+
 ghost use Rattle.std.specs.Prelude.{◌≡◌};
 ghost use Rattle.runs.specs.Lengths.{sender_len};
 ghost use Rattle.runs.specs.Lent.{filled, meant, memory_next, signal_of};

@@ -1,5 +1,7 @@
 // A sending with the contract of `sending::send`, which it calls: right as it stands. The senders that document 01 rules out by name, and others, are must-fail
 // edits of it, so that what is refused is the mistake.
+#![tactic(auto)]
+
 ghost use Rattle.std.specs.Prelude.{◌≡◌};
 ghost use Rattle.runs.specs.Sending.{send_step};
 ghost use Rattle.calls.specs.Called.{gave, lent, memory};

@@ -1,5 +1,7 @@
 // sheet MODE COUNT [without P3|P4|P3 P4] [work]: reads a cell list, an empty line and COUNT L1 frames, each its reserved number and its transfer frames, as `sender` does,
 // and prints the answer sheet, with `work` the working below each answer, or the line that says why there is none, which goes to standard error too, with the cause in words.
+#![tactic(auto)]
+
 use argument_words::Asked;
 use libc::STDIN_FILENO;
 

@@ -15,7 +15,7 @@ use locating::{Located, LocatedPx};
 use runs::{Extended, State};
 
 // A coded bit: this one of this transfer frame of a channel (1 is P1, 2 PIDS, 3 P3, 4 P4, 5 P2, 6 P1'), handed over with L1 frame `from`.
-#[derive(Drop)]
+#[derive(Clone, Copy)]
 pub struct CodedBit {
     pub channel: u8,
     pub from: u64,
@@ -24,7 +24,7 @@ pub struct CodedBit {
 }
 
 // A cell of the matrix in which its channel is sent, in L1 frame `sent`, and its number there. PM has no block pairs: its cells have 0.
-#[derive(Drop)]
+#[derive(Clone, Copy)]
 pub struct Cell {
     pub sent: u64,
     pub pair: usize,
@@ -34,7 +34,7 @@ pub struct Cell {
 }
 
 // This coded bit stands in this cell; or the zero fill, or the zeros of the diversity delay, in a cell of L1 frame `sent`; or nothing: the line is refused.
-#[derive(Drop)]
+#[derive(Clone, Copy)]
 pub enum Entry {
     Stands { coded: CodedBit, cell: Cell },
     Fill { sent: u64 },

@@ -1,4 +1,6 @@
 // The lines of an answer sheet: what each asks for, and which coded bit stands in which cell.
+#![tactic(auto)]
+
 mod entries;
 mod questions;
 mod values;

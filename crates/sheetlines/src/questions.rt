@@ -7,7 +7,7 @@ use text::{plain_line, rest, word};
 
 // A cell of an L1 frame: of PM, or of PX1 (channel 3) or PX2 (channel 4) with the block pair. Or a coded bit of channel 1 (P1), 2 (PIDS), 3 (P3), 4 (P4),
 // 5 (P2) or 6 (P1'), by the L1 frame with which its transfer frame was handed over.
-#[derive(Drop)]
+#[derive(Clone, Copy)]
 pub enum Question {
     Pm {
         frame: u64,

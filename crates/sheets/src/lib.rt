@@ -1,4 +1,6 @@
 // The answer sheet as one function on bytes.
+#![tactic(auto)]
+
 mod refusals;
 mod sheets;
 

@@ -133,7 +133,7 @@ fn clear_from(out: &mut [u8], at: usize)
 }
 
 // The answer of a call, and how many bytes the text has.
-#[derive(Drop)]
+#[derive(Clone, Copy)]
 pub struct Written {
     pub answer: Answer,
     pub length: usize,

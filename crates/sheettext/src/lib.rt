@@ -1,4 +1,6 @@
 // The text of an answer sheet, put behind what a buffer holds: each function answers where the text ends.
+#![tactic(auto)]
+
 mod ends;
 mod lines;
 mod owners;

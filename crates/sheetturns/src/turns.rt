@@ -11,7 +11,7 @@ ghost use Rattle.sheetturns.specs.Turned.{Asks, Turned};
 use runs::{Answer, State};
 
 // The answer of a sending, the state after it, and where the text ends.
-#[derive(Drop)]
+#[derive(Clone, Copy)]
 pub struct Turn {
     pub answer: Answer,
     pub state: State,

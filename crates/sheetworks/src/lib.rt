@@ -1,4 +1,6 @@
 // The working below an answer of a sheet: the coded bit worked out from the bytes of the L1 frame with which its transfer frame was handed over.
+#![tactic(auto)]
+
 ghost use Rattle.std.specs.Prelude.{◌≡◌, ◌+◌, ◌*◌, ◌^◌, ◌≤◌, ◌<◌, min, length};
 ghost use Rattle.layout.specs.Inputs.{frames_in};
 ghost use Rattle.text.specs.Put.{Put};

@@ -1,10 +1,12 @@
 // Tables 12-3 to 12-6 and Table 12-12: what each element of the vector carries.
+#![tactic(auto)]
+
 ghost use Rattle.std.specs.Prelude.{◌≡◌, true, ◌+◌, ◌*◌, ◌<◌, get_or};
 ghost use Rattle.subcarriers.specs.Slots.{column_source, column_table, mode_at, partition_source, partition_table, slot_source};
 ghost use Rattle.subcarriers.specs.Tables.{mapped, source_at, source_of};
 
 // What an element carries: two adjacent cells of a row of PM, PX1 or PX2, of which the first is in this column; one column of the control; or nothing.
-#[derive(Drop)]
+#[derive(Clone, Copy)]
 pub enum Source {
     Unused,
     Pm(usize),

@@ -1,4 +1,6 @@
 // Document 02, S-14: modulo 2 sums. What the run of the sums of an odd number of runs sends is proved over the runs of `runs`; the code adds buffers.
+#![tactic(auto)]
+
 ghost use Rattle.std.specs.Prelude.{[], ◌∷◌, ◌≡◌, get_or};
 ghost use Rattle.runs.specs.Chain.{Buffer};
 ghost use Rattle.summing.specs.Sums.{sum_of};

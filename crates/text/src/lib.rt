@@ -1,4 +1,6 @@
 // Text as bytes: its lines and words, and text put behind what a buffer holds.
+#![tactic(auto)]
+
 mod cuts;
 mod putting;
 

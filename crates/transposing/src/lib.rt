@@ -1,5 +1,7 @@
 // Columns of bits turned into rows: four columns, each a run of bytes, give a nibble for each of their bits. A table has the bits of every byte, each in a byte of
 // its own, so that a sum of four words turns four bytes at once.
+#![tactic(auto)]
+
 ghost use Rattle.std.specs.Prelude.{◌≡◌, ℕ, ◌+◌, ◌-◌, ◌*◌, ◌/◌, ◌%◌, ◌^◌, ◌<◌, ◌≤◌, length};
 ghost use Rattle.bits.specs.Bits.{bit_at};
 ghost use Rattle.transposing.specs.Words.{Begins, quad, eight, spread_of, Spreads, NibbleSpreads};

@@ -1,5 +1,7 @@
 // Document 02, S-12: the trellis of one PIDS frame. The coder's register is followed backwards, from the end of a frame to its start, with the scores of its 64 states;
 // the frame is then read off forwards.
+#![tactic(auto)]
+
 ghost use Rattle.std.specs.Prelude.{◌≡◌, ℕ, ◌+◌, ◌-◌, ◌*◌, ◌/◌, ◌%◌, ◌<◌, ◌≤◌, min, length, get_or};
 ghost use Rattle.bits.specs.Bits.{packed};
 ghost use Rattle.coding.specs.Coder.{generators};
@@ -7,7 +9,7 @@ ghost use Rattle.trellis.specs.Cells.{differs as «differs-of»};
 ghost use Rattle.trellis.specs.Trellis.{output_of, outputs_of, Outputs, cost_by, Eight, Filled, next, ended, anywhere, tabled, Tabled, after, Cheap, Low, AllLow, score_before, Before, Scored, Stored, Kept, lower, walk as «walk_of», least, LeastScore, LeastOf};
 
 // The scores of the 64 states of the register at a step.
-#[derive(Drop)]
+#[derive(Clone, Copy)]
 struct Scores {
     scores: [u16; 64],
     step: usize,

@@ -1,5 +1,7 @@
 // vector MODE SYMBOL LOWER UPPER: reads PM, PX1, PX2 and control of an L1 frame, and prints for each subcarrier of a symbol its number, its real and its
 // imaginary part and what they come from (document 02, S-7).
+#![tactic(auto)]
+
 ghost use Rattle.std.specs.Prelude.{◌≡◌, true, ℕ};
 ghost use Rattle.scales.specs.Scales.{is_single};
 ghost use Rattle.scales.specs.declared.Typed.TheVariants.{Times};

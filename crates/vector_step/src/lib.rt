@@ -1,4 +1,6 @@
 // A symbol of the program `vector`, from the bytes of an L1 frame to the bytes that are printed.
+#![tactic(auto)]
+
 mod lines;
 mod numbers;
 
@@ -14,7 +16,7 @@ use lines::put_lines;
 use runs::Answer;
 
 // Whether the vector was filled, and how many bytes are written: to standard output if it was, to standard error if not.
-#[derive(Drop)]
+#[derive(Clone, Copy)]
 pub struct Printed {
     pub done: bool,
     pub length: usize,

@@ -1,4 +1,6 @@
 // Evidence: drawn transfer frames of each channel scrambled, coded and decoded, and the control of each mode, to be held against a second program's.
+#![tactic(auto)]
+
 ghost use Rattle.std.specs.Prelude.{◌≡◌, ◌<◌, length};
 ghost use Rattle.coding.specs.Buffers.{Buffers};
 

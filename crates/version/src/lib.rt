@@ -1,4 +1,6 @@
 // The number of the C library's interface. A crate of its own: nothing else is proved again where the number moves. `include/layer1.h` declares it.
+#![tactic(auto)]
+
 ghost use Rattle.std.specs.Prelude.{◌≡◌};
 ghost use Rattle.version.specs.Version.{version};
 

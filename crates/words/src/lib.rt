@@ -1,4 +1,6 @@
 // The words that the entry points of the C library return. Every place, frame and bit is small enough for its field, by the definitions.
+#![tactic(auto)]
+
 ghost use Rattle.std.specs.Prelude.{cond, ◌≡◌, ◌^◌, ◌<◌, eqb, length};
 ghost use Rattle.runs.specs.Answers.{number_of, place_of};
 ghost use Rattle.queries.specs.Finder.{values};

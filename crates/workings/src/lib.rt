@@ -1,4 +1,6 @@
 // The working of a coded bit: what an examiner shows to a technician who contests an answer.
+#![tactic(auto)]
+
 ghost use Rattle.std.specs.Prelude.{◌≡◌, ℕ, ◌+◌, ◌*◌, ◌/◌, ◌%◌, ◌<◌, ◌≤◌, length, get_or};
 ghost use Rattle.bits.specs.Bits.{bit_at};
 ghost use Rattle.bits.specs.Listed.{listed};
@@ -14,7 +16,7 @@ use pm::Position;
 use runs::{Answer, State};
 
 // The working of a coded bit: the number of the bit of its transfer frame and the generator whose output for it the coded bit is, that bit and the six before it, counted around the frame's end, the bits that the scrambler adds to them, how many of the fourteen are 1 where the generator has a tap, and that number modulo 2, the coded bit; and how the interleaver writes it. Refused, all zeros.
-#[derive(Drop)]
+#[derive(Clone, Copy)]
 pub struct Worked {
     pub answer: Answer,
     pub number: usize,
@@ -118,7 +120,7 @@ pub fn coded_length(rate: Rate, n: usize) -> usize
 }
 
 // An output of the coder: for this bit of the frame, of this generator.
-#[derive(Drop)]
+#[derive(Clone, Copy)]
 struct Output {
     number: usize,
     generator: u8,

@@ -1,4 +1,6 @@
 // The working of a coded bit in all six modes.
+#![tactic(auto)]
+
 ghost use Rattle.std.specs.Prelude.{◌≡◌, ◌<◌, ◌≤◌};
 ghost use Rattle.coding.specs.Rates.{coded_length};
 ghost use Rattle.workings_in.specs.Shown.{bits_in, frames_in, of_three, own_of, rate_in, worked_in, writing_in};

@@ -1,4 +1,6 @@
 // The working of a coded bit as a line of text, put behind what a buffer holds: each function answers where the text ends.
+#![tactic(auto)]
+
 ghost use Rattle.std.specs.Prelude.{◌≡◌, ◌++◌, ◌+◌, ◌≤◌, length};
 ghost use Rattle.text.specs.Letters.{ascii};
 ghost use Rattle.text.specs.Numbers.{decimal};

@@ -1,0 +1,13 @@
+-- `put_written` meets its contract. Assumes nothing.
+use mathlib.Core.Path.{ap, sym}
+use Rattle.text.proofs.Stored.{put-text}
+use Rattle.cause_words.specs.Rows.{rows}
+use Rattle.cause_words.specs.NoSheet.{words_for}
+use Rattle.cause_words.proofs.no_sheet.put_written.Goals as goal
+
+pub returns-in-Number : goal.returns-in-Number
+returns-in-Number c = put-text (sym (ap words_for c.in-Number.is)) c.put_words.ensures
+
+pub returns-in-NotDecimal : goal.returns-in-NotDecimal
+unfolding rows
+returns-in-NotDecimal c = put-text (cc) c.put_row.ensures

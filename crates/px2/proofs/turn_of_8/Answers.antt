@@ -1,0 +1,9 @@
+-- `px2::turn_of_8` meets its contract: the table is v8. Assumes nothing.
+use mathlib.Core.Path.{refl}
+use Rattle.interleaving.specs.PX2.{v8}
+use Rattle.interleaving.proofs.OncePX2.{perm8}
+use Rattle.px2.proofs.turn_of_8.Goals as goal
+
+pub returns : goal.returns
+unfolding v8
+returns c = (refl, perm8.v-lt c.args.p c.requires)

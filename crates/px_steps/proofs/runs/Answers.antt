@@ -1,0 +1,13 @@
+-- `px_steps::runs` meets its contract: the table is the definition's. Assumes nothing.
+use mathlib.Core.Path.{◌≡◌}
+use native.Mathlib.Omega.{arith}
+use Rattle.interleaving.specs.PX.{runs}
+use Rattle.px_steps.proofs.runs.Goals as goal
+
+pub returns-then-kind-eq0 : goal.returns-then-kind-eq0
+unfolding runs
+returns-then-kind-eq0 c = (rw c.if-kind-eq0.true, omega arith, omega arith)
+
+pub returns : goal.returns
+unfolding runs
+returns c = let one : c.args.kind ≡ 1 = omega arith in (rw one, omega arith, omega arith)

@@ -1,0 +1,11 @@
+-- `read_line` meets its contract. The loop's invariant: the buffer holds n bytes. Assumes nothing.
+use mathlib.Core.Path.{◌≡◌}
+use Prim.Native.Nat.{◌≤◌}
+use lib.ListN.{length}
+use Rattle.standard_input.proofs.read_line.Given as goal
+
+abbrev pub invariant-loop-turns : goal.invariant-loop-turns
+invariant-loop-turns l = (l.n ≤ length l.text) × (length l.text ≡ length l.initial.text)
+
+abbrev pub decreases-loop-turns : goal.decreases-loop-turns
+decreases-loop-turns l = l.turns
