@@ -3,23 +3,23 @@
 #![tactic(auto)]
 
 use argument_words::Asked;
-use libc::STDIN_FILENO;
+use programs::Streams;
 
 // Reads the input, all of it that can matter, and writes the sheet.
-fn run(mode: u8, count: u64, without3: bool, without4: bool, work: bool) {
+fn run(rt: &impl Streams, mode: u8, count: u64, without3: bool, without4: bool, work: bool) {
     let mut input = programs::sheet_input();
-    let n = io::read_full(STDIN_FILENO, &mut input);
+    let n = programs::read_full(rt, &mut input);
     let mut out = programs::sheet_text();
     let sheet = sheets::sheet(mode, count, without3, without4, work, &input[..n], &mut out);
     let end = programs::within(sheet.length, &out);
-    messages::tell_sheet(&out[..end]);
+    messages::tell_sheet(rt, &out[..end]);
 }
 
-fn main() {
+fn main(rt: HostRuntime) {
     let line = b"sheet MODE COUNT [without P3|P4|P3 P4] [work]";
     let mut words = io::buffer();
-    let n = programs::read_words(&mut words);
-    if programs::gives_help(line, &words[..n]) {
+    let n = programs::read_words(&rt, &mut words);
+    if programs::gives_help(&rt, line, &words[..n]) {
         return;
     }
     match argument_words::sending(b"work\0", &words[..n]) {
@@ -29,7 +29,7 @@ fn main() {
             without3,
             without4,
             last,
-        } => run(mode, count, without3, without4, last),
-        Asked::Wrong => programs::usage(line),
+        } => run(&rt, mode, count, without3, without4, last),
+        Asked::Wrong => programs::usage(&rt, line),
     }
 }
