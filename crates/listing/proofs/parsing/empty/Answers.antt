@@ -4,12 +4,8 @@ use Rattle.text.specs.Numbers.{digits_alone, value}
 use Rattle.text.specs.Lines.{before, after}
 use Rattle.linewise.specs.Going.{begun, contains}
 use Rattle.listing.specs.Running.{part_of, line_of}
-use Rattle.listing.proofs.parsing.empty.Statement.{statement}
-use Rattle.listing.proofs.parsing.empty.Tie as tie
+use Rattle.listing.proofs.parsing.empty.Goals as goal
 
-returns : tie.Need-returns
+pub returns : goal.returns
 unfolding digits_alone value before after begun contains part_of line_of
 returns c = refl
-
-pub empty-spec : {M : Type 1} → statement M
-empty-spec = tie.close (tie.spec returns)
