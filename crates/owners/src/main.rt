@@ -90,21 +90,19 @@ fn run(rt: &(impl Streams + AllocGlobal), mode: u8) {
     programs::write_out(rt, &out[..end]);
 }
 
-// Answers in a mode that is covered.
+// Answers in a mode that has a finder.
 fn run_in(rt: &(impl Streams + AllocGlobal), mode: u64, line: &[u8]) {
     match mode {
         1 => run(rt, 1),
         2 => run(rt, 2),
         3 => run(rt, 3),
-        5 => run(rt, 5),
-        6 => run(rt, 6),
         11 => run(rt, 11),
         _ => programs::usage(rt, line),
     }
 }
 
 fn main(rt: HostRuntime) {
-    let line = b"owners MODE (1, 2, 3, 5, 6 or 11)";
+    let line = b"owners MODE (1, 2, 3 or 11)";
     let mut words = io::buffer();
     let n = programs::read_words(&rt, &mut words);
     if programs::gives_help(&rt, line, &words[..n]) {

@@ -1,9 +1,19 @@
 // sheet MODE COUNT [without P3|P4|P3 P4] [work]: reads a cell list, an empty line and COUNT L1 frames, each its reserved number and its transfer frames, as `sender` does,
-// and prints the answer sheet, with `work` the working below each answer, or the line that says why there is none, which goes to standard error too, with the cause in words.
+// and prints the answer sheet, with `work` the working below each answer, or the line that says why there is none, which goes to standard error too.
 #![tactic(auto)]
 
 use argument_words::Asked;
 use programs::Streams;
+
+// Writes the sheet, and says why there is none.
+fn tell(rt: &impl Streams, text: &[u8]) {
+    if !programs::write_out(rt, text) {
+        return;
+    }
+    if text.len() > 0 && text[0] == b'N' {
+        programs::say(rt, text);
+    }
+}
 
 // Reads the input, all of it that can matter, and writes the sheet.
 fn run(rt: &impl Streams, mode: u8, count: u64, without3: bool, without4: bool, work: bool) {
@@ -12,7 +22,7 @@ fn run(rt: &impl Streams, mode: u8, count: u64, without3: bool, without4: bool, 
     let mut out = programs::sheet_text();
     let sheet = sheets::sheet(mode, count, without3, without4, work, &input[..n], &mut out);
     let end = programs::within(sheet.length, &out);
-    messages::tell_sheet(rt, &out[..end]);
+    tell(rt, &out[..end]);
 }
 
 fn main(rt: HostRuntime) {
