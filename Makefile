@@ -1,4 +1,4 @@
-# `make` lists what can be made. Times are of a machine with two processors.
+# `make` lists what can be made. Times are of a machine with two processors, and those of proofs of an older kit.
 .PHONY: help sitting sheet sheet-html spectrum page programs library install quick test bench clean
 
 help:
@@ -11,9 +11,9 @@ help:
 	@echo "make library     the C library, target/staticlib/liblayer1.a, for include/layer1.h; about two minutes on built programs"
 	@echo "make install     the front command layer1, the programs, header, archive and a pkg-config file under PREFIX, as make install PREFIX=/usr/local"
 	@echo "make quick       the loop of an edit: layout, names, contracts, proofs of what has changed, stored runs; at most two minutes on a proved tree"
-	@echo "make test        the gate, from nothing: proofs, must-fail edits, programs, the second program, the C library; about an hour"
+	@echo "make test        the gate: proofs and must-fail edits, but for what this machine has proved before, programs, the second program, the C library"
 	@echo "make bench       sender, reader, cells, nearest and restore beside the second program; five minutes"
-	@echo "make clean       removes target/, with all that was proved"
+	@echo "make clean       removes target/ and crates/*/out/, with all that was proved; what rt ci keeps beside the kit stays"
 
 sitting:
 	@mkdir -p target
@@ -57,4 +57,4 @@ bench:
 	bench/run
 
 clean:
-	rm -rf target
+	rm -rf target crates/*/out

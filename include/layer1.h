@@ -1,9 +1,9 @@
 /* The FM Layer 1 bit chain of SY_IDD_1011s revision G, with the house matters of documents 01 and 02, for C.
  *
  * The functions are those of the proved crates `exported_runs` (starts, sending, reading), `exported_places` (the finders in six modes,
- * into which cell a coded bit goes, and its working), `exported_sheets` (the answer sheet), `version` and `exported` (all others): their contracts, in src and specs of
- * these crates, say exactly what each returns and what it leaves in every buffer. Every call returns, and refuses what the documents
- * refuse; none has a condition on numbers, lengths or the bytes themselves.
+ * into which cell a coded bit goes, and its working), `exported_sheets` (the answer sheet), `version` and `exported` (all others), as the
+ * crate `layer1_c` hands them to C: their contracts, in src and specs of these crates, say exactly what each returns and what it leaves in
+ * every buffer. Every call returns, and refuses what the documents refuse; none has a condition on numbers, lengths or the bytes themselves.
  *
  * What the caller must guarantee, since the proofs assume it:
  * - a pointer points to as many readable bytes, or numbers where it is one to float or uint64_t, as the length beside it says, and

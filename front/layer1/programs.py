@@ -59,10 +59,7 @@ def build(name: str) -> None:
         raise Failed(f"this revision has no program {name}")
     sys.stderr.write(f"layer1: the program {name} is not built yet; proving and building it, which is done once\n")
     sys.stderr.flush()
-    log = ROOT / "target" / f"{name}.log"
-    log.parent.mkdir(exist_ok=True)
-    with open(log, "wb") as output:
-        done = subprocess.run([str(ROOT / ".ci" / "follow"), "check", name], stdin=subprocess.DEVNULL, stdout=output)
+    done = subprocess.run([str(ROOT / ".ci" / "programs"), name], stdin=subprocess.DEVNULL, stdout=subprocess.DEVNULL)
     if done.returncode != 0 or not os.access(BUILT / name, os.X_OK):
         raise Failed(f"the program {name} cannot be built; target/{name}.log says why")
 

@@ -215,14 +215,14 @@ class Programs(unittest.TestCase):
 
     def follow(self, *lines: str) -> None:
         """What the project's own progress does."""
-        path = self.root / ".ci" / "follow"
+        path = self.root / ".ci" / "programs"
         path.write_text("#!/bin/sh\n" + "\n".join(lines) + "\n")
         path.chmod(0o755)
 
     def test_built(self) -> None:
         """A program is built once, and that is said."""
         made = f"{self.root}/target/bin"
-        self.follow('[ "$*" = "check new" ] || exit 1', f"mkdir {made} && printf '#!/bin/sh\\necho made\\n' >{made}/new && chmod 755 {made}/new", "echo quiet")
+        self.follow('[ "$*" = "new" ] || exit 1', f"mkdir -p {made} && printf '#!/bin/sh\\necho made\\n' >{made}/new && chmod 755 {made}/new", "echo quiet")
         with mock.patch.object(sys, "stderr", io.StringIO()) as said:
             self.assertEqual(programs.lines_of("new", [], ""), ["made"])
             self.assertEqual(programs.lines_of("new", [], ""), ["made"])

@@ -125,9 +125,9 @@ module _ {R : Type 0} (rs : List R) (odd : length rs % 2 ≡ 1) where
     held-sums e =
         rw em.is
         (each_extended (λ e. SumsOf rs (λ r. memory_of (m r) e) (memory_of (sum_memory rs m) e))
-          (bits-sum rs odd _ (sender_len (kind_of mode P3)) (every-all (λ r. (em.right r).extended P3) rs))
-          (bits-sum rs odd _ (sender_len (kind_of mode P4)) (every-all (λ r. (em.right r).extended P4) rs))
-          e)
+        (bits-sum rs odd _ (sender_len (kind_of mode P3)) (every-all (λ r. (em.right r).extended P3) rs))
+        (bits-sum rs odd _ (sender_len (kind_of mode P4)) (every-all (λ r. (em.right r).extended P4) rs))
+        e)
 
     delay-sums : SumsOf rs (λ r. (m r).delayed) n.delayed
     unfolding sum_memory

@@ -41,14 +41,13 @@ interleave-requires c =
     (c.requires.0.used, omega arith, coded-long c.requires.0 c.encode.new.out (c.encode.auto.out ∙ c.loop-f.invariant.1), c.loop-f.invariant.2 ∙ c.requires.1 ∙ row_is c.requires.0)
 
 pub loop-f-preserved : goal.loop-f-preserved
-loop-f-preserved c =
-    (
-      search rules,
-      search rules,
-      search rules,
-      λ j. omega (arith, c.slice_known-in-loop-f-2-1.given j),
-      one_more c.requires.0 c.loop-f.f (omega arith) _ c.loop-f.coded _ c.loop-f.px2 _ c.loop-f.invariant.1 c.encode.ensures c.loop-f.invariant.4 c.interleave.ensures,
-    )
+loop-f-preserved c = (
+  search rules,
+  search rules,
+  search rules,
+  λ j. omega (arith, c.slice_known-in-loop-f-2-1.given j),
+  one_more c.requires.0 c.loop-f.f (omega arith) _ c.loop-f.coded _ c.loop-f.px2 _ c.loop-f.invariant.1 c.encode.ensures c.loop-f.invariant.4 c.interleave.ensures,
+)
 
 pub returns : goal.returns
 returns c =

@@ -42,9 +42,9 @@ overflow_add-result-then-is_fill c = omega (arith, coded_bytes-le c.args.kind c.
 
 pub returns-then-is_fill : goal.returns-then-is_fill
 returns-then-is_fill c = record {
-      by_index = c.loop-u.invariant.1;
-      upper_bound = (omega arith, λ l. (omega arith, sym c.is_fill.ensures ∙ c.if-is_fill.true));
-    }
+  by_index = c.loop-u.invariant.1;
+  upper_bound = (omega arith, λ l. (omega arith, sym c.is_fill.ensures ∙ c.if-is_fill.true));
+}
 
 pub loop-u-preserved : goal.loop-u-preserved
 loop-u-preserved c = (omega arith, fill_more _ (8 * c.args.j) c.loop-u.u c.loop-u.invariant.1 (sym c.is_fill.ensures ∙ c.if-is_fill.false))
@@ -57,6 +57,6 @@ overflow_add-result-2 c = omega (arith, coded_bytes-le c.args.kind c.requires.0)
 
 pub returns : goal.returns
 returns c = record {
-      by_index = λ i h l. c.loop-u.invariant.1 i h (omega arith);
-      upper_bound = (omega arith, λ l. absurd (omega arith));
-    }
+  by_index = λ i h l. c.loop-u.invariant.1 i h (omega arith);
+  upper_bound = (omega arith, λ l. absurd (omega arith));
+}

@@ -31,16 +31,15 @@ ahead-b-requires c =
     (c.requires.0, omega (arith, c.loop-g-test.true, c.block-size.ensures.0))
 
 pub seen-seen-requires : goal.seen-seen-requires
-seen-seen-requires c =
-    (
-      c.requires.0,
-      omega (arith, c.loop-g-test.true, c.block-size.ensures.0),
-      c.nears-nears.ensures,
-      c.ahead-a.ensures.0,
-      c.ahead-b.ensures.0,
-      c.ahead-a.ensures.1,
-      c.ahead-b.ensures.1,
-    )
+seen-seen-requires c = (
+  c.requires.0,
+  omega (arith, c.loop-g-test.true, c.block-size.ensures.0),
+  c.nears-nears.ensures,
+  c.ahead-a.ensures.0,
+  c.ahead-b.ensures.0,
+  c.ahead-a.ensures.1,
+  c.ahead-b.ensures.1,
+)
 
 pub merge_turns-requires : goal.merge_turns-requires
 merge_turns-requires c =

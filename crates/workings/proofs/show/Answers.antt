@@ -16,14 +16,13 @@ overflow_mul-frame c =
     omega (arith, start_small c.args.frame c.args.n c.requires.3 c.requires.1)
 
 pub seven_bits-bits-requires : goal.seven_bits-bits-requires
-seven_bits-bits-requires c =
-    (
-      c.requires.0,
-      c.requires.1,
-      rw c.output_of-o.ensures.0 (number_lt c.args.rate c.args.n c.args.m c.requires.2 c.requires.5),
-      start_small c.args.frame c.args.n c.requires.3 c.requires.1,
-      c.requires.4,
-    )
+seven_bits-bits-requires c = (
+  c.requires.0,
+  c.requires.1,
+  rw c.output_of-o.ensures.0 (number_lt c.args.rate c.args.n c.args.m c.requires.2 c.requires.5),
+  start_small c.args.frame c.args.n c.requires.3 c.requires.1,
+  c.requires.4,
+)
 
 pub seven_added-scrambling-requires : goal.seven_added-scrambling-requires
 seven_added-scrambling-requires c =
