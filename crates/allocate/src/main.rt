@@ -3,7 +3,7 @@
 
 ghost use Rattle.std.specs.Prelude.{◌≡◌, length};
 
-use libc::{STDERR_FILENO, STDIN_FILENO};
+use programs::Streams;
 
 // Room for the input of at most 16,384 bytes, and one byte to tell a longer one.
 fn input_room() -> [u8; 16385]
@@ -20,23 +20,20 @@ fn output_room() -> [u8; 1048640]
 }
 
 // Answers the lines of standard input.
-fn answer() {
+fn answer(rt: &impl Streams) {
     let mut input = input_room();
-    let n = io::read_full(STDIN_FILENO, &mut input);
+    let n = programs::read_full(rt, &mut input);
     if n > 16384 {
-        io::write_all(
-            STDERR_FILENO,
-            b"refused: the input has more than 16384 bytes\n",
-        );
+        programs::say(rt, b"refused: the input has more than 16384 bytes\n");
         return;
     }
     let mut out = output_room();
     let end = placelines::answer(&input[..n], &mut out);
-    programs::write_out(&out[..end]);
+    programs::write_out(rt, &out[..end]);
 }
 
-fn main() {
-    if programs::is_plain(b"allocate <LINES") {
-        answer();
+fn main(rt: HostRuntime) {
+    if programs::is_plain(&rt, b"allocate <LINES") {
+        answer(&rt);
     }
 }

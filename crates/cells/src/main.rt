@@ -3,8 +3,8 @@
 
 ghost use Rattle.std.specs.Prelude.{◌≡◌, ◌+◌, ◌^◌, ◌≤◌, ◌<◌, length};
 
-use libc::STDIN_FILENO;
 use listing::Progress;
+use programs::Streams;
 
 // Where the input's lines have been listed to, whether there may be more, and whether all went out.
 #[derive(Clone, Copy)]
@@ -22,19 +22,15 @@ fn room() -> [u8; 376832]
 }
 
 // Reads a block of the input, and writes what is printed for the lines that end in it.
-fn list_block(at: Progress, out: &mut [u8]) -> Turn
+fn list_block(rt: &(impl Streams + AllocGlobal), at: Progress, out: &mut [u8]) -> Turn
     requires { (length out.old ≡ 376832) × (at.number + 4096 < 2 ^ 64) }
     ensures { (length out.new ≡ 376832) × (result.at.number ≤ at.number + 4096) }
 {
     let mut block = io::buffer();
-    let got = libc::read(STDIN_FILENO, &mut block);
-    if got < 0 {
-        os::fail(b"read");
-    }
-    let n = io::count(got, &block);
+    let n = programs::read_some(rt, &mut block);
     let next = listing::list(at, &block[..n], out);
     let end = next.end;
-    let written = programs::write_out(&out[..end]);
+    let written = programs::write_out(rt, &out[..end]);
     if n == 0 {
         return Turn {
             at: next,
@@ -50,7 +46,7 @@ fn list_block(at: Progress, out: &mut [u8]) -> Turn
 }
 
 // Lists the input from block to block. A proved loop has to end, so it counts its turns down, from a number that no run uses up.
-fn list_all(at: Progress, out: &mut [u8]) -> Turn
+fn list_all(rt: &(impl Streams + AllocGlobal), at: Progress, out: &mut [u8]) -> Turn
     requires { (length out.old ≡ 376832) × (at.number ≡ 1) }
     ensures { length out.new ≡ 376832 }
 {
@@ -63,7 +59,7 @@ fn list_all(at: Progress, out: &mut [u8]) -> Turn
             return Turn { at, more, good };
         }
         turns -= 1;
-        let t = list_block(at, out);
+        let t = list_block(rt, at, out);
         at = t.at;
         more = t.more;
         good = t.good;
@@ -72,24 +68,24 @@ fn list_all(at: Progress, out: &mut [u8]) -> Turn
 }
 
 // Lists standard input.
-fn list() {
+fn list(rt: &(impl Streams + AllocGlobal)) {
     let mut out = room();
     let at = listing::start(&mut out);
     let end = at.end;
-    if !programs::write_out(&out[..end]) {
+    if !programs::write_out(rt, &out[..end]) {
         return;
     }
-    let last = list_all(at, &mut out);
+    let last = list_all(rt, at, &mut out);
     if !last.good {
         return;
     }
     let reached = last.at;
     let end = listing::finish(reached, &mut out);
-    programs::write_out(&out[..end]);
+    programs::write_out(rt, &out[..end]);
 }
 
-fn main() {
-    if programs::is_plain(b"cells <LIST") {
-        list();
+fn main(rt: HostRuntime) {
+    if programs::is_plain(&rt, b"cells <LIST") {
+        list(&rt);
     }
 }

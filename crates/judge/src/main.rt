@@ -5,10 +5,11 @@
 ghost use Rattle.std.specs.Prelude.{◌≤◌, length};
 ghost use Rattle.io.specs.Counts.{IsPrefixLen};
 
-use libc::STDIN_FILENO;
+use programs::Streams;
 
 // Judges the L1 frames as they come, in a buffer as long as one, and puts the line.
 fn judge_frames(
+    rt: &impl Streams,
     mode: u8,
     count: usize,
     frame: &mut [u8],
@@ -24,7 +25,7 @@ fn judge_frames(
     let mut state = begun.state;
     let mut t: usize = 0;
     while t < count {
-        let n = io::read_full(STDIN_FILENO, frame);
+        let n = programs::read_full(rt, frame);
         let judged = judge_step::judge_bytes(
             mode,
             t,
@@ -42,11 +43,11 @@ fn judge_frames(
         state = judged.state;
         t += 1;
     }
-    judge_step::put_last(standard_input::is_more(), count, line)
+    judge_step::put_last(standard_input::is_more(rt), count, line)
 }
 
 // The buffers of a run, each of its length in this mode.
-fn judge_rest(mode: u8, count: usize, line: &mut [u8]) -> usize
+fn judge_rest(rt: &impl Streams, mode: u8, count: usize, line: &mut [u8]) -> usize
     requires { 251 ≤ length line.old }
     ensures { IsPrefixLen result line.new }
 {
@@ -60,6 +61,7 @@ fn judge_rest(mode: u8, count: usize, line: &mut [u8]) -> usize
     let b = programs::within(want[10], &memory4);
     let c = programs::within(want[11], &delay);
     judge_frames(
+        rt,
         mode,
         count,
         &mut frame[..n],
@@ -71,24 +73,24 @@ fn judge_rest(mode: u8, count: usize, line: &mut [u8]) -> usize
 }
 
 // Judges the dump on standard input, and puts the line.
-fn judge(line: &mut [u8]) -> usize
+fn judge(rt: &impl Streams, line: &mut [u8]) -> usize
     requires { 251 ≤ length line.old }
     ensures { IsPrefixLen result line.new }
 {
     let mut head = [0u8; 8];
-    let n = io::read_full(STDIN_FILENO, &mut head);
+    let n = programs::read_full(rt, &mut head);
     let answer = layout::head_answer(&head[..n]);
     if causes::number(answer) != 0 {
         return judge_step::put_line(dumps::judged_as(answer, 0), line);
     }
-    judge_rest(head[5], layout::word_at(&head, 6), line)
+    judge_rest(rt, head[5], layout::word_at(&head, 6), line)
 }
 
-fn main() {
-    if !programs::is_plain(b"judge <DUMP") {
+fn main(rt: HostRuntime) {
+    if !programs::is_plain(&rt, b"judge <DUMP") {
         return;
     }
     let mut line = [0u8; 251];
-    let n = judge(&mut line);
-    messages::tell(&line[..n]);
+    let n = judge(&rt, &mut line);
+    messages::tell(&rt, &line[..n]);
 }

@@ -3,35 +3,35 @@
 #![tactic(auto)]
 
 use argument_words::Summed;
-use libc::{STDERR_FILENO, STDIN_FILENO};
+use programs::Streams;
 
 // Reads the input of L1 frame `frame` of a run and adds it. Answers whether it was taken; if not, it says why.
-fn take(run: u64, frame: u64, sum: &mut [u8], more: &mut [u8]) -> bool {
+fn take(rt: &impl Streams, run: u64, frame: u64, sum: &mut [u8], more: &mut [u8]) -> bool {
     let mut line = [0u8; 93];
-    let n = io::read_full(STDIN_FILENO, more);
+    let n = programs::read_full(rt, more);
     let added = keys_step::add_input(run, frame, &more[..n], sum, &mut line);
     let length = added.length;
-    io::write_all(STDERR_FILENO, &line[..length]);
+    programs::say(rt, &line[..length]);
     added.good
 }
 
 // Sums an L1 frame of n runs and writes it. Answers whether to go on.
-fn turn(n: u64, frame: u64, sum: &mut [u8], more: &mut [u8]) -> bool {
+fn turn(rt: &impl Streams, n: u64, frame: u64, sum: &mut [u8], more: &mut [u8]) -> bool {
     let mut run: u64 = 0;
     while run < n {
-        if !take(run, frame, sum, more) {
+        if !take(rt, run, frame, sum, more) {
             return false;
         }
         run += 1;
     }
-    programs::write_out(sum)
+    programs::write_out(rt, sum)
 }
 
 // Sums L1 frames till one is refused, and answers whether `count` are written.
-fn sum_all(n: u64, count: u64, sum: &mut [u8], more: &mut [u8]) -> bool {
+fn sum_all(rt: &impl Streams, n: u64, count: u64, sum: &mut [u8], more: &mut [u8]) -> bool {
     let mut frame: u64 = 0;
     while frame < count {
-        if !turn(n, frame, sum, more) {
+        if !turn(rt, n, frame, sum, more) {
             return false;
         }
         frame += 1;
@@ -40,19 +40,19 @@ fn sum_all(n: u64, count: u64, sum: &mut [u8], more: &mut [u8]) -> bool {
 }
 
 // Whether a mode is covered: a start in it tells. One that is not is refused before anything is read.
-fn covers(mode: u8) -> bool {
+fn covers(rt: &impl Streams, mode: u8) -> bool {
     let started = calls::start_sender(mode, &mut [0u8; 0], &mut [0u8; 0], &mut [0u8; 0]);
     let answer = started.answer;
     if causes::number(answer) == 1 {
-        messages::refuse(1, 0, 0);
+        messages::refuse(rt, 1, 0, 0);
         return false;
     }
     true
 }
 
 // The buffers of an L1 frame, of its length in this mode.
-fn run(mode: u8, count: u64, n: u64) {
-    if !covers(mode) {
+fn run(rt: &impl Streams, mode: u8, count: u64, n: u64) {
+    if !covers(rt, mode) {
         return;
     }
     let want = modes::sender_lengths(mode);
@@ -61,20 +61,20 @@ fn run(mode: u8, count: u64, n: u64) {
     let mut more = [0u8; 27649];
     let a = programs::within(wanted, &sum);
     let b = programs::within(wanted, &more);
-    let good = sum_all(n, count, &mut sum[..a], &mut more[..b]);
-    messages::check_end(good, count);
+    let good = sum_all(rt, n, count, &mut sum[..a], &mut more[..b]);
+    messages::check_end(rt, good, count);
 }
 
-fn main() {
+fn main(rt: HostRuntime) {
     let line =
         b"keys MODE COUNT N, N odd: the scrambling sequence and the fixed bits of the control stand in every run, and cancel in an even number of them";
     let mut words = io::buffer();
-    let n = programs::read_words(&mut words);
-    if programs::gives_help(line, &words[..n]) {
+    let n = programs::read_words(&rt, &mut words);
+    if programs::gives_help(&rt, line, &words[..n]) {
         return;
     }
     match argument_words::summing(&words[..n]) {
-        Summed::Run { mode, count, runs } => run(mode, count, runs),
-        Summed::Wrong => programs::usage(line),
+        Summed::Run { mode, count, runs } => run(&rt, mode, count, runs),
+        Summed::Wrong => programs::usage(&rt, line),
     }
 }

@@ -6,8 +6,7 @@ ghost use Rattle.io.specs.Counts.{IsPrefixLen};
 ghost use Rattle.text.specs.Put.{Put};
 ghost use Rattle.messages.specs.Lines.{goes_on, in_words, no_sheet, refusal};
 
-use libc::STDERR_FILENO;
-use programs::write_out;
+use programs::{Streams, say, write_out};
 use text::{field, put};
 
 // Puts the line of a refused call: the answer's number and place, and the L1 frame, numbered from 0.
@@ -33,11 +32,11 @@ pub fn put_in_words(out: &mut [u8], number: u8, place: usize, frame: u64) -> usi
 }
 
 // Prints the first line of a text, and says the rest on standard error.
-pub fn tell(lines: &[u8]) {
+pub fn tell(rt: &impl Streams, lines: &[u8]) {
     let end = text::end_of(lines, 0, b'\n');
     let n = programs::within(end + 1, lines);
-    if write_out(&lines[..n]) {
-        io::write_all(STDERR_FILENO, &lines[n..]);
+    if write_out(rt, &lines[..n]) {
+        say(rt, &lines[n..]);
     }
 }
 
@@ -55,19 +54,19 @@ pub fn put_no_sheet(sheet: &[u8], out: &mut [u8]) -> usize
 }
 
 // Prints the text of a sheet, and says why there is none.
-pub fn tell_sheet(sheet: &[u8]) {
+pub fn tell_sheet(rt: &impl Streams, sheet: &[u8]) {
     let mut lines = [0u8; 251];
     let n = put_no_sheet(sheet, &mut lines);
-    if write_out(sheet) {
-        io::write_all(STDERR_FILENO, &lines[..n]);
+    if write_out(rt, sheet) {
+        say(rt, &lines[..n]);
     }
 }
 
 // Says with which answer an L1 frame was refused.
-pub fn refuse(number: u8, place: usize, frame: u64) {
+pub fn refuse(rt: &impl Streams, number: u8, place: usize, frame: u64) {
     let mut lines = [0u8; 251];
     let n = put_in_words(&mut lines, number, place, frame);
-    io::write_all(STDERR_FILENO, &lines[..n]);
+    say(rt, &lines[..n]);
 }
 
 // Puts the line for an input that goes on behind its last L1 frame, where L1 frame `frame` would stand.
@@ -80,22 +79,22 @@ pub fn put_goes_on(out: &mut [u8], frame: u64) -> usize
 }
 
 // Writes the bytes of a step: to standard output where it was done, to standard error where it was refused. Answers whether the run goes on.
-pub fn write_step(done: bool, bytes: &[u8]) -> bool {
+pub fn write_step(rt: &impl Streams, done: bool, bytes: &[u8]) -> bool {
     if done {
-        return write_out(bytes);
+        return write_out(rt, bytes);
     }
-    io::write_all(STDERR_FILENO, bytes);
+    say(rt, bytes);
     false
 }
 
 // Says so where the input of a run that is whole goes on behind its last L1 frame.
-pub fn check_end(whole: bool, count: u64) {
+pub fn check_end(rt: &impl Streams, whole: bool, count: u64) {
     if !whole {
         return;
     }
-    if standard_input::is_more() {
+    if standard_input::is_more(rt) {
         let mut line = [0u8; 53];
         let n = put_goes_on(&mut line, count);
-        io::write_all(STDERR_FILENO, &line[..n]);
+        say(rt, &line[..n]);
     }
 }

@@ -2,25 +2,26 @@
 #![tactic(auto)]
 
 use operands::Operand;
+use programs::Streams;
 
 // Reads a line and writes what is printed for it. Answers whether to go on.
-fn turn(budget: usize, number: u64) -> bool {
+fn turn(rt: &impl Streams, budget: usize, number: u64) -> bool {
     let mut text = [0u8; 201];
-    let line = standard_input::read_line(&mut text);
+    let line = standard_input::read_line(rt, &mut text);
     if !line.came {
         return false;
     }
     let n = line.length;
     let mut out = [0u8; 92];
     let end = celltext::print_nearest(budget, number, &text[..n], &mut out);
-    programs::write_out(&out[..end])
+    programs::write_out(rt, &out[..end])
 }
 
 // Goes through the lines, numbered from 1. A proved loop has to end, so it counts to a number that no run reaches.
-fn answer_all(budget: usize) {
+fn answer_all(rt: &impl Streams, budget: usize) {
     let mut number: u64 = 1;
     while number < 281474976710656 {
-        if !turn(budget, number) {
+        if !turn(rt, budget, number) {
             return;
         }
         number += 1;
@@ -28,28 +29,28 @@ fn answer_all(budget: usize) {
 }
 
 // A budget that is refused is refused before anything is read: a search of unread cells tells.
-fn run(budget: usize) {
+fn run(rt: &impl Streams, budget: usize) {
     let cells = [2u8; 200];
     let mut frame = [0u8; 10];
     let tried = decoding::nearest(&cells, &mut frame, budget);
     let answer = tried.answer;
     let number = causes::number(answer);
     if number != 0 {
-        messages::refuse(number, causes::place(answer), 0);
+        messages::refuse(rt, number, causes::place(answer), 0);
         return;
     }
-    answer_all(budget);
+    answer_all(rt, budget);
 }
 
-fn main() {
+fn main(rt: HostRuntime) {
     let line = b"nearest BUDGET";
     let mut words = io::buffer();
-    let n = programs::read_words(&mut words);
-    if programs::gives_help(line, &words[..n]) {
+    let n = programs::read_words(&rt, &mut words);
+    if programs::gives_help(&rt, line, &words[..n]) {
         return;
     }
     match argument_words::number(&words[..n]) {
-        Operand::Number(budget) => run(budget as usize),
-        Operand::NotDecimal => programs::usage(line),
+        Operand::Number(budget) => run(&rt, budget as usize),
+        Operand::NotDecimal => programs::usage(&rt, line),
     }
 }

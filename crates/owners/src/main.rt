@@ -3,9 +3,9 @@
 
 ghost use Rattle.std.specs.Prelude.{◌≡◌, ◌+◌, ◌^◌, ◌≤◌, ◌<◌, length};
 
-use libc::STDIN_FILENO;
 use operands::Operand;
 use ownerlines::Progress;
+use programs::Streams;
 
 // Where the input's lines have been answered to, and whether there may be more.
 #[derive(Clone, Copy)]
@@ -29,19 +29,21 @@ fn room() -> [u8; 819200]
 }
 
 // Reads a block of the input, and writes what is printed for the lines that end in it. Where it cannot be written, nothing more is answered.
-fn answer_block(mode: u8, at: Progress, line: &mut [u8], out: &mut [u8]) -> Turn
+fn answer_block(
+    rt: &(impl Streams + AllocGlobal),
+    mode: u8,
+    at: Progress,
+    line: &mut [u8],
+    out: &mut [u8],
+) -> Turn
     requires { (at.held ≤ 4096) × (length line.old ≡ 4096) × (length out.old ≡ 819200) × (at.number + 4096 < 2 ^ 64) }
     ensures { (result.at.held ≤ 4096) × (length line.new ≡ 4096) × (length out.new ≡ 819200) × (result.at.number ≤ at.number + 4096) }
 {
     let mut block = io::buffer();
-    let got = libc::read(STDIN_FILENO, &mut block);
-    if got < 0 {
-        os::fail(b"read");
-    }
-    let n = io::count(got, &block);
+    let n = programs::read_some(rt, &mut block);
     let next = ownerlines::answer(mode, at, &block[..n], line, out);
     let end = next.end;
-    if !programs::write_out(&out[..end]) {
+    if !programs::write_out(rt, &out[..end]) {
         return Turn {
             at: ownerlines::start(),
             more: false,
@@ -54,7 +56,13 @@ fn answer_block(mode: u8, at: Progress, line: &mut [u8], out: &mut [u8]) -> Turn
 }
 
 // Answers the input from block to block. A proved loop has to end, so it counts its turns down, from a number that no run uses up.
-fn answer_all(mode: u8, at: Progress, line: &mut [u8], out: &mut [u8]) -> Progress
+fn answer_all(
+    rt: &(impl Streams + AllocGlobal),
+    mode: u8,
+    at: Progress,
+    line: &mut [u8],
+    out: &mut [u8],
+) -> Progress
     requires { (at.held ≤ 4096) × (length line.old ≡ 4096) × (length out.old ≡ 819200) × (at.number ≡ 1) }
     ensures { (result.held ≤ 4096) × (length line.new ≡ 4096) × (length out.new ≡ 819200) }
 {
@@ -66,7 +74,7 @@ fn answer_all(mode: u8, at: Progress, line: &mut [u8], out: &mut [u8]) -> Progre
             return at;
         }
         turns -= 1;
-        let t = answer_block(mode, at, line, out);
+        let t = answer_block(rt, mode, at, line, out);
         at = t.at;
         more = t.more;
     }
@@ -74,34 +82,34 @@ fn answer_all(mode: u8, at: Progress, line: &mut [u8], out: &mut [u8]) -> Progre
 }
 
 // Answers all of standard input.
-fn run(mode: u8) {
+fn run(rt: &(impl Streams + AllocGlobal), mode: u8) {
     let mut line = line_room();
     let mut out = room();
-    let last = answer_all(mode, ownerlines::start(), &mut line, &mut out);
+    let last = answer_all(rt, mode, ownerlines::start(), &mut line, &mut out);
     let end = ownerlines::finish(mode, last, &line, &mut out);
-    programs::write_out(&out[..end]);
+    programs::write_out(rt, &out[..end]);
 }
 
 // Answers in a mode that has a finder.
-fn run_in(mode: u64, line: &[u8]) {
+fn run_in(rt: &(impl Streams + AllocGlobal), mode: u64, line: &[u8]) {
     match mode {
-        1 => run(1),
-        2 => run(2),
-        3 => run(3),
-        11 => run(11),
-        _ => programs::usage(line),
+        1 => run(rt, 1),
+        2 => run(rt, 2),
+        3 => run(rt, 3),
+        11 => run(rt, 11),
+        _ => programs::usage(rt, line),
     }
 }
 
-fn main() {
+fn main(rt: HostRuntime) {
     let line = b"owners MODE (1, 2, 3 or 11)";
     let mut words = io::buffer();
-    let n = programs::read_words(&mut words);
-    if programs::gives_help(line, &words[..n]) {
+    let n = programs::read_words(&rt, &mut words);
+    if programs::gives_help(&rt, line, &words[..n]) {
         return;
     }
     match argument_words::number(&words[..n]) {
-        Operand::Number(mode) => run_in(mode, line),
-        Operand::NotDecimal => programs::usage(line),
+        Operand::Number(mode) => run_in(&rt, mode, line),
+        Operand::NotDecimal => programs::usage(&rt, line),
     }
 }

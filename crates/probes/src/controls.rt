@@ -1,6 +1,7 @@
 // The control sequences that a sending writes.
 use crate::found::lookups;
 use crate::lines::{given, small, text};
+use programs::Streams;
 use runs::State;
 
 // Whether row 31, the last eight bytes, of each control block is zero.
@@ -18,7 +19,7 @@ fn is_row_31_zero(control: &[u8]) -> bool {
 }
 
 // Sends the first L1 frame of a mode, of this number and of zeros, and leaves its control blocks.
-fn send(mode: u8, reserved: u8, control: &mut [u8; 4096]) {
+fn send(rt: &impl Streams, mode: u8, reserved: u8, control: &mut [u8; 4096]) {
     let want = layer1::sender_lengths(mode);
     let mut input = [0u8; 27649];
     input[0] = reserved;
@@ -40,54 +41,57 @@ fn send(mode: u8, reserved: u8, control: &mut [u8; 4096]) {
         age: 0,
         reserved: 0,
     };
-    given(run_input::send_input(
-        state,
-        want[3],
-        want[4],
-        &input[..a],
-        &mut pm,
-        &mut px1[..c],
-        &mut px2[..d],
-        control,
-        &mut s3[..e],
-        &mut s4[..f],
-        &mut delay[..g],
-    ));
+    given(
+        rt,
+        run_input::send_input(
+            state,
+            want[3],
+            want[4],
+            &input[..a],
+            &mut pm,
+            &mut px1[..c],
+            &mut px2[..d],
+            control,
+            &mut s3[..e],
+            &mut s4[..f],
+            &mut delay[..g],
+        ),
+    );
 }
 
 // Row 31 of the control blocks of a mode and a number.
-fn row_31(mode: u8, reserved: u8, control: &mut [u8; 4096]) {
-    text(b"control of mode ");
-    small(mode);
-    text(b" number ");
-    small(reserved);
-    send(mode, reserved, control);
+fn row_31(rt: &impl Streams, mode: u8, reserved: u8, control: &mut [u8; 4096]) {
+    text(rt, b"control of mode ");
+    small(rt, mode);
+    text(rt, b" number ");
+    small(rt, reserved);
+    send(rt, mode, reserved, control);
     if is_row_31_zero(control) {
-        text(b", row 31 zero\n");
+        text(rt, b", row 31 zero\n");
         return;
     }
-    text(b", row 31 not zero\n");
+    text(rt, b", row 31 not zero\n");
 }
 
 // A number that is too high (document 02, S-2).
-fn too_high(reserved: u8) {
+fn too_high(rt: &impl Streams, reserved: u8) {
     let mut control = [1u8; 4096];
-    text(b"send in mode 1 number ");
-    small(reserved);
-    send(1, reserved, &mut control);
-    text(b"\n");
+    text(rt, b"send in mode 1 number ");
+    small(rt, reserved);
+    send(rt, 1, reserved, &mut control);
+    text(rt, b"\n");
 }
 
-pub fn controls() {
+pub fn controls(rt: &impl Streams) {
     let mut control = [1u8; 4096];
-    row_31(1, 0, &mut control);
-    row_31(2, 0, &mut control);
-    row_31(3, 0, &mut control);
-    row_31(5, 0, &mut control);
-    row_31(6, 0, &mut control);
-    row_31(11, 0, &mut control);
-    too_high(8);
-    too_high(255);
-    row_31(11, 6, &mut control);
-    lookups(&mut control);
+    row_31(rt, 1, 0, &mut control);
+    row_31(rt, 2, 0, &mut control);
+    row_31(rt, 3, 0, &mut control);
+    row_31(rt, 5, 0, &mut control);
+    row_31(rt, 6, 0, &mut control);
+    row_31(rt, 11, 0, &mut control);
+    too_high(rt, 8);
+    too_high(rt, 255);
+    row_31(rt, 11, 6, &mut control);
+    lookups(rt, &mut control);
 }

@@ -7,10 +7,10 @@ mod lent;
 mod lines;
 mod starts;
 
-fn main() {
-    controls::controls();
-    found::cells();
-    found::pm_rows();
-    found::px_rows();
-    starts::starts();
+fn main(rt: HostRuntime) {
+    controls::controls(&rt);
+    found::cells(&rt);
+    found::pm_rows(&rt);
+    found::px_rows(&rt);
+    starts::starts(&rt);
 }

@@ -1,8 +1,6 @@
-// Buffers of a mode's lengths, and what goes out of them.
+// Buffers of a mode's lengths, and of a sheet's.
 ghost use Rattle.std.specs.Prelude.{◌≡◌, min, length};
 ghost use Rattle.io.specs.Counts.{IsPrefixLen};
-
-use libc::{STDERR_FILENO, STDOUT_FILENO};
 
 // A mode's length of a buffer that is as long as any mode asks; the buffer's own length bounds it, so that a part of that length can be lent.
 pub fn within(wanted: usize, buffer: &[u8]) -> usize
@@ -28,16 +26,4 @@ pub fn sheet_text() -> [u8; 1200000]
     ensures { 1200000 ≡ length result }
 {
     [0; 1200000]
-}
-
-// Writes to standard output, says so where the system does not take it, and answers whether it went out.
-pub fn write_out(bytes: &[u8]) -> bool {
-    if io::write_all(STDOUT_FILENO, bytes) {
-        return true;
-    }
-    io::write_all(
-        STDERR_FILENO,
-        b"not written: standard output takes no more\n",
-    );
-    false
 }

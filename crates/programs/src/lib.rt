@@ -3,6 +3,8 @@
 
 mod buffers;
 mod command_line;
+mod streams;
 
-pub use buffers::{sheet_input, sheet_text, within, write_out};
+pub use buffers::{sheet_input, sheet_text, within};
 pub use command_line::{gives_help, is_plain, read_words, usage};
+pub use streams::{Streams, read_full, read_some, say, write_out};

@@ -4,7 +4,7 @@
 #![tactic(auto)]
 
 use argument_words::Asked;
-use libc::STDIN_FILENO;
+use programs::Streams;
 use runs::State;
 
 // The state after an L1 frame, and whether to go on.
@@ -24,6 +24,7 @@ fn goes_on(done: bool, good: bool, on: bool, whole: bool) -> bool {
 
 // Takes L1 frame `frame` from the input, reads it and writes what it returns.
 fn turn(
+    rt: &impl Streams,
     on: bool,
     state: State,
     frame: u64,
@@ -33,7 +34,7 @@ fn turn(
     delay: &mut [u8],
 ) -> Turned {
     let mut out = [0u8; 41313];
-    let n = io::read_full(STDIN_FILENO, input);
+    let n = programs::read_full(rt, input);
     let whole = n == input.len();
     let step = reader_step::read_bytes(
         state,
@@ -47,7 +48,7 @@ fn turn(
     let next = step.state;
     let done = step.done;
     let length = step.length;
-    let good = messages::write_step(done, &out[..length]);
+    let good = messages::write_step(rt, done, &out[..length]);
     Turned {
         state: next,
         go_on: goes_on(done, good, on, whole),
@@ -56,6 +57,7 @@ fn turn(
 
 // Reads L1 frames till the run ends or `count` are read.
 fn read_all(
+    rt: &impl Streams,
     start: State,
     count: u64,
     on: bool,
@@ -67,7 +69,7 @@ fn read_all(
     let mut state = start;
     let mut frame: u64 = 0;
     while frame < count {
-        let turned = turn(on, state, frame, input, memory3, memory4, delay);
+        let turned = turn(rt, on, state, frame, input, memory3, memory4, delay);
         if !turned.go_on {
             return;
         }
@@ -78,6 +80,7 @@ fn read_all(
 
 // Starts a reader, and reads.
 fn begin(
+    rt: &impl Streams,
     mode: u8,
     count: u64,
     on: bool,
@@ -91,14 +94,14 @@ fn begin(
     let state = started.state;
     let number = causes::number(answer);
     if number != 0 {
-        messages::refuse(number, causes::place(answer), 0);
+        messages::refuse(rt, number, causes::place(answer), 0);
         return;
     }
-    read_all(state, count, on, input, memory3, memory4, delay);
+    read_all(rt, state, count, on, input, memory3, memory4, delay);
 }
 
 // The buffers of a run, each of its length in this mode.
-fn run(mode: u8, count: u64, on: bool) {
+fn run(rt: &impl Streams, mode: u8, count: u64, on: bool) {
     let want = modes::reader_lengths(mode);
     let mut input = [0u8; 68608];
     let mut memory3 = [0u8; 27648];
@@ -109,6 +112,7 @@ fn run(mode: u8, count: u64, on: bool) {
     let c = programs::within(want[10], &memory4);
     let d = programs::within(want[11], &delay);
     begin(
+        rt,
         mode,
         count,
         on,
@@ -119,11 +123,11 @@ fn run(mode: u8, count: u64, on: bool) {
     );
 }
 
-fn main() {
+fn main(rt: HostRuntime) {
     let line = b"reader MODE COUNT [on]";
     let mut words = [0u8; 1024];
-    let n = programs::read_words(&mut words);
-    if programs::gives_help(line, &words[..n]) {
+    let n = programs::read_words(&rt, &mut words);
+    if programs::gives_help(&rt, line, &words[..n]) {
         return;
     }
     match argument_words::reading(b"on\0", &words[..n]) {
@@ -132,7 +136,7 @@ fn main() {
             count,
             last,
             ..
-        } => run(mode, count, last),
-        Asked::Wrong => programs::usage(line),
+        } => run(&rt, mode, count, last),
+        Asked::Wrong => programs::usage(&rt, line),
     }
 }

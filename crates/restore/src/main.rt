@@ -1,32 +1,34 @@
 // restore: reads lines of 200 cells, and prints for each the PIDS frame that fits them in hexadecimal, where exactly one does (document 02, S-11).
 #![tactic(auto)]
 
+use programs::Streams;
+
 // Reads a line and writes what is printed for it. Answers whether to go on.
-fn turn(number: u64) -> bool {
+fn turn(rt: &impl Streams, number: u64) -> bool {
     let mut text = [0u8; 201];
-    let line = standard_input::read_line(&mut text);
+    let line = standard_input::read_line(rt, &mut text);
     if !line.came {
         return false;
     }
     let n = line.length;
     let mut out = [0u8; 92];
     let end = celltext::print_restored(number, &text[..n], &mut out);
-    programs::write_out(&out[..end])
+    programs::write_out(rt, &out[..end])
 }
 
 // Goes through the lines, numbered from 1. A proved loop has to end, so it counts to a number that no run reaches.
-fn answer_all() {
+fn answer_all(rt: &impl Streams) {
     let mut number: u64 = 1;
     while number < 281474976710656 {
-        if !turn(number) {
+        if !turn(rt, number) {
             return;
         }
         number += 1;
     }
 }
 
-fn main() {
-    if programs::is_plain(b"restore <CELLS") {
-        answer_all();
+fn main(rt: HostRuntime) {
+    if programs::is_plain(&rt, b"restore <CELLS") {
+        answer_all(&rt);
     }
 }

@@ -4,7 +4,7 @@
 
 use argument_words::Asked;
 use arguments::Sending;
-use libc::STDIN_FILENO;
+use programs::Streams;
 use runs::State;
 
 // The state after an L1 frame, and whether it went out.
@@ -16,6 +16,7 @@ struct Turned {
 
 // Reads L1 frame `frame`, sends it and writes it.
 fn turn(
+    rt: &impl Streams,
     state: State,
     frame: u64,
     n3: usize,
@@ -26,7 +27,7 @@ fn turn(
     delay: &mut [u8],
 ) -> Turned {
     let mut out = [0u8; 77824];
-    let n = io::read_full(STDIN_FILENO, input);
+    let n = programs::read_full(rt, input);
     let step = sender_step::send_bytes(
         state,
         n3,
@@ -40,12 +41,13 @@ fn turn(
     );
     let next = step.state;
     let length = step.length;
-    let good = messages::write_step(step.done, &out[..length]);
+    let good = messages::write_step(rt, step.done, &out[..length]);
     Turned { state: next, good }
 }
 
 // Sends L1 frames till one is refused, and answers whether `count` are sent.
 fn send_all(
+    rt: &impl Streams,
     start: State,
     count: u64,
     n3: usize,
@@ -58,7 +60,7 @@ fn send_all(
     let mut state = start;
     let mut frame: u64 = 0;
     while frame < count {
-        let turned = turn(state, frame, n3, n4, input, memory3, memory4, delay);
+        let turned = turn(rt, state, frame, n3, n4, input, memory3, memory4, delay);
         if !turned.good {
             return false;
         }
@@ -69,18 +71,19 @@ fn send_all(
 }
 
 // Writes the header of a dump where one is wanted, and answers whether it went out. A count above 65,535 has none.
-fn write_header(mode: u8, count: u64, dump: bool) -> bool {
+fn write_header(rt: &impl Streams, mode: u8, count: u64, dump: bool) -> bool {
     if !dump {
         return true;
     }
     if count > 65535 {
         return false;
     }
-    programs::write_out(&layout::header_of(mode, count as usize))
+    programs::write_out(rt, &layout::header_of(mode, count as usize))
 }
 
 // Starts a sender, and sends. Answers whether `count` L1 frames are sent.
 fn begin(
+    rt: &impl Streams,
     mode: u8,
     count: u64,
     dump: bool,
@@ -96,17 +99,17 @@ fn begin(
     let state = started.state;
     let number = causes::number(answer);
     if number != 0 {
-        messages::refuse(number, causes::place(answer), 0);
+        messages::refuse(rt, number, causes::place(answer), 0);
         return false;
     }
-    if !write_header(mode, count, dump) {
+    if !write_header(rt, mode, count, dump) {
         return false;
     }
-    send_all(state, count, n3, n4, input, memory3, memory4, delay)
+    send_all(rt, state, count, n3, n4, input, memory3, memory4, delay)
 }
 
 // The buffers of a run, each of its length in this mode.
-fn run(mode: u8, count: u64, dump: bool, n3: usize, n4: usize) {
+fn run(rt: &impl Streams, mode: u8, count: u64, dump: bool, n3: usize, n4: usize) {
     let want = modes::sender_lengths(mode);
     let mut input = [0u8; 27649];
     let mut memory3 = [0u8; 18432];
@@ -117,6 +120,7 @@ fn run(mode: u8, count: u64, dump: bool, n3: usize, n4: usize) {
     let c = programs::within(want[10], &memory4);
     let d = programs::within(want[11], &delay);
     let good = begin(
+        rt,
         mode,
         count,
         dump,
@@ -127,36 +131,52 @@ fn run(mode: u8, count: u64, dump: bool, n3: usize, n4: usize) {
         &mut memory4[..c],
         &mut delay[..d],
     );
-    messages::check_end(good, count);
+    messages::check_end(rt, good, count);
 }
 
 // A run whose L1 frames a dump can hold, where one is wanted.
-fn run_held(mode: u8, count: u64, dump: bool, n3: usize, n4: usize, line: &[u8]) {
+fn run_held(
+    rt: &impl Streams,
+    mode: u8,
+    count: u64,
+    dump: bool,
+    n3: usize,
+    n4: usize,
+    line: &[u8],
+) {
     if dump && count > 65535 {
-        programs::usage(line);
+        programs::usage(rt, line);
     } else {
-        run(mode, count, dump, n3, n4);
+        run(rt, mode, count, dump, n3, n4);
     }
 }
 
 // What the channels without data leave of the input.
-fn with_channels(mode: u8, count: u64, dump: bool, without3: bool, without4: bool, line: &[u8]) {
+fn with_channels(
+    rt: &impl Streams,
+    mode: u8,
+    count: u64,
+    dump: bool,
+    without3: bool,
+    without4: bool,
+    line: &[u8],
+) {
     match arguments::sending_of(mode, count, without3, without4) {
         Sending::Run {
             mode,
             count,
             n3,
             n4,
-        } => run_held(mode, count, dump, n3, n4, line),
-        Sending::Wrong => programs::usage(line),
+        } => run_held(rt, mode, count, dump, n3, n4, line),
+        Sending::Wrong => programs::usage(rt, line),
     }
 }
 
-fn main() {
+fn main(rt: HostRuntime) {
     let line = b"sender MODE COUNT [without P3|P4|P3 P4] [dump]";
     let mut words = io::buffer();
-    let n = programs::read_words(&mut words);
-    if programs::gives_help(line, &words[..n]) {
+    let n = programs::read_words(&rt, &mut words);
+    if programs::gives_help(&rt, line, &words[..n]) {
         return;
     }
     match argument_words::sending(b"dump\0", &words[..n]) {
@@ -166,7 +186,7 @@ fn main() {
             without3,
             without4,
             last,
-        } => with_channels(mode, count, last, without3, without4, line),
-        Asked::Wrong => programs::usage(line),
+        } => with_channels(&rt, mode, count, last, without3, without4, line),
+        Asked::Wrong => programs::usage(&rt, line),
     }
 }

@@ -3,33 +3,33 @@
 #![tactic(auto)]
 
 use argument_words::Asked;
-use libc::{STDERR_FILENO, STDIN_FILENO};
+use programs::Streams;
 
 // Writes the sheet, and says why there is none.
-fn tell(text: &[u8]) {
-    if !programs::write_out(text) {
+fn tell(rt: &impl Streams, text: &[u8]) {
+    if !programs::write_out(rt, text) {
         return;
     }
     if text.len() > 0 && text[0] == b'N' {
-        io::write_all(STDERR_FILENO, text);
+        programs::say(rt, text);
     }
 }
 
 // Reads the input, all of it that can matter, and writes the sheet.
-fn run(mode: u8, count: u64, without3: bool, without4: bool, work: bool) {
+fn run(rt: &impl Streams, mode: u8, count: u64, without3: bool, without4: bool, work: bool) {
     let mut input = programs::sheet_input();
-    let n = io::read_full(STDIN_FILENO, &mut input);
+    let n = programs::read_full(rt, &mut input);
     let mut out = programs::sheet_text();
     let sheet = sheets::sheet(mode, count, without3, without4, work, &input[..n], &mut out);
     let end = programs::within(sheet.length, &out);
-    tell(&out[..end]);
+    tell(rt, &out[..end]);
 }
 
-fn main() {
+fn main(rt: HostRuntime) {
     let line = b"sheet MODE COUNT [without P3|P4|P3 P4] [work]";
     let mut words = io::buffer();
-    let n = programs::read_words(&mut words);
-    if programs::gives_help(line, &words[..n]) {
+    let n = programs::read_words(&rt, &mut words);
+    if programs::gives_help(&rt, line, &words[..n]) {
         return;
     }
     match argument_words::sending(b"work\0", &words[..n]) {
@@ -39,7 +39,7 @@ fn main() {
             without3,
             without4,
             last,
-        } => run(mode, count, without3, without4, last),
-        Asked::Wrong => programs::usage(line),
+        } => run(&rt, mode, count, without3, without4, last),
+        Asked::Wrong => programs::usage(&rt, line),
     }
 }

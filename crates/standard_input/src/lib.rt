@@ -4,7 +4,7 @@
 ghost use Rattle.std.specs.Prelude.{◌≤◌, length};
 ghost use Rattle.io.specs.Counts.{IsPrefixLen};
 
-use libc::STDIN_FILENO;
+use programs::{Streams, read_full};
 
 // A line: how many of its bytes the buffer holds, and whether there was one.
 #[derive(Clone, Copy)]
@@ -27,7 +27,7 @@ fn keep(text: &mut [u8], n: usize, byte: u8) -> usize
 
 // Reads a line, without the newline that ends it. One that is longer than the buffer fills it, so a buffer is lent that is longer than any line that is taken.
 // A proved loop has to end, so it counts its turns down, from a number that no run uses up.
-pub fn read_line(text: &mut [u8]) -> Line
+pub fn read_line(rt: &impl Streams, text: &mut [u8]) -> Line
     ensures { IsPrefixLen result.length text.new }
 {
     let mut n: usize = 0;
@@ -36,7 +36,7 @@ pub fn read_line(text: &mut [u8]) -> Line
     while turns > 0 {
         turns -= 1;
         let mut one = [0u8; 1];
-        if io::read_full(STDIN_FILENO, &mut one) == 0 {
+        if read_full(rt, &mut one) == 0 {
             return Line { length: n, came };
         }
         came = true;
@@ -49,7 +49,7 @@ pub fn read_line(text: &mut [u8]) -> Line
 }
 
 // Whether the input goes on: one more byte is read.
-pub fn is_more() -> bool {
+pub fn is_more(rt: &impl Streams) -> bool {
     let mut byte = [0u8; 1];
-    io::read_full(STDIN_FILENO, &mut byte) != 0
+    read_full(rt, &mut byte) != 0
 }

@@ -8,15 +8,15 @@ ghost use Rattle.scales.specs.declared.Typed.TheVariants.{Times};
 
 use argument_words::{fourth_word, third_word};
 use arguments::Arguments;
-use libc::STDIN_FILENO;
+use programs::Streams;
 use scales::{Typed, scale_of, value_of};
 
 // Reads the L1 frame, and writes what is printed of the symbol, or said.
-fn answer(mode: u8, symbol: usize, lower: u32, upper: u32, input: &mut [u8])
+fn answer(rt: &impl Streams, mode: u8, symbol: usize, lower: u32, upper: u32, input: &mut [u8])
     requires { (is_single lower ≡ true) × (is_single upper ≡ true) }
 {
     let mut out = [0u8; 136625];
-    let n = io::read_full(STDIN_FILENO, input);
+    let n = programs::read_full(rt, input);
     let printed = vector_step::print_symbol(
         mode,
         symbol,
@@ -28,16 +28,16 @@ fn answer(mode: u8, symbol: usize, lower: u32, upper: u32, input: &mut [u8])
         &mut out,
     );
     let length = printed.length;
-    messages::write_step(printed.done, &out[..length]);
+    messages::write_step(rt, printed.done, &out[..length]);
 }
 
 // The buffer of an L1 frame, of its length in this mode.
-fn run(mode: u8, symbol: usize, lower: u32, upper: u32)
+fn run(rt: &impl Streams, mode: u8, symbol: usize, lower: u32, upper: u32)
     requires { (is_single lower ≡ true) × (is_single upper ≡ true) }
 {
     let mut input = [0u8; 68608];
     let n = programs::within(layout::frame_bytes(mode), &input);
-    answer(mode, symbol, lower, upper, &mut input[..n]);
+    answer(rt, mode, symbol, lower, upper, &mut input[..n]);
 }
 
 // The scale that a word gives.
@@ -48,31 +48,31 @@ fn scale(word: &[u8]) -> Typed
 }
 
 // Goes on with both scales.
-fn with_scales(mode: u8, symbol: u64, lower: Typed, upper: Typed, line: &[u8])
+fn with_scales(rt: &impl Streams, mode: u8, symbol: u64, lower: Typed, upper: Typed, line: &[u8])
     requires { ((times : ℕ) → lower ≡ Times times → is_single times ≡ true) × ((times : ℕ) → upper ≡ Times times → is_single times ≡ true) }
 {
     match lower {
         Typed::Times(a) => {
             match upper {
-                Typed::Times(b) => run(mode, symbol as usize, a, b),
-                Typed::NotExact => programs::usage(line),
+                Typed::Times(b) => run(rt, mode, symbol as usize, a, b),
+                Typed::NotExact => programs::usage(rt, line),
             }
         }
-        Typed::NotExact => programs::usage(line),
+        Typed::NotExact => programs::usage(rt, line),
     }
 }
 
-fn main() {
+fn main(rt: HostRuntime) {
     let line = b"vector MODE SYMBOL LOWER UPPER";
     let mut words = io::buffer();
-    let n = programs::read_words(&mut words);
-    if programs::gives_help(line, &words[..n]) {
+    let n = programs::read_words(&rt, &mut words);
+    if programs::gives_help(&rt, line, &words[..n]) {
         return;
     }
     let lower = scale(third_word(&words[..n]));
     let upper = scale(fourth_word(&words[..n]));
     match argument_words::scaled(&words[..n]) {
-        Arguments::Run { mode, count } => with_scales(mode, count, lower, upper, line),
-        Arguments::Wrong => programs::usage(line),
+        Arguments::Run { mode, count } => with_scales(&rt, mode, count, lower, upper, line),
+        Arguments::Wrong => programs::usage(&rt, line),
     }
 }

@@ -5,31 +5,31 @@ use Rattle.io.proofs.Counting.{prefix_len_of_le}
 use Rattle.standard_input.proofs.read_line.Goals as goal
 
 pub loop-turns-init : goal.loop-turns-init
-loop-turns-init c = (omega arith, refl)
+loop-turns-init g c = (omega arith, refl)
 
 pub shape_of-text-then-read_full-eq0 : goal.shape_of-text-then-read_full-eq0
-shape_of-text-then-read_full-eq0 c = c.loop-turns.invariant.1
+shape_of-text-then-read_full-eq0 g c = c.loop-turns.invariant.1
 
 pub returns-then-read_full-eq0 : goal.returns-then-read_full-eq0
-returns-then-read_full-eq0 c = prefix_len_of_le _ _ c.loop-turns.invariant.0
+returns-then-read_full-eq0 g c = prefix_len_of_le _ _ c.loop-turns.invariant.0
 
 pub shape_of-text-then-one-eq10 : goal.shape_of-text-then-one-eq10
-shape_of-text-then-one-eq10 c = c.loop-turns.invariant.1
+shape_of-text-then-one-eq10 g c = c.loop-turns.invariant.1
 
 pub returns-then-one-eq10 : goal.returns-then-one-eq10
-returns-then-one-eq10 c = prefix_len_of_le _ _ c.loop-turns.invariant.0
+returns-then-one-eq10 g c = prefix_len_of_le _ _ c.loop-turns.invariant.0
 
 pub keep-n-requires : goal.keep-n-requires
-keep-n-requires c = c.loop-turns.invariant.0
+keep-n-requires g c = c.loop-turns.invariant.0
 
 pub loop-turns-smaller : goal.loop-turns-smaller
-loop-turns-smaller c = omega arith
+loop-turns-smaller g c = omega arith
 
 pub loop-turns-preserved : goal.loop-turns-preserved
-loop-turns-preserved c = (c.keep-n.ensures, search rules)
+loop-turns-preserved g c = (c.keep-n.ensures, search rules)
 
 pub shape_of-text : goal.shape_of-text
-shape_of-text c = c.loop-turns.invariant.1
+shape_of-text g c = c.loop-turns.invariant.1
 
 pub returns : goal.returns
-returns c = prefix_len_of_le _ _ c.loop-turns.invariant.0
+returns g c = prefix_len_of_le _ _ c.loop-turns.invariant.0

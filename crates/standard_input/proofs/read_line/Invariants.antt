@@ -5,7 +5,7 @@ use lib.ListN.{length}
 use Rattle.standard_input.proofs.read_line.Given as goal
 
 abbrev pub invariant-loop-turns : goal.invariant-loop-turns
-invariant-loop-turns l = (l.n ≤ length l.text) × (length l.text ≡ length l.initial.text)
+invariant-loop-turns g l = (l.n ≤ length l.text) × (length l.text ≡ length l.initial.text)
 
 abbrev pub decreases-loop-turns : goal.decreases-loop-turns
-decreases-loop-turns l = l.turns
+decreases-loop-turns g l = l.turns
