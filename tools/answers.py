@@ -297,6 +297,18 @@ def inline_lets(text, told, goal):
             if of != "c" or (name == "c"):
                 continue
             rest = text[m.end():]
+            again_bound = re.search(r"\blet " + re.escape(name) + r"(?![\w'₀-₉-])|λ (?:[\w'₀-₉]+ )*" + re.escape(name) + r"(?= |\.)", rest)
+            if again_bound:
+                fresh = "at_" + name
+                head_text, tail = rest[:again_bound.start()], rest[again_bound.start():]
+                head_text = re.sub(r"(?<![\w'.-])" + re.escape(name) + r"(?![\w'₀-₉-])", fresh, head_text)
+                if tail.startswith("let "):
+                    eq = tail.find(" in", 0)
+                    first = re.sub(r"(?<![\w'.-])" + re.escape(name) + r"(?=\.)", fresh, tail[:eq])
+                    tail = first + tail[eq:]
+                text = text[:m.start()] + f"let {fresh} = {of}{m.group(3)} in " + head_text + tail
+                again = True
+                break
             n = m.group(3).count("before")
             if n and name != "at":
                 rest = re.sub(r"\blet (" + VARIABLE + ") = " + re.escape(name) + r"((?:\.before)*) in", lambda k: f"let {k.group(1)} = c{'.before' * n}{k.group(2)} in", rest)
@@ -449,6 +461,8 @@ def turn(crate, folder, told):
     for m in re.finditer(r"^(\S+) : tie\.Need-(\S+)", text, re.M):
         if need_key(m.group(2)) in told.needs:
             named[m.group(1)] = told.needs[need_key(m.group(2))]
+            if told.asked.get(named[m.group(1)]):
+                taken.setdefault(m.group(1), told.asked[named[m.group(1)]])
     told.used = {}
     for word in re.findall(r"\.([a-z][\w-]*)", text):
         told.used.setdefault(re.sub(r"\d+$", "", plain(word)), set()).add(plain(word))

@@ -9,17 +9,17 @@ use Rattle.runs.specs.Lent.{or_zeros}
 use Rattle.chain.proofs.Extends.{front-zeros}
 use borrow.Author.Rules.{rules}
 use Rattle.chain.proofs.encode_px.Goals as goal
-use Rattle.chain.proofs.encode_px.Goals.{After-slice_known-1}
+use Rattle.chain.proofs.encode_px.Goals.{After-slice_known-2-1}
 
 pub slice_bounds-scramble_px-end : goal.slice_bounds-scramble_px-end
 slice_bounds-scramble_px-end c = search rules
 
 pub slice_bounds-scramble_px-end-2 : goal.slice_bounds-scramble_px-end-2
-slice_bounds-scramble_px-end-2 c = sym (length-take-le _ _ (slice_bounds-scramble_px-end (goal.at.slice_bounds-scramble_px-end-2 c).After-slice_known-1))
+slice_bounds-scramble_px-end-2 c = sym (length-take-le _ _ (slice_bounds-scramble_px-end (goal.at.slice_bounds-scramble_px-end-2 c).After-slice_known-2-1))
 
 pub scramble_px-requires : goal.scramble_px-requires
 scramble_px-requires c =
-    (c.requires.1, front-zeros _ _ (slice_bounds-scramble_px-end (goal.at.scramble_px-requires c).After-slice_known-1) c.requires.2, omega (arith, c.requires.0.enough))
+    (c.requires.1, front-zeros _ _ (slice_bounds-scramble_px-end (goal.at.scramble_px-requires c).After-slice_known-2-1) c.requires.2, omega (arith, c.requires.0.enough))
 
 pub returns : goal.returns
 returns c =

@@ -15,7 +15,9 @@ encode_channel-requires c = front-buffers c.requires
 pub returns : goal.returns
 returns c =
     let pre = c.requires in
-    let l₁ = c.encode_channel.new.1.1.1.1 in
-    let l₂ = c.encode_channel-2.new.1.1.1.1 in
-    let e₁ = c.encode_channel.ensures in
-    (both-mixed pre l₁.0 l₂.0 l₁.1.0 l₂.1.0 e₁.0 e₁.1 c.encode_channel-2.ensures.out_after, both_coded pre l₁.0 l₂.0 l₁.1.0 l₂.1.0 e₁.0 e₁.1 c.encode_channel-2.ensures.out_after)
+    let l₁ = c.encode_channel.new in
+    let l₂ = c.encode_channel-2.new in
+    let e₁ = c.encode_channel.ensures in (
+      both-mixed pre l₁.between l₂.between l₁.out l₂.out e₁.between_after e₁.out_after c.encode_channel-2.ensures.out_after,
+      both_coded pre l₁.between l₂.between l₁.out l₂.out e₁.between_after e₁.out_after c.encode_channel-2.ensures.out_after,
+    )

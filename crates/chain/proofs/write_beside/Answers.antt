@@ -13,7 +13,7 @@ use Rattle.runs.proofs.Bounds.{p1-le}
 use Rattle.runs.proofs.Bridge.{pm-from}
 use Rattle.chain.proofs.Mains.{first-bytes, front_of, shares, split-coded}
 use Rattle.chain.proofs.write_beside.Goals as goal
-use Rattle.chain.proofs.write_beside.Goals.{After-slice_known-3-1}
+use Rattle.chain.proofs.write_beside.Goals.{After-coded-2-1}
 
 -- PM, with the scrambled frames m in its first bytes, has room for the P1 frames
 room : (k : Main) (p1 m pm : List ℕ) → length p1 ≡ p1_len k → length m ≡ length (take 18272 pm) → length pm ≡ 46080 → length p1 ≤ length (m ++ drop 18272 pm)
@@ -45,11 +45,11 @@ slice_bounds-push_delay-end c =
     c.multiplex.auto.mixed c.requires.5
 
 pub slice_bounds-push_delay-end-2 : goal.slice_bounds-push_delay-end-2
-slice_bounds-push_delay-end-2 c = sym (length-take-le _ _ (slice_bounds-push_delay-end (goal.at.slice_bounds-push_delay-end-2 c).After-slice_known-3-1))
+slice_bounds-push_delay-end-2 c = sym (length-take-le _ _ (slice_bounds-push_delay-end (goal.at.slice_bounds-push_delay-end-2 c).After-coded-2-1))
 
 pub push_delay-requires : goal.push_delay-requires
 push_delay-requires c =
-    (length-take-le _ _ (slice_bounds-push_delay-end (goal.at.push_delay-requires c).After-slice_known-3-1) ∙ c.requires.0, c.requires.4)
+    (length-take-le _ _ (slice_bounds-push_delay-end (goal.at.push_delay-requires c).After-coded-2-1) ∙ c.requires.0, c.requires.4)
 
 pub shape_of-pm : goal.shape_of-pm
 shape_of-pm c =

@@ -35,7 +35,7 @@ pub returns : goal.returns
 returns c =
     let a = c.args in
     let b = c.coded_bytes-k in
-    let (goal.at.returns c).Else-n-eq0 = behind a.main b.result (length a.p2.now) b.ensures.0 c.requires.1 c.if-n-eq0.false in
-    λ (goal.at.returns c).After-coded_bytes-k bits e.
-    p2-found a.main b.result a.p2.now (goal.at.returns c).Else-n-eq0 (goal.at.returns c).After-coded_bytes-k _ _ c.requires.1
-    (c.decode_channel.ensures (λ i. (goal.at.returns c).After-coded_bytes-k (8 * b.result + i)) (λ i. bits _) (rest-is a.main a.coded.now c.requires.0 (goal.at.returns c).After-coded_bytes-k bits e b.result (length a.p2.now / 2 * 5) c.both))
+    let z = behind a.main b.result (length a.p2.now) b.ensures.0 c.requires.1 c.if-n-eq0.false in
+    λ y bits e.
+    p2-found a.main b.result a.p2.now z y _ _ c.requires.1
+    (c.decode_channel.ensures (λ i. y (8 * b.result + i)) (λ i. bits _) (rest-is a.main a.coded.now c.requires.0 y bits e b.result (length a.p2.now / 2 * 5) z.both))
