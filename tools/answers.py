@@ -297,7 +297,7 @@ def inline_lets(text, told, goal):
             if of != "c" or (name == "c"):
                 continue
             rest = text[m.end():]
-            again_bound = re.search(r"\blet " + re.escape(name) + r"(?![\w'₀-₉-])|λ (?:[\w'₀-₉]+ )*" + re.escape(name) + r"(?= |\.)", rest)
+            again_bound = re.search(r"\blet " + re.escape(name) + r"(?![\w'₀-₉-])|λ (?:[\w'₀-₉]+ )*" + re.escape(name) + r"(?= |\.)|\((?:[\w'₀-₉]+ )*" + re.escape(name) + r"(?: [\w'₀-₉]+)* : ", rest)
             if again_bound:
                 fresh = "at_" + name
                 head_text, tail = rest[:again_bound.start()], rest[again_bound.start():]
@@ -326,6 +326,14 @@ def inline_lets(text, told, goal):
 
 def inline_steps(text, told):
     """`let pre = c.requires in` and `let r = c.step in`, where the names of clauses come in."""
+    for m in reversed(list(re.finditer(r"\blet (" + VARIABLE + r") = c((?:\.before)*)\.(" + FIELD + r")\.ensures in[ \t]*\n?[ \t]*", text))):
+        name, step = m.group(1), m.group(3)
+        rest = text[m.end():]
+        if name == "at" or not told.known(plain(step)) or not CLAUSES.get(re.sub(r"\d+$", "", plain(step)), ([], []))[1]:
+            continue
+        bare = re.search(r"(?<![\w'.-])" + re.escape(name) + r"(?![\w'₀-₉.-])", rest)
+        rest = re.sub(r"(?<![\w'.-])" + re.escape(name) + r"(?=\.[01])", f"c.{step}.ensures", rest)
+        text = text[:m.start()] + (m.group(0) if bare else "") + rest
     for m in reversed(list(re.finditer(r"\blet (" + VARIABLE + r") = c((?:\.before)*)\.(" + FIELD + r") in[ \t]*\n?[ \t]*", text))):
         name, step = m.group(1), m.group(3)
         if name in ("at",):
@@ -555,7 +563,8 @@ def turn(crate, folder, told):
         body = re.sub(r"(\btie\.[A-Z][\w-]*)((?: (?:invariant|decreases)-loop\w*)+)", r"\1", body)
         body = re.sub(r"\btie\.([A-Z][\w-]*)", lambda m: "goal." + told.places.get(plain(m.group(1)), m.group(1)), body)
         heads = set(re.findall(r"(?<![\w'.-])([a-z][\w'₀-₉]*)(?=\.)", body)) | {"c", "s"}
-        body = turn_paths(body, told, {h for h in heads if any(told.known(plain(f)) for f in re.findall(r"(?<![\w'.-])" + re.escape(h) + r"\.(" + FIELD + ")", body))} | {"c", "s"}, [])
+        heads -= set(re.findall(r"\blet (\w+) = [\w.]+\.(?:args|requires)\b", body))
+        body = turn_paths(body, told, {h for h in heads if any(told.known(plain(f)) for f in re.findall(r"(?<![\w'.-])" + re.escape(h) + r"\.(" + FIELD + ")", body))} | ({"c", "s"} & heads), [])
         helpers.append(body)
     skip = (".Statement", ".Tie", "borrow.Author.Rules") if False else (".Statement", ".Tie")
     written = []

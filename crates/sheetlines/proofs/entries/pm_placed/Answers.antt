@@ -1,0 +1,13 @@
+-- `pm_placed` meets its contract: the match is the definition's, and a cell that is located is one of PM. Assumes nothing.
+use mathlib.Core.Path.{sym, ◌∙◌}
+use Rattle.sheetlines.proofs.Ranges.{pm-placed-in-range}
+use Rattle.sheetlines.proofs.entries.pm_placed.Goals as goal
+
+pub in_pm-requires : goal.in_pm-requires
+in_pm-requires c = pm-placed-in-range _ _ _ _ _ _ (sym c.locate.ensures.0 ∙ c.in-At.is)
+
+pub returns-in-At : goal.returns-in-At
+returns-in-At c = rw (sym c.locate.ensures.0 ∙ c.in-At.is) c.in_pm.ensures
+
+pub returns-in-Refused : goal.returns-in-Refused
+returns-in-Refused c = rw (sym c.locate.ensures.0 ∙ c.in-Refused.is)

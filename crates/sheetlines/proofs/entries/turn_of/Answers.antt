@@ -1,0 +1,20 @@
+-- `turn_of` meets its contract: the match is the definition's. Assumes nothing.
+use native.Mathlib.Omega.{arith}
+use Rattle.sheetlines.specs.Entries.{turn_of}
+use Rattle.sheetlines.proofs.entries.turn_of.Goals as goal
+
+pub returns-then-sent-count : goal.returns-then-sent-count
+unfolding turn_of
+returns-then-sent-count c = rw c.in-Stands.is (omega (arith, c.if-sent-count.true))
+
+pub returns-else-sent-count : goal.returns-else-sent-count
+unfolding turn_of
+returns-else-sent-count c = rw c.in-Stands.is (omega (arith, c.if-sent-count.false))
+
+pub returns-in-Fill : goal.returns-in-Fill
+unfolding turn_of
+returns-in-Fill c = rw c.in-Fill.is
+
+pub returns-in-Refused : goal.returns-in-Refused
+unfolding turn_of
+returns-in-Refused c = rw c.in-Refused.is

@@ -1,0 +1,6 @@
+-- `put_named` meets its contract. Assumes nothing.
+use Rattle.text.proofs.Stored.{put_then}
+use Rattle.worktext.proofs.put_named.Goals as goal
+
+pub returns : goal.returns
+returns c = put_then c.put-m.ensures c.field.ensures
