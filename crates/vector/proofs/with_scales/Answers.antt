@@ -2,5 +2,5 @@
 use Rattle.vector.proofs.with_scales.Goals as goal
 
 pub run-requires : goal.run-requires
-run-requires c =
+run-requires g c =
     (c.requires.0 _ c.in-Times.is, c.requires.1 _ c.in-Times-upper.is)
