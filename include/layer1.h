@@ -43,15 +43,15 @@ _Static_assert(sizeof(size_t) == 8, "lengths and places cross as words of 64 bit
 
 /* The number of this interface: one more with every change of a call, a place, a length or a field of a word. Where layer1_version(), the
  * archive's, is another, header and archive do not belong together. */
-#define LAYER1_VERSION 4
+#define LAYER1_VERSION 3
 uint32_t layer1_version(void);
 
 /* The most stack that a sending, a reading, the judging of a dump and an answer sheet take, in bytes, as compiled (measured by
  * wrapper/tests/stack.c); any other call takes less than a sending. */
-#define LAYER1_SEND_STACK 61440
+#define LAYER1_SEND_STACK 65536
 #define LAYER1_READ_STACK 118784
 #define LAYER1_JUDGE_STACK 212992
-#define LAYER1_SHEET_STACK 159744
+#define LAYER1_SHEET_STACK 167936
 
 /* The places of the buffers of a sending or a reading. PX2 has P4's matrices in MP11, and those of P1' in MP5 and MP6. */
 enum layer1_place {

@@ -41,17 +41,18 @@ def clauses_of(text):
         yield m.group(1), names
 
 
-def read_clauses():
+def read_clauses(crate):
     import glob
 
-    for path in glob.glob(os.path.join(TOP, "crates/*/src/**/*.rt"), recursive=True):
+    paths = sorted(glob.glob(os.path.join(TOP, "crates/*/src/**/*.rt"), recursive=True))
+    own = [p for p in paths if f"/crates/{crate}/" in p]
+    for path in own + [p for p in paths if p not in own]:
         with open(path, encoding="utf-8") as f:
             text = f.read()
             for m in re.finditer(r"\bfn (\w+)\s*\(([^()]*(?:\([^()]*\)[^()]*)*)\)", text):
                 PARAMETERS.setdefault(m.group(1), re.findall(r"(\w+)\s*:", m.group(2)))
             for name, names in clauses_of(text):
-                if any(names):
-                    CLAUSES[name] = names
+                CLAUSES.setdefault(name, names)
 
 
 def clause_of(path, names):
@@ -251,6 +252,16 @@ def turn_paths(text, told, variables, said):
             names = PARAMETERS.get(re.sub(r"\d+$", "", plain(left[0])), [])
             if n < len(left) and left[n] == "0" and n - 2 < len(names):
                 left[2:n + 1] = [names[n - 2]]
+        if left and told.known(plain(left[0])) and len(left) > 2 and left[1] == "auto" and left[2] in ("0", "1"):
+            n = 2
+            while n < len(left) and left[n] == "1":
+                n += 1
+            names = PARAMETERS.get(re.sub(r"\d+$", "", plain(left[0])), [])
+            last = n < len(left) and left[n] == "0"
+            if n - 2 < len(names):
+                left[2:n + 1 if last else n] = [names[n - 2]]
+        if len(left) > 1 and left[0] == "args" and re.match(r"t\d+$", left[1]) and left[1] not in told.params:
+            left[1] = told.params[int(left[1][1:]) - 1]
         if left and left[0] == "requires" and len(left) > 1:
             left = ["requires"] + clause_of(left[1:], told.own[0])
         if left and told.known(plain(left[0])):
@@ -441,6 +452,7 @@ def turn(crate, folder, told):
     told.used = {}
     for word in re.findall(r"\.([a-z][\w-]*)", text):
         told.used.setdefault(re.sub(r"\d+$", "", plain(word)), set()).add(plain(word))
+    told.params = PARAMETERS.get(folder.split("/")[-1], [])
     told.own = CLAUSES.get(folder.split("/")[-1], ([], []))
     for kind, decl in parts:
         if kind != "decl":
@@ -501,7 +513,9 @@ def turn(crate, folder, told):
             params = [p for p in b.group(1).split() if p != "κs"]
             expression = b.group(2)
             cited = len(re.findall(r"(?<![\w'.-])" + re.escape(m.group(1)) + r"(?![\w'₀-₉.-])", text)) > 3
-            if expression.strip() in ("search rules",) and not cited:
+            if any("kept" in v for _, _, v, _ in told.loops):
+                expression = re.sub(r"\.auto\b", ".kept", expression)
+            if expression.strip() in ("search rules",) and not cited and not unfolding:
                 continue
             if params and params[0] == "_":
                 params[0] = "c"
@@ -582,7 +596,7 @@ def main():
         if "Proof.antt" in files:
             folders.append(os.path.relpath(at, proofs))
     folders = [f for f in sorted(folders) if not wanted or f in wanted]
-    read_clauses()
+    read_clauses(crate)
     entries = names_of(crate)
     by_folder = {}
     for key, entry in entries.items():

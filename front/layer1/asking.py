@@ -7,7 +7,7 @@ from . import owners
 from .files import say
 from .modes import Mode, mode_of, number_of
 from .outcomes import DONE, Misused
-from .owners import IN_PX, Bit, Cell
+from .owners import Bit, Cell
 from .words import Verbs
 
 GREATEST = 10**9
@@ -24,7 +24,7 @@ def arrange(verbs: Verbs) -> None:
     options(whose)
     whose.set_defaults(run=run_whose)
     where = verbs.add_parser("where", help="into which cell a coded bit goes", description="Says into which cell of which matrix a coded bit goes.")
-    words = "P1 BIT or P2 BIT; P1, PIDS, P3, P4 or P1' TFRAME BIT; for PIDS, BIT may be all, its 200 in coded order"
+    words = "P1 BIT; PIDS TFRAME BIT, P3 TFRAME BIT or P4 TFRAME BIT; for PIDS, BIT may be all, its 200 in coded order"
     where.add_argument("bit", nargs="+", metavar="WORD", help=words)
     options(where)
     where.set_defaults(run=run_where)
@@ -32,7 +32,7 @@ def arrange(verbs: Verbs) -> None:
 
 def options(verb: argparse.ArgumentParser) -> None:
     """What both verbs take beside the question."""
-    verb.add_argument("--mode", help="service mode; without it the answer is for MP1, MP2, MP3 and MP11, which are alike in PM")
+    verb.add_argument("--mode", help="service mode; for PM the four older ones are alike (default: 1, for PX needed)")
     verb.add_argument("--frame", default="0", help="L1 frame of the run, from 0: of the cell, or of the transfer frame (default: 0)")
     verb.add_argument("--lines", action="store_true", help="question and answer in numbers, as the program prints them")
 
@@ -53,13 +53,11 @@ def cell_of_words(words: List[str], frame: int) -> Cell:
 def mode_for(word: Optional[str], needed: bool) -> Mode:
     """The mode of a question."""
     if word is None and needed:
-        raise Misused("in PX1 and PX2, and of P2, P3, P4, P1' and P1 frames above 0, the answer depends on the service mode: say --mode")
-    return mode_of(word or "1")
-
-
-def alike(word: Optional[str]) -> str:
-    """For which modes an answer holds where none was named: in MP5 and MP6 PM has other bits."""
-    return "" if word else ", in MP1, MP2, MP3 and MP11"
+        raise Misused("in PX1 and PX2, and of P3 and P4, the answer depends on the service mode: say --mode")
+    mode = mode_of(word or "1")
+    if not mode.has_owners:
+        raise Misused(f"there are no answers in {mode.name} yet; there are in MP1, MP2, MP3 and MP11")
+    return mode
 
 
 def run_whose(given: argparse.Namespace) -> int:
@@ -69,7 +67,7 @@ def run_whose(given: argparse.Namespace) -> int:
     if given.lines:
         say(f"{cell.line()} {numbers_of(answer, cell.matrix != 'PM')}\n")
     else:
-        say(f"{cell.words(cell.matrix != 'PM')}{alike(given.mode)}: {owners.owner_in_words(answer)}\n")
+        say(f"{cell.words(cell.matrix != 'PM')}: {owners.owner_in_words(answer)}\n")
     return DONE
 
 
@@ -87,10 +85,10 @@ def numbers_of(answer: owners.Answer, with_frame: bool) -> str:
 def bits_of_words(words: List[str], frame: int) -> List[Bit]:
     """Coded bits as they are typed."""
     channel = words[0].upper()
-    if channel in ("P1", "P2") and len(words) == 2:
-        words = [channel, "0", words[1]]
-    if channel not in ("P1", "PIDS", "P2", *IN_PX) or len(words) != 3:
-        raise Misused("a bit is P1 BIT, P2 BIT, or TFRAME BIT behind P1, PIDS, P3, P4 or P1'")
+    if channel == "P1" and len(words) == 2:
+        words = ["P1", "0", words[1]]
+    if channel not in ("P1", "PIDS", "P3", "P4") or len(words) != 3:
+        raise Misused("a bit is P1 BIT, PIDS TFRAME BIT, P3 TFRAME BIT or P4 TFRAME BIT")
     tframe = number_of(words[1], "a transfer frame", GREATEST)
     if channel == "PIDS" and words[2] == "all":
         return [Bit(frame, channel, tframe, bit) for bit in range(PIDS_BITS)]
@@ -100,12 +98,8 @@ def bits_of_words(words: List[str], frame: int) -> List[Bit]:
 def run_where(given: argparse.Namespace) -> int:
     """The verb where."""
     bits = bits_of_words(given.bit, number_of(given.frame, "--frame", GREATEST))
-    extended = bits[0].channel in IN_PX
-    needed = extended or bits[0].channel == "P2" or (bits[0].channel == "P1" and bits[0].tframe > 0)
-    for bit, answer in zip(bits, owners.asked(mode_for(given.mode, needed), bits)):
+    extended = bits[0].channel in ("P3", "P4")
+    for bit, answer in zip(bits, owners.asked(mode_for(given.mode, extended), bits)):
         cell = owners.cell_of(answer)
-        if given.lines:
-            say(f"{bit.line()} {numbers_of(cell, True)}\n")
-        else:
-            say(f"{bit.words(extended)}{alike(given.mode)}: {cell.words(extended)}\n")
+        say(f"{bit.line()} {numbers_of(cell, True)}\n" if given.lines else f"{bit.words(extended)}: {cell.words(extended)}\n")
     return DONE

@@ -9,7 +9,7 @@ from .dumps import Dump
 from .files import say, shown
 from .modes import PAIR_ROWS, Mode, mode_of, number_of
 from .outcomes import DONE, REFUSED, Misused
-from .owners import Bit, Cell
+from .owners import FILL, Bit, Cell
 from .progress import Progress
 from .words import Verbs
 
@@ -120,8 +120,11 @@ def compare_frame(mode: Mode, number: int, first: bytes, second: bytes, tally: T
 
 def owned(mode: Mode, cells: List[Cell]) -> Iterator[Tuple[str, str]]:
     """For each cell the channel whose bit it shows, and whose bit in words."""
+    if not mode.has_owners:
+        yield from [("not told", f"whose it is is not told in {mode.name}")] * len(cells)
+        return
     for answer in owners.asked(mode, cells):
-        yield answer.channel if isinstance(answer, Bit) else str(answer), owners.owner_in_words(answer)
+        yield answer.channel if isinstance(answer, Bit) else FILL, owners.owner_in_words(answer)
 
 
 def differing(mode: Mode, number: int, matrix: str, one: bytes, other: bytes) -> Iterator[Tuple[Cell, Tuple[int, int]]]:

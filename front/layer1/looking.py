@@ -3,7 +3,7 @@
 import argparse
 
 from . import dumps, owners
-from .asking import GREATEST, PIDS_BITS, cell_of_words
+from .asking import GREATEST, PIDS_BITS, cell_of_words, mode_for
 from .files import say
 from .modes import number_of
 from .outcomes import DONE
@@ -36,7 +36,7 @@ def run_bit(given: argparse.Namespace) -> int:
     cell = cell_of_words(given.cell, number)
     with dumps.dump(given.dump) as dump:
         frame = dump.checked_frame(number)
-        answer = owners.owner(dump.mode, cell)
+        answer = owners.owner(mode_for(str(dump.mode.number), True), cell)
         bit = dumps.bit_of(dump.mode, frame, cell)
         say(f"{bit} in {cell.words(True)}: {owners.owner_in_words(answer)}\n")
     return DONE
@@ -49,6 +49,6 @@ def run_pids(given: argparse.Namespace) -> int:
     with dumps.dump(given.dump) as dump:
         frame = dump.checked_frame(number)
         wanted = [Bit(number, "PIDS", tframe, bit) for bit in range(PIDS_BITS)]
-        cells = owners.asked(dump.mode, wanted)
+        cells = owners.asked(mode_for(str(dump.mode.number), True), wanted)
         say("".join(str(dumps.bit_of(dump.mode, frame, owners.cell_of(cell))) for cell in cells) + "\n")
     return DONE

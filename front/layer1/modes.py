@@ -42,8 +42,8 @@ class Mode:
         return sum(self.matrices)
 
     @property
-    def has_sheets(self) -> bool:
-        """Whether there are sheets, and look-ups on the bench page: not yet in MP5 and MP6."""
+    def has_owners(self) -> bool:
+        """Whether the finders cover it: S-9 keeps them to the older modes."""
         return self.delay == 0
 
     def input_bytes(self, without: Tuple[str, ...] = ()) -> int:

@@ -52,24 +52,15 @@ class Bit:
 FILL = "FILL"
 """The owner of a cell that can show only the zero fill of a fresh start."""
 
-DELAY = "DELAY"
-"""The owner of a cell that can show only the zeros of the diversity delay."""
-
-ZEROS = {FILL: "only the zero fill of a fresh start", DELAY: "only the zeros of the diversity delay"}
-"""The same for people."""
-
-IN_PX = ("P3", "P4", "P1'")
-"""The channels of PX1 and PX2, whose bits are sent in other L1 frames than their own too."""
-
 Question = Union[Cell, Bit]
 Answer = Union[Cell, Bit, str]
 
 NUMBER = r"(\d+)"
-PM_OWNER = re.compile(rf"{NUMBER} PM {NUMBER} {NUMBER} (P1|PIDS|P2) {NUMBER} {NUMBER}", re.ASCII)
-PX_OWNER = re.compile(rf"{NUMBER} (PX[12]) {NUMBER} {NUMBER} {NUMBER} (P3|P4|P1') {NUMBER} {NUMBER} {NUMBER}", re.ASCII)
-PX_ZEROS = re.compile(rf"{NUMBER} (PX[12]) {NUMBER} {NUMBER} {NUMBER} ({FILL}|{DELAY})", re.ASCII)
-PM_CELL = re.compile(rf"{NUMBER} (P1|PIDS|P2) {NUMBER} {NUMBER} PM {NUMBER} {NUMBER} {NUMBER}", re.ASCII)
-PX_CELL = re.compile(rf"{NUMBER} (P3|P4|P1') {NUMBER} {NUMBER} (PX[12]) {NUMBER} {NUMBER} {NUMBER} {NUMBER}", re.ASCII)
+PM_OWNER = re.compile(rf"{NUMBER} PM {NUMBER} {NUMBER} (P1|PIDS) {NUMBER} {NUMBER}", re.ASCII)
+PX_OWNER = re.compile(rf"{NUMBER} (PX[12]) {NUMBER} {NUMBER} {NUMBER} (P[34]) {NUMBER} {NUMBER} {NUMBER}", re.ASCII)
+PX_FILL = re.compile(rf"{NUMBER} (PX[12]) {NUMBER} {NUMBER} {NUMBER} FILL", re.ASCII)
+PM_CELL = re.compile(rf"{NUMBER} (P1|PIDS) {NUMBER} {NUMBER} PM {NUMBER} {NUMBER} {NUMBER}", re.ASCII)
+PX_CELL = re.compile(rf"{NUMBER} (P[34]) {NUMBER} {NUMBER} (PX[12]) {NUMBER} {NUMBER} {NUMBER} {NUMBER}", re.ASCII)
 
 
 def taken(line: str) -> Optional[Tuple[Question, Answer]]:
@@ -78,11 +69,11 @@ def taken(line: str) -> Optional[Tuple[Question, Answer]]:
     if found:
         frame, row, column = int(found[1]), int(found[2]), int(found[3])
         return Cell(frame, "PM", None, row, column), Bit(frame, found[4], int(found[5]), int(found[6]))
-    found = PX_OWNER.fullmatch(line) or PX_ZEROS.fullmatch(line)
+    found = PX_OWNER.fullmatch(line) or PX_FILL.fullmatch(line)
     if found:
         cell = Cell(int(found[1]), found[2], int(found[3]), int(found[4]), int(found[5]))
-        if found[6] in ZEROS:
-            return cell, found[6]
+        if line.endswith(FILL):
+            return cell, FILL
         return cell, Bit(int(found[7]), found[6], int(found[8]), int(found[9]))
     found = PM_CELL.fullmatch(line)
     if found:
@@ -128,9 +119,9 @@ def cell_of(answer: Answer) -> Cell:
 
 
 def owner_in_words(answer: Answer) -> str:
-    """An answer for people; the L1 frame of a bit is said for P3, P4 and P1', which come from other ones."""
+    """An answer for people; the L1 frame of a bit is said for P3 and P4, which come from other ones."""
     if isinstance(answer, Bit):
-        return answer.words(answer.channel in IN_PX)
+        return answer.words(answer.channel in ("P3", "P4"))
     if isinstance(answer, Cell):
         return answer.words(answer.matrix != "PM")
-    return ZEROS[answer]
+    return "only the zero fill of a fresh start"

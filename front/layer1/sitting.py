@@ -83,8 +83,8 @@ def arrange_new(parts: Verbs) -> None:
 def run_of(given: argparse.Namespace) -> Run:
     """What is asked for, as a run."""
     mode = mode_of(given.mode)
-    if not mode.has_sheets:
-        raise Misused(f"there are no sheets for {mode.name}; there are for {', '.join(known.name for known in MODES.values() if known.has_sheets)}")
+    if not mode.has_owners:
+        raise Misused(f"there are no sheets for {mode.name}; there are for {', '.join(known.name for known in MODES.values() if known.has_owners)}")
     without = without_of(mode, given.without)
     count = number_of(given.frames, "--frames", 64)
     if count == 0:

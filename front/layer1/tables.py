@@ -54,8 +54,8 @@ def half(mode: Mode, matrix: str, parity: int) -> Dict[str, Any]:
 
 
 def covered() -> List[Mode]:
-    """The modes that the page has tables of."""
-    return [mode for mode in MODES.values() if mode.has_sheets]
+    """The modes that have owners."""
+    return [mode for mode in MODES.values() if mode.has_owners]
 
 
 class Kept:

@@ -10,7 +10,6 @@ use crate::dumps;
 use crate::locating;
 use crate::modes::{Mode, Without, EXTENDED_WAIT, P1_BITS, PIDS_BITS};
 use crate::nearest;
-use crate::owners;
 use crate::packing::{pack, unpack};
 use crate::places::{self, INPUT_BYTES};
 use crate::reading::decode_frames;
@@ -83,7 +82,7 @@ fn covered(mode: u64) -> Result<&'static Mode, Stop> {
     Mode::of_number(mode).ok_or(refused(1, 0, 0))
 }
 
-/// Document 02, S-9: the covered mode of a number, if a sheet takes it: one without P1'.
+/// Document 02, S-9: the covered mode of a number, if the cell finder knows it: one without P1'.
 fn in_finder(mode: u64) -> Result<&'static Mode, Stop> {
     let mode = covered(mode)?;
     match mode.delayed {
@@ -94,12 +93,12 @@ fn in_finder(mode: u64) -> Result<&'static Mode, Stop> {
 
 /// House matter: lines that ask for a cell's bit or a bit's cell, and their answers.
 pub fn owners(mode: u64, input: &mut impl BufRead, output: &mut impl Write) -> Result<(), Stop> {
-    Ok(owners::owners(covered(mode)?, input, output)?)
+    Ok(locating::owners(in_finder(mode)?, input, output)?)
 }
 
 /// House matter: a line for each coded bit of an L1 frame.
 pub fn all_bits(mode: u64, frame: u64, output: &mut impl Write) -> Result<(), Stop> {
-    Ok(owners::all_bits(covered(mode)?, frame, output)?)
+    Ok(locating::all_bits(in_finder(mode)?, frame, output)?)
 }
 
 /// House matter: the working of a coded bit, from the channel's transfer frames of the L1 frame.

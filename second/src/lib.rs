@@ -12,7 +12,6 @@ pub mod interleaving;
 pub mod locating;
 pub mod modes;
 pub mod nearest;
-pub mod owners;
 pub mod packing;
 pub mod places;
 pub mod reading;

@@ -1,10 +1,12 @@
-//! Into which cell a coded bit goes in the older modes, and the working of a coded bit.
+//! Both ways: into which cell a coded bit goes, the working of a coded bit, and lines that ask
+//! either way, without frames.
 
 use std::collections::HashMap;
 use std::fmt;
+use std::io::{self, BufRead, Write};
 use std::sync::OnceLock;
 
-use crate::cells::{find, place_of, Channel};
+use crate::cells::{decimal, find, place_of, Channel};
 use crate::coding::Rate;
 use crate::interleaving::{PxRow, PM_COLUMNS, PM_ROWS};
 use crate::modes::{Extended, Mode, P1_BITS, PIDS, PIDS_BITS};
@@ -14,6 +16,12 @@ use crate::scrambling::Register;
 
 /// The channels by number: 1 P1, 2 PIDS, 3 P3, 4 P4.
 pub const NAMES: [&str; 4] = ["P1", "PIDS", "P3", "P4"];
+
+/// House matter: an L1 frame that a line can name is below this.
+pub const GREATEST_FRAME: u64 = 1 << 32;
+
+/// House matter: a line of more bytes is refused, as it could not stand in a sheet's list.
+pub const LONGEST_LINE: usize = 4095;
 
 /// Document 01, refusal 3: an argument out of range, at its place.
 fn out_of_range(place: usize) -> Refusal {
@@ -257,4 +265,164 @@ pub(crate) fn explained(
         position,
         cell,
     }
+}
+
+/// The words of a line after its L1 frame: a name and numbers, none if they are not such.
+fn words(line: &[u8]) -> Option<(u64, &str, Vec<usize>)> {
+    let words: Vec<&[u8]> = line.split(|&byte| byte == b' ').collect();
+    let [frame, name, numbers @ ..] = &words[..] else {
+        return None;
+    };
+    let frame = decimal(frame)? as u64;
+    let numbers = numbers
+        .iter()
+        .map(|word| decimal(word))
+        .collect::<Option<_>>()?;
+    (frame < GREATEST_FRAME).then_some((frame, std::str::from_utf8(name).ok()?, numbers))
+}
+
+/// Whose bit a PM cell shows, as a line.
+fn pm_cell(frame: u64, row: usize, column: usize) -> Option<String> {
+    let found = find(row, column);
+    let channel = match found.channel? {
+        Channel::P1 => "P1",
+        Channel::Pids => "PIDS",
+    };
+    let (tframe, bit) = (found.frame, found.bit);
+    Some(format!(
+        "{frame} PM {row} {column} {channel} {tframe} {bit}"
+    ))
+}
+
+/// Whose bit a cell of PX1 (channel 3) or PX2 (channel 4) shows in an L1 frame, by looking for the
+/// bit that goes there among those of this L1 frame and of the two before it.
+fn px_cell(mode: &Mode, frame: u64, channel: u64, numbers: [usize; 3]) -> Option<String> {
+    let [pair, row, column] = numbers;
+    let sent = extended(mode, channel)?.row?;
+    if pair >= 8 || row >= 64 || column >= sent.width() {
+        return None;
+    }
+    let cell = (pair * 64 + row) * sent.width() + column;
+    let asked = format!("{frame} PX{} {pair} {row} {column}", channel - 2);
+    let owner = shown_in(sent, (frame % 2) as usize)[cell];
+    Some(match owner {
+        (earlier, bit) if earlier <= frame => format!(
+            "{asked} P{channel} {} {} {}",
+            frame - earlier,
+            bit / sent.frame_bits,
+            bit % sent.frame_bits
+        ),
+        _ => format!("{asked} FILL"),
+    })
+}
+
+/// For each cell of an L1 frame in this half, how many L1 frames earlier its bit was sent, and
+/// which coded bit of that L1 frame it is.
+fn shown_in(row: &'static PxRow, half: usize) -> &'static [(u64, usize)] {
+    static SHOWN: OnceLock<HashMap<(usize, usize), Vec<(u64, usize)>>> = OnceLock::new();
+    let all = SHOWN.get_or_init(|| {
+        let mut all = HashMap::new();
+        for row in [
+            &crate::interleaving::PX_MP2,
+            &crate::interleaving::PX_MP3_MP11,
+        ] {
+            for half in 0..2 {
+                let mut cells = vec![(0, 0); row.half_bits()];
+                for from in 0..2 {
+                    for (bit, &(later, cell)) in row.shown()[from].iter().enumerate() {
+                        if (from + later) % 2 == half {
+                            cells[cell] = (later as u64, bit);
+                        }
+                    }
+                }
+                all.insert((row.bits, half), cells);
+            }
+        }
+        all
+    });
+    &all[&(row.bits, half)]
+}
+
+/// Into which cell a coded bit goes, as a line.
+fn bit_line(mode: &Mode, frame: u64, name: &str, tframe: usize, bit: usize) -> Option<String> {
+    let channel = NAMES.iter().position(|known| *known == name)? as u64 + 1;
+    let asked = format!("{frame} {name} {tframe} {bit}");
+    if channel < 3 {
+        let cell = locate(channel, tframe, bit).ok()?;
+        return Some(format!(
+            "{asked} PM {frame} {} {}",
+            cell / PM_COLUMNS,
+            cell % PM_COLUMNS
+        ));
+    }
+    let (later, cell) = locate_px(mode, (frame % 2) as usize, channel, tframe, bit).ok()?;
+    let width = extended(mode, channel)?.row?.width();
+    let (line, column) = (cell / width, cell % width);
+    Some(format!(
+        "{asked} PX{} {} {} {} {column}",
+        channel - 2,
+        frame + later as u64,
+        line / 64,
+        line % 64
+    ))
+}
+
+/// What is printed for a line; none if it cannot be answered.
+fn answer(mode: &Mode, line: &[u8]) -> Option<String> {
+    let (frame, name, numbers) = words(line)?;
+    match (name, &numbers[..]) {
+        ("PM", &[row, column]) => pm_cell(frame, row, column),
+        ("PX1", &[pair, row, column]) => px_cell(mode, frame, 3, [pair, row, column]),
+        ("PX2", &[pair, row, column]) => px_cell(mode, frame, 4, [pair, row, column]),
+        (_, &[tframe, bit]) => bit_line(mode, frame, name, tframe, bit),
+        _ => None,
+    }
+}
+
+/// House matter: what a line asks, with no newline, and without the CR of another system.
+fn question(line: &[u8]) -> Option<&[u8]> {
+    let line = line.strip_suffix(b"\n").unwrap_or(line);
+    if line.len() > LONGEST_LINE {
+        return None;
+    }
+    Some(line.strip_suffix(b"\r").unwrap_or(line))
+}
+
+/// House matter: an answer for each line of the input.
+pub fn owners(mode: &Mode, input: &mut impl BufRead, output: &mut impl Write) -> io::Result<()> {
+    let mut line = Vec::new();
+    let mut number = 0u64;
+    while input.read_until(b'\n', &mut line)? > 0 {
+        number += 1;
+        match question(&line).and_then(|asked| answer(mode, asked)) {
+            Some(answer) => writeln!(output, "{answer}")?,
+            None => writeln!(output, "REFUSED {number}")?,
+        }
+        line.clear();
+    }
+    Ok(())
+}
+
+/// House matter: a line for each coded bit of an L1 frame of the mode, as input of `owners`.
+pub fn all_bits(mode: &Mode, frame: u64, output: &mut impl Write) -> io::Result<()> {
+    for (n, list) in searched().iter().enumerate() {
+        let (name, tframe) = match n {
+            0 => ("P1", 0),
+            _ => ("PIDS", n - 1),
+        };
+        for bit in 0..list.len() {
+            writeln!(output, "{frame} {name} {tframe} {bit}")?;
+        }
+    }
+    for channel in [3, 4] {
+        let Some(row) = extended(mode, channel).and_then(|sent| sent.row) else {
+            continue;
+        };
+        for tframe in 0..8 {
+            for bit in 0..row.frame_bits {
+                writeln!(output, "{frame} P{channel} {tframe} {bit}")?;
+            }
+        }
+    }
+    Ok(())
 }

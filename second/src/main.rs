@@ -222,7 +222,6 @@ fn ended(done: Result<(), Stop>) -> ExitCode {
         }
         Err(Stop::NoSheet(why)) => {
             eprintln!("{why}");
-            eprintln!("{}", why.words());
             ExitCode::from(1)
         }
         Err(Stop::NotFound) => {

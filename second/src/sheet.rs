@@ -9,7 +9,6 @@ use crate::locating::{locate, working, NAMES};
 use crate::modes::{Extended, Mode, Without};
 use crate::packing::unpack;
 use crate::run::Refusal;
-use crate::words;
 
 /// House matter: a cell list has fewer bytes than these before its empty line.
 pub const LIST_BYTES: usize = 4_096;
@@ -37,41 +36,22 @@ pub enum NoSheet {
     Frame(u64, Refusal),
 }
 
-impl NoSheet {
-    /// House matter: its name.
-    fn name(&self) -> &'static str {
-        match self {
-            NoSheet::Mode => "MODE",
-            NoSheet::Count => "COUNT",
-            NoSheet::LongList => "LONG LIST",
-            NoSheet::List => "LIST",
-            NoSheet::Short(_) => "SHORT",
-            NoSheet::Long(_) => "LONG",
-            NoSheet::Frame(..) => "FRAME",
-        }
-    }
-
-    /// House matter: the same in words; of an L1 frame those of its cause.
-    pub fn words(&self) -> String {
-        match self {
-            NoSheet::Frame(_, refusal) => words::of_cause(refusal.number).to_owned(),
-            _ => words::of_sheet(self.name()),
-        }
-    }
-}
-
 impl fmt::Display for NoSheet {
     /// House matter: the one line that is printed in the place of a sheet.
     fn fmt(&self, f: &mut fmt::Formatter) -> fmt::Result {
-        write!(f, "NO SHEET {}", self.name())?;
+        write!(f, "NO SHEET ")?;
         match self {
-            NoSheet::Short(bytes) | NoSheet::Long(bytes) => write!(f, " {bytes}"),
+            NoSheet::Mode => write!(f, "MODE"),
+            NoSheet::Count => write!(f, "COUNT"),
+            NoSheet::LongList => write!(f, "LONG LIST"),
+            NoSheet::List => write!(f, "LIST"),
+            NoSheet::Short(bytes) => write!(f, "SHORT {bytes}"),
+            NoSheet::Long(bytes) => write!(f, "LONG {bytes}"),
             NoSheet::Frame(frame, refusal) => write!(
                 f,
-                " {frame} NUMBER {} PLACE {}",
+                "FRAME {frame} NUMBER {} PLACE {}",
                 refusal.number, refusal.place
             ),
-            _ => Ok(()),
         }
     }
 }

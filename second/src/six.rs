@@ -128,19 +128,19 @@ pub fn cells(state: State, channel: u64) -> Result<Vec<Content>, Refusal> {
     Ok(followed(row, state.half, state.age))
 }
 
-/// One cell of them, by block pair, row and column.
-pub fn at(cells: &[Content], [pair, row, column]: [usize; 3]) -> Result<Content, Refusal> {
+/// One cell of them.
+pub fn find_px(
+    state: State,
+    channel: u64,
+    [pair, row, column]: [usize; 3],
+) -> Result<Content, Refusal> {
+    let cells = cells(state, channel)?;
     let width = cells.len() / 512;
     let out = [pair > 7, row > 63, column >= width];
     match out.into_iter().position(|out| out) {
         Some(place) => Err(out_of_range(1 + place)),
         None => Ok(cells[(64 * pair + row) * width + column]),
     }
-}
-
-/// What stands in a cell of PX1 or PX2 of the L1 frame that a state comes before.
-pub fn find_px(state: State, channel: u64, place: [usize; 3]) -> Result<Content, Refusal> {
-    at(&cells(state, channel)?, place)
 }
 
 /// Of a coded bit of P3 (channel 3), P4 (4) or P1' (6) of the L1 frame that a state comes before: how many L1 frames later it is sent, and its

@@ -17,9 +17,3 @@ pub fn of_cause(number: u32) -> &'static str {
         .or_else(|| row(&cause, "any"))
         .unwrap_or("no such cause")
 }
-
-/// House matter: why there is no sheet: the words of the row of this name, without the place.
-pub fn of_sheet(name: &str) -> String {
-    let words = row(&format!("NO SHEET {name}"), "sheet");
-    words.unwrap_or("no such cause").replace("{place} ", "")
-}

@@ -8,7 +8,7 @@
 mod raw;
 
 /// The number of the interface that this crate is written for: the header's `LAYER1_VERSION`.
-pub const VERSION: u32 = 4;
+pub const VERSION: u32 = 3;
 
 /// The number of the interface that the archive has. Where it is not `VERSION`, the two do not belong together.
 pub fn version() -> u32 {

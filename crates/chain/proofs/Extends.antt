@@ -18,7 +18,7 @@ use Rattle.runs.specs.Chain.{Buffer, coded_of, mem_of, px_of}
 use Rattle.runs.specs.Lengths.{frame_len, matrix_len, sender_len, table_row}
 use Rattle.runs.specs.Lent.{or_zeros}
 use Rattle.runs.proofs.Bridge.{frame-bits, matrix-bytes, mem-from, px-from, used-buffers}
-use Rattle.chain.specs.Rooms.{Meant, Room}
+use Rattle.chain.specs.Rooms.{Meant, PxRoom}
 use Rattle.chain.proofs.Parts.{nothing}
 
 -- ---- scrambled frames or zeros
@@ -42,7 +42,7 @@ matrix-twice Unused = refl
 matrix-twice Narrow = refl
 matrix-twice Wide = refl
 
-module _ (k : Kind) (frames px coded : Buffer) (room : Room k frames px coded) where
+module _ (k : Kind) (frames px coded : Buffer) (room : PxRoom k frames px coded) where
   long : length coded ≡ matrix_len k
   long = ap length room.blank ∙ length-replicate {A = ℕ} (matrix_len k) 0
 
@@ -88,7 +88,7 @@ module _ (k : Kind) (frames px coded : Buffer) (room : Room k frames px coded) w
 
 -- room of the right sizes
 pub room_of : (k : Kind) (frames px : Buffer) (m : ℕ) → table_row k < 2 → m ≡ matrix_len k → length (or_zeros (frame_len k) frames) ≡ frame_len k
-    → length px ≡ matrix_len k → Room k frames px (replicate m 0)
+    → length px ≡ matrix_len k → PxRoom k frames px (replicate m 0)
 room_of k frames px m u c p l = record { used = u; plain = p; long = l; blank = ap (λ (x : ℕ). replicate {A = ℕ} x 0) c }
 
 -- a channel that the mode does not use

@@ -8,8 +8,15 @@ use Rattle.runs.specs.Lent.{or_zeros}
 abbrev pub Meant : (frames scrambled : List ℕ) → Type 0
 Meant frames scrambled = length (or_zeros (length scrambled) frames) ≡ length scrambled
 
--- the eight frames of a channel that a mode uses, or nothing; the channel's matrices, in whose first bytes they are scrambled; room for their coded bits, zeros
-pub record Room (kind : Kind) (frames px coded : List ℕ) : Type 0 where
+-- the eight frames of a channel that a mode uses, or nothing; room for them scrambled, and for their coded bits, which are zeros
+pub record Room (kind : Kind) (frames scrambled coded : List ℕ) : Type 0 where
+  pub used : table_row kind < 2
+  pub plain : length (or_zeros (frame_len kind) frames) ≡ frame_len kind
+  pub between : length scrambled ≡ frame_len kind
+  pub blank : coded ≡ replicate (matrix_len kind) 0
+
+-- the same where the channel's matrices are lent in place of that room: the frames are scrambled in their first bytes
+pub record PxRoom (kind : Kind) (frames px coded : List ℕ) : Type 0 where
   pub used : table_row kind < 2
   pub plain : length (or_zeros (frame_len kind) frames) ≡ frame_len kind
   pub long : length px ≡ matrix_len kind

@@ -13,7 +13,7 @@ ghost use Rattle.runs.specs.Chain.{mem_of, pm_of, px_of};
 ghost use Rattle.runs.specs.Paths.{oldest, p1'_of, scrambled_of, waiting};
 ghost use Rattle.runs.specs.Lengths.{frame_len, matrix_len, sender_len};
 ghost use Rattle.runs.specs.Lent.{or_zeros};
-ghost use Rattle.chain.specs.Rooms.{Meant, Room, Split};
+ghost use Rattle.chain.specs.Rooms.{Meant, PxRoom, Split};
 
 use coding::Rate;
 use modes::{matrix_len, table_row};
@@ -112,7 +112,7 @@ fn interleave_px(
     px: &mut [u8],
     memory: &mut [u8],
 )
-    requires { (half < 2) × Room kind frames.now px.old coded.old × (length memory.old ≡ sender_len kind) }
+    requires { (half < 2) × PxRoom kind frames.now px.old coded.old × (length memory.old ≡ sender_len kind) }
     ensures { (px.new ≡ px_of kind half memory.old (or_zeros (frame_len kind) frames.now)) × (memory.new ≡ mem_of kind half memory.old (or_zeros (frame_len kind) frames.now)) }
 {
     let n = coded.len() / 2;

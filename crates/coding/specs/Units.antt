@@ -24,6 +24,14 @@ masks_of Half = 0o332 ∷ 0o256 ∷ 0o155 ∷ 0o127 ∷ 0o1544 ∷ 0o331 ∷ []
 unfoldable pub masked : Rate → ℕ → ℕ → ℕ
 masked rate w k = ones (bit_and w (get_or (masks_of rate) k 0)) % 2
 
+-- the coded bits of two bits of a frame
+unfoldable pub group_of : Rate → ℕ → ℕ
+group_of rate w = number (group_size rate) (masked rate w)
+
+-- a table of them for each window
+abbrev pub Groups : Rate → List ℕ → Type 0
+Groups rate table = (w : ℕ) → w < 256 → get_or table w 0 ≡ group_of rate w
+
 -- coded bit i of a unit, where x is the byte before it and its two bytes
 unfoldable pub unit_coded : Rate → ℕ → ℕ → ℕ
 unit_coded rate x i = masked rate (x / 2 ^ (14 - 2 * (i / group_size rate)) % 256) (i % group_size rate)

@@ -30,6 +30,7 @@ use Rattle.comparing.specs.Waiting.{SameUnsent, Unsent}
 use Rattle.comparing.specs.Same.{Same}
 use Rattle.comparing.proofs.Same.{waiting-unsent}
 use Rattle.comparing.proofs.LastBits.{bit-low, coded-early, late, p3, px-equal, there}
+use Rattle.runs.proofs.Cases.{each_extended}
 
 nothing : ℕ → Buffer
 nothing n = packed n (λ i. 0)
@@ -45,12 +46,12 @@ sending-fits x h =
       p1-right = length-packed _ _;
       pids-right = length-packed _ _;
       p2-right = refl;
-      extended-right = λ e. elim e [ P3 ↦ length-packed _ _ | P4 ↦ refl ];
+      extended-right = each_extended _ (length-packed _ _) refl;
       bytes = record {
         p1-bytes = packed-bytes _ _ (λ i _. omega arith);
         pids-bytes = packed-bytes _ _ (λ i _. omega arith);
         p2-bytes = λ j. omega arith;
-        extended-bytes = λ e. elim e [ P3 ↦ packed-bytes _ _ (λ i _. bit-low x h i) | P4 ↦ λ j. omega arith ];
+        extended-bytes = each_extended _ (packed-bytes _ _ (λ i _. bit-low x h i)) (λ j. omega arith);
       };
     }
 

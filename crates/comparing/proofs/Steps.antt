@@ -18,6 +18,7 @@ use Rattle.runs.proofs.Fixed.{matrix-of, memory-of}
 use Rattle.comparing.specs.Waiting.{SameWaiting, SameMemory}
 use Rattle.comparing.proofs.Waiting.{mem-same, px-same, shown-same}
 use Rattle.comparing.proofs.Delay.{delay-shown}
+use Rattle.runs.proofs.Cases.{each_extended}
 
 -- ---- one L1 frame
 
@@ -41,10 +42,7 @@ module _ (mode half : ℕ) (lh : half < 2) (m m' : Memory) (f : Frames) where
   unfolding memory_next
   next-same w =
       record {
-        extended = λ e. elim e [
-          | P3 ↦ mem-same (kind_of mode P3) half lh m.for3 m'.for3 (w.extended P3) f.p3
-          | P4 ↦ mem-same (kind_of mode P4) half lh m.for4 m'.for4 (w.extended P4) f.p4
-        ];
+        extended = each_extended _ (mem-same (kind_of mode P3) half lh m.for3 m'.for3 (w.extended P3) f.p3) (mem-same (kind_of mode P4) half lh m.for4 m'.for4 (w.extended P4) f.p4);
         delay = ap (λ (x : Buffer). waiting (main_of mode) x (scrambled_of (main_of mode) f.p1)) w.delay;
       }
 

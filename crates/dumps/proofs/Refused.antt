@@ -28,7 +28,7 @@ use Rattle.runs.specs.Starting.{Started, start, zeros}
 use Rattle.runs.proofs.Lists.{cons-both}
 use Rattle.runs.proofs.Readable.{start-clear}
 use Rattle.runs.proofs.TableStates.{covered-is, covered_of}
-use Rattle.runs.proofs.TableReading.{read_answer}
+use Rattle.runs.proofs.TableReading.{read_step-answer}
 use Rattle.layout.specs.Layout.{bytes_of, frame_bytes, header, mark, signal_in, word}
 use Rattle.layout.specs.Heads.{head_answer}
 use Rattle.layout.proofs.Laid.{Sized, bytes-length, signal-back, sized_of}
@@ -60,9 +60,9 @@ next-answer mode s m x l left em g = (
   omega (arith, length-append (bytes_of x) left, bytes-length mode x right),
   ap (λ (b : List ℕ). (read_step s m (handing mode (signal_in mode b))).answer) (take_at (bytes_of x) left (frame_bytes mode) (bytes-length mode x right))
       ∙ ap (λ (y : Signal). (read_step s m (handing mode y)).answer) (signal-back mode x right ∙ sym g.same)
-      ∙ read_answer s m (handing mode l.signal)
+      ∙ read_step-answer s m (handing mode l.signal)
       ∙ sym (by-sizes s m l mode sizes)
-      ∙ sym (read_answer s m l),
+      ∙ sym (read_step-answer s m l),
 )
   where
     right : Sized mode x

@@ -38,6 +38,7 @@ use Rattle.idealsheets.specs.Ideal.{Sent}
 use Rattle.idealsheets.proofs.Sequence.{bytes_drop, bytes_take, frames-bytes}
 use Rattle.sheetinputs.proofs.Older.{older-covered}
 use Rattle.sheetturns.proofs.Turning.{cut-length}
+use Rattle.runs.proofs.Cases.{each_extended}
 
 abbrev OkCall : Call → Type 0
 OkCall c = number_of c.result.answer ≡ 0
@@ -62,10 +63,7 @@ module _ (mode n3 n4 : ℕ) (c3 : Carried mode P3 n3) (c4 : Carried mode P4 n4) 
         p1-right = cut-length 1 p1 bytes (omega arith);
         pids-right = cut-length (1 + p1) pids_len bytes (omega arith);
         p2-right = cut-length (1 + p1 + pids_len) p2 bytes (omega arith);
-        extended-right = λ e. elim e [
-          | P3 ↦ meant-length mode P3 n3 (cut (1 + p1 + pids_len + p2) n3 bytes) c3 (cut-length (1 + p1 + pids_len + p2) n3 bytes (omega arith))
-          | P4 ↦ meant-length mode P4 n4 (cut (1 + p1 + pids_len + p2 + n3) n4 bytes) c4 (cut-length (1 + p1 + pids_len + p2 + n3) n4 bytes (omega arith))
-        ];
+        extended-right = each_extended _ (meant-length mode P3 n3 (cut (1 + p1 + pids_len + p2) n3 bytes) c3 (cut-length (1 + p1 + pids_len + p2) n3 bytes (omega arith))) (meant-length mode P4 n4 (cut (1 + p1 + pids_len + p2 + n3) n4 bytes) c4 (cut-length (1 + p1 + pids_len + p2 + n3) n4 bytes (omega arith)));
         bytes = filled-bytes mode (frames_in mode n3 n4 bytes) (frames-bytes mode n3 n4 bytes small);
       }
 

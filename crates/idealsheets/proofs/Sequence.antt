@@ -21,6 +21,7 @@ use Rattle.layout.specs.Layout.{cut}
 use Rattle.sheetinputs.specs.Inputs.{frame_size}
 use Rattle.sheetinputs.specs.Run.{lents}
 use Rattle.idealsheets.specs.Ideal.{frames_at}
+use Rattle.runs.proofs.Cases.{each_extended}
 
 -- ---- bytes
 
@@ -45,7 +46,7 @@ frames-bytes mode n3 n4 l h =
       p1-bytes = bytes_cut 1 p1 l h;
       pids-bytes = bytes_cut (1 + p1) pids_len l h;
       p2-bytes = bytes_cut (1 + p1 + pids_len) p2 l h;
-      extended-bytes = λ e. elim e [ P3 ↦ bytes_cut (1 + p1 + pids_len + p2) n3 l h | P4 ↦ bytes_cut (1 + p1 + pids_len + p2 + n3) n4 l h ];
+      extended-bytes = each_extended _ (bytes_cut (1 + p1 + pids_len + p2) n3 l h) (bytes_cut (1 + p1 + pids_len + p2 + n3) n4 l h);
     }
 
 pub lents-bytes : (mode n3 n4 n : ℕ) (bytes : List ℕ) → Bytes bytes → Every (λ (l : Lent). ByteFrames l.frames) (lents mode n3 n4 n bytes)

@@ -40,18 +40,16 @@ use Rattle.locating.specs.Locator.{located}
 use Rattle.locating.specs.LocatorPX.{located_px}
 use Rattle.locating.specs.Sheets.{LocatedSheet}
 use Rattle.locating.proofs.Sheets.{located-sheets}
-use Rattle.sheetlines.specs.Entries.{entry_of, in_pm, of_pm, pm_placed, turn_of}
-use Rattle.sheetlines.specs.Older.{bit_entry, older_of, pm_entry, px_entry, px_placed}
+use Rattle.sheetlines.specs.Entries.{bit_entry, entry_of, in_pm, pm_entry, pm_placed, px_entry, px_placed, turn_of}
 use Rattle.sheetlines.specs.declared.questions.Question.{Question}
 use Rattle.sheetlines.specs.declared.questions.Question.TheVariants.{Bit, Pm, Px, Wrong}
 use Rattle.sheetlines.specs.declared.entries.Entry.{Entry}
 use Rattle.sheetlines.specs.declared.entries.Entry.TheVariants.{Refused}
 use Rattle.sheetlines.proofs.Ranges.{by-channel}
-use Rattle.sheetlines.proofs.Older.{as-older}
 use Rattle.sheettext.specs.Texts.{value_in}
 use Rattle.sheetinputs.specs.Inputs.{older}
 use Rattle.idealsheets.specs.Ideal.{bit_of, coded_bit}
-use Rattle.sheetinputs.proofs.Older.{older-cases, older-covered, older-main}
+use Rattle.sheetinputs.proofs.Older.{older-cases, older-main}
 
 p3-is : (mode : ℕ) → older mode ≡ true → kind_of mode P3 ≡ kind_of_number mode 3
 unfolding kind_of kind_of_number
@@ -128,14 +126,14 @@ module _ (mode : ℕ) (o : older mode ≡ true) (a : SenderRun mode) (t : ℕ) (
       v ∙ ap (λ (f : Frames). channel TwoFifths 80 (bit_at f.pids) i) (agree t (omega arith)) ∙ ap (λ (k : ℕ). channel TwoFifths 80 (bit_at (F k).pids) i) (sym e)
 
   pm-found : (u row column : ℕ) (f : Found) → found row column ≡ f → Right (pm_entry u row column f)
-  unfolding value_in of_pm coded_bit bit_of turn_of
+  unfolding value_in coded_bit bit_of turn_of
   pm-found u row column (found-p1 bit) e q = p1-is u (row * 720 + column) bit (sent-here u q) (S.p1-cell row column bit e)
   pm-found u row column (found-pids frame bit) e q =
       pids-is u (row * 720 + column) (frame * 200 + bit) (sent-here u q) (S.pids-cell row column frame bit e)
   pm-found u row column (pm-refused r) e q = refl
 
   pm-located : (u c frame bit : ℕ) (l : Located) → located c frame bit ≡ l → Right (pm_placed u c frame bit l)
-  unfolding value_in of_pm coded_bit bit_of turn_of
+  unfolding value_in coded_bit bit_of turn_of
   pm-located u c frame bit (At p row column) e q =
       by-channel (λ (k f : ℕ). value_in X (in_pm u k f bit row column) ≡ coded_bit mode F (in_pm u k f bit row column)) bit row column p
       (λ d. p1-is u (row * 720 + column) bit (sent-here u q) (L.p1-bit bit row column p d))
@@ -170,25 +168,25 @@ module _ (mode : ℕ) (o : older mode ≡ true) (a : SenderRun mode) (t : ℕ) (
 
   -- in PX1, and in PX2
   px1-found : (u pair row column : ℕ) (f : FoundPx) → found_px (state_at mode 0 u) 3 pair row column ≡ f → Right (px_entry mode 3 u pair row column f)
-  unfolding value_in of_pm coded_bit bit_of turn_of
+  unfolding value_in coded_bit bit_of turn_of
   px1-found u pair row column (Coded k frame bit) e q = coded-found P3 u pair row column k frame bit (sent-here u q) e
   px1-found u pair row column found-fill e q = refl
   px1-found u pair row column (px-refused r) e q = refl
 
   px2-found : (u pair row column : ℕ) (f : FoundPx) → found_px (state_at mode 0 u) 4 pair row column ≡ f → Right (px_entry mode 4 u pair row column f)
-  unfolding value_in of_pm coded_bit bit_of turn_of
+  unfolding value_in coded_bit bit_of turn_of
   px2-found u pair row column (Coded k frame bit) e q =
       ap (λ (b : List ℕ). bit_at b (cell_of (kind_of_number mode 4) pair row column)) (sym (px2-is mode o a t h)) ∙ coded-found P4 u pair row column k frame bit (sent-here u q) e
   px2-found u pair row column found-fill e q = refl
   px2-found u pair row column (px-refused r) e q = refl
 
   px1-located : (u frame bit : ℕ) (l : LocatedPx) → located_px (state_at mode 0 u) 3 frame bit ≡ l → Right (px_placed mode 3 u frame bit l)
-  unfolding value_in of_pm coded_bit bit_of turn_of
+  unfolding value_in coded_bit bit_of turn_of
   px1-located u frame bit (AtPX later pair row column) e q = coded-located P3 u frame bit later pair row column (sent-here (u + later) q) e
   px1-located u frame bit (not-located-px r) e q = refl
 
   px2-located : (u frame bit : ℕ) (l : LocatedPx) → located_px (state_at mode 0 u) 4 frame bit ≡ l → Right (px_placed mode 4 u frame bit l)
-  unfolding value_in of_pm coded_bit bit_of turn_of
+  unfolding value_in coded_bit bit_of turn_of
   px2-located u frame bit (AtPX later pair row column) e q =
       ap (λ (b : List ℕ). bit_at b (cell_of (kind_of_number mode 4) pair row column)) (sym (px2-is mode o a t h))
       ∙ coded-located P4 u frame bit later pair row column (sent-here (u + later) q) e
@@ -238,13 +236,9 @@ module _ (mode : ℕ) (o : older mode ≡ true) (a : SenderRun mode) (t : ℕ) (
   if-sent true e r = r
   if-sent false e r = refused-right
 
-  asked-older : (q : Question) → Right (older_of mode n q)
-  unfolding older_of
-  asked-older (Pm u row column) = if-sent (ltb u n) (pm_entry u row column (found row column)) (pm-found u row column (found row column) refl)
-  asked-older (Px u c pair row column) =
-      if-sent (ltb u n) (px_entry mode c u pair row column (found_px (state_at mode 0 u) c pair row column)) (px-found u c pair row column)
-  asked-older (Bit u c frame bit) = if-sent (ltb u n) (bit_entry mode c u frame bit) (bit-right c u frame bit)
-  asked-older Wrong = refused-right
-
   pub asked-value : (q : Question) → Right (entry_of mode n q)
-  asked-value q = subst Right (sym (as-older mode (older-covered mode o) (older-main mode o) n q)) (asked-older q)
+  unfolding entry_of
+  asked-value (Pm u row column) = if-sent (ltb u n) (pm_entry u row column (found row column)) (pm-found u row column (found row column) refl)
+  asked-value (Px u c pair row column) = if-sent (ltb u n) (px_entry mode c u pair row column (found_px (state_at mode 0 u) c pair row column)) (px-found u c pair row column)
+  asked-value (Bit u c frame bit) = if-sent (ltb u n) (bit_entry mode c u frame bit) (bit-right c u frame bit)
+  asked-value Wrong = refused-right

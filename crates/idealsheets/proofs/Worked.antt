@@ -36,15 +36,13 @@ use Rattle.locating.specs.Locator.{located}
 use Rattle.locating.specs.LocatorPX.{located_px}
 use Rattle.locating.proofs.AgainPM.{both_ways}
 use Rattle.locating.proofs.AgainPX.{both-ways-px}
-use Rattle.sheetlines.specs.Entries.{entry_of, in_pm, of_pm, pm_placed}
-use Rattle.sheetlines.specs.Older.{bit_entry, older_of, pm_entry, px_entry, px_placed}
+use Rattle.sheetlines.specs.Entries.{bit_entry, entry_of, in_pm, pm_entry, pm_placed, px_entry, px_placed}
 use Rattle.sheetlines.specs.declared.questions.Question.{Question}
 use Rattle.sheetlines.specs.declared.questions.Question.TheVariants.{Bit, Pm, Px, Wrong}
 use Rattle.sheetlines.specs.declared.entries.CodedBit.{CodedBit}
 use Rattle.sheetlines.specs.declared.entries.Entry.{Entry}
-use Rattle.sheetlines.specs.declared.entries.Entry.TheVariants.{Stands, Fill, Zeros, Refused}
+use Rattle.sheetlines.specs.declared.entries.Entry.TheVariants.{Stands, Fill, Refused}
 use Rattle.sheetlines.proofs.Ranges.{by-channel, p1-in-range, pids-in-range}
-use Rattle.sheetlines.proofs.Older.{as-older}
 use Rattle.sheettext.specs.Texts.{value_in}
 use Rattle.sheetinputs.specs.Inputs.{older}
 use Rattle.sheetinputs.proofs.Older.{older-covered, older-main}
@@ -95,19 +93,18 @@ module _ (mode : ℕ) (o : older mode ≡ true) (a : SenderRun mode) (t : ℕ) (
   abbrev pub Comes : Entry → Type 0
   Comes (Stands coded cell) = cell.sent ≡ t → SumsTo (value_in X (Stands coded cell)) (working_in coded)
   Comes (Fill sent) = Unit {0}
-  Comes (Zeros sent) = Unit {0}
   Comes Refused = Unit {0}
 
   -- ---- PM
 
   p1-sums : (bit row column : ℕ) (p : Position) → located 1 0 bit ≡ At p row column → Comes (in_pm t 1 0 bit row column)
-  unfolding value_in of_pm channel_in filled
+  unfolding value_in channel_in filled
   p1-sums bit row column p e q =
       let c = (worked-sheets mode (older-main mode o) a t h).p1-bit 0 bit row column p (omega arith) e in
       subst (λ (f : Frames). SumsTo (bit_at X.pm (row * 720 + column)) (worked (state_at mode 0 t) 1 f.p1 0 bit)) (agree t (omega arith)) (sums-to _ _ (state_at mode 0 t) 1 (frame_at mode a t).p1 0 bit c)
 
   pids-sums : (frame bit row column : ℕ) (p : Position) → located 2 frame bit ≡ At p row column → Comes (in_pm t 2 frame bit row column)
-  unfolding value_in of_pm channel_in filled
+  unfolding value_in channel_in filled
   pids-sums frame bit row column p e q =
       let c = (worked-sheets mode (older-main mode o) a t h).pids-bit 0 frame bit row column p (omega arith) e in
       subst (λ (f : Frames). SumsTo (bit_at X.pm (row * 720 + column)) (worked (state_at mode 0 t) 2 f.pids frame bit)) (agree t (omega arith)) (sums-to _ _ (state_at mode 0 t) 2 (frame_at mode a t).pids frame bit c)
@@ -161,25 +158,25 @@ module _ (mode : ℕ) (o : older mode ≡ true) (a : SenderRun mode) (t : ℕ) (
   in-px2 cell w s = subst (λ (b : List ℕ). SumsTo (bit_at b cell) w) (px2-is mode o a t h) s
 
   px1-found : (u pair row column : ℕ) (f : FoundPx) → found_px (state_at mode 0 u) 3 pair row column ≡ f → Comes (px_entry mode 3 u pair row column f)
-  unfolding value_in of_pm channel_in
+  unfolding value_in channel_in
   px1-found u pair row column (Coded k frame bit) e = λ q. px-back P3 u pair row column k frame bit q e
   px1-found u pair row column found-fill e = tt
   px1-found u pair row column (px-refused r) e = tt
 
   px2-found : (u pair row column : ℕ) (f : FoundPx) → found_px (state_at mode 0 u) 4 pair row column ≡ f → Comes (px_entry mode 4 u pair row column f)
-  unfolding value_in of_pm channel_in
+  unfolding value_in channel_in
   px2-found u pair row column (Coded k frame bit) e = λ q.
       in-px2 _ (worked (state_at mode 0 (u - k)) 4 (G (u - k)).p4 frame bit) (px-back P4 u pair row column k frame bit q e)
   px2-found u pair row column found-fill e = tt
   px2-found u pair row column (px-refused r) e = tt
 
   px1-located : (u frame bit : ℕ) (l : LocatedPx) → located_px (state_at mode 0 u) 3 frame bit ≡ l → Comes (px_placed mode 3 u frame bit l)
-  unfolding value_in of_pm channel_in
+  unfolding value_in channel_in
   px1-located u frame bit (AtPX later pair row column) e = λ q. px-sums P3 u later frame bit pair row column q e
   px1-located u frame bit (not-located-px r) e = tt
 
   px2-located : (u frame bit : ℕ) (l : LocatedPx) → located_px (state_at mode 0 u) 4 frame bit ≡ l → Comes (px_placed mode 4 u frame bit l)
-  unfolding value_in of_pm channel_in
+  unfolding value_in channel_in
   px2-located u frame bit (AtPX later pair row column) e = λ q.
       in-px2 _ (worked (state_at mode 0 u) 4 (G u).p4 frame bit) (px-sums P4 u later frame bit pair row column q e)
   px2-located u frame bit (not-located-px r) e = tt
@@ -228,13 +225,9 @@ module _ (mode : ℕ) (o : older mode ≡ true) (a : SenderRun mode) (t : ℕ) (
   if-sent true e r = r
   if-sent false e r = tt
 
-  comes-older : (n : ℕ) (q : Question) → Comes (older_of mode n q)
-  unfolding older_of
-  comes-older n (Pm u row column) = if-sent (ltb u n) (pm_entry u row column (found row column)) (pm-found u row column (found row column) refl)
-  comes-older n (Px u c pair row column) =
-      if-sent (ltb u n) (px_entry mode c u pair row column (found_px (state_at mode 0 u) c pair row column)) (px-found u c pair row column)
-  comes-older n (Bit u c frame bit) = if-sent (ltb u n) (bit_entry mode c u frame bit) (bit-comes c u frame bit)
-  comes-older n Wrong = tt
-
   pub asked-comes : (n : ℕ) (q : Question) → Comes (entry_of mode n q)
-  asked-comes n q = subst Comes (sym (as-older mode (older-covered mode o) (older-main mode o) n q)) (comes-older n q)
+  unfolding entry_of
+  asked-comes n (Pm u row column) = if-sent (ltb u n) (pm_entry u row column (found row column)) (pm-found u row column (found row column) refl)
+  asked-comes n (Px u c pair row column) = if-sent (ltb u n) (px_entry mode c u pair row column (found_px (state_at mode 0 u) c pair row column)) (px-found u c pair row column)
+  asked-comes n (Bit u c frame bit) = if-sent (ltb u n) (bit_entry mode c u frame bit) (bit-comes c u frame bit)
+  asked-comes n Wrong = tt

@@ -16,7 +16,7 @@ use Rattle.layout.specs.Inputs.{frames_in}
 use Rattle.text.specs.Lines.{lines}
 use Rattle.sheetlines.specs.declared.entries.CodedBit.{CodedBit}
 use Rattle.sheetlines.specs.declared.entries.Entry.{Entry}
-use Rattle.sheetlines.specs.declared.entries.Entry.TheVariants.{Stands, Fill, Zeros, Refused}
+use Rattle.sheetlines.specs.declared.entries.Entry.TheVariants.{Stands, Fill, Refused}
 use Rattle.sheettext.specs.Texts.{ending, head}
 use Rattle.workings.specs.declared.Worked.{Worked}
 use Rattle.sheetworks.specs.Works.{work_text}
@@ -44,7 +44,6 @@ bit_of mode F coded =
 unfoldable pub coded_bit : (mode : ℕ) (F : ℕ → Frames) → Entry → ℕ
 coded_bit mode F (Stands coded cell) = bit_of mode F coded
 coded_bit mode F (Fill sent) = 0
-coded_bit mode F (Zeros sent) = 0
 coded_bit mode F Refused = 0
 
 -- the answers of n L1 frames from number t on

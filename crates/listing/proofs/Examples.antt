@@ -1,7 +1,9 @@
 -- The definitions' worked examples: a number, the lines of an input, and refused lines. Assumes nothing.
-use mathlib.Core.Path.{◌≡◌, refl}
+use mathlib.Core.Path.{◌≡◌, refl, sym}
+use Rattle.std.proofs.Common.{lit<, lit≤}
+use Rattle.text.proofs.Spelling.{fewest-decimal}
 use mathlib.Core.List.{[], ◌∷◌}
-use Rattle.text.specs.Numbers.{is_digit, digits_alone, is_number, value, spelled, decimal}
+use Rattle.text.specs.Numbers.{is_digit, digits_alone, is_number, value, decimal}
 use Rattle.text.specs.Lines.{after, before, joined, lines}
 use Rattle.text.specs.Letters.{ascii}
 use Rattle.text.specs.Refused.{refused}
@@ -9,8 +11,7 @@ use Rattle.listing.specs.Printed.{printed}
 
 -- 365439 in decimal, and back
 last_bit : decimal 365439 ≡ ascii "365439"
-unfolding decimal spelled
-last_bit = refl
+last_bit = sym (fewest-decimal 6 365439 (lit≤ tt, lit< tt, λ _. lit≤ tt))
 
 worth : value (ascii "0360") ≡ 360
 unfolding value

@@ -82,21 +82,19 @@ fn run(mode: u8) {
     programs::write_out(&out[..end]);
 }
 
-// Answers in a mode that is covered.
+// Answers in a mode that has a finder.
 fn run_in(mode: u64, line: &[u8]) {
     match mode {
         1 => run(1),
         2 => run(2),
         3 => run(3),
-        5 => run(5),
-        6 => run(6),
         11 => run(11),
         _ => programs::usage(line),
     }
 }
 
 fn main() {
-    let line = b"owners MODE (1, 2, 3, 5, 6 or 11)";
+    let line = b"owners MODE (1, 2, 3 or 11)";
     let mut words = io::buffer();
     let n = programs::read_words(&mut words);
     if programs::gives_help(line, &words[..n]) {

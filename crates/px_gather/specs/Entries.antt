@@ -4,7 +4,8 @@ use Rattle.std.specs.Prelude.{◌≡◌, List, ℕ, ◌+◌, ◌-◌, ◌*◌, �
 use Rattle.interleaving.specs.Matrix.{cell}
 use Rattle.interleaving.specs.EquationsIV as IV
 use Rattle.interleaving.specs.InverseIV.{missed}
-use Rattle.interleaving.specs.PX.{partitions, runs, order, later}
+use Rattle.interleaving.specs.PX.{partitions, runs, order, coded_bits, later}
+use Rattle.interleaving.specs.FinderPX.{source}
 
 -- 10.2.6.2 to 10.2.6.4: the cell of the entry n of the partition p
 unfoldable pub entry : (kind p n : ℕ) → ℕ
@@ -34,3 +35,7 @@ Counts kind counts = (u : ℕ) → u < 8 → get_or counts u 0 ≡ count_of kind
 -- where the eight bits of the byte g of the first turn stand in an L1 frame's matrix and the two that follow; those of a later turn stand as many blocks on
 abbrev pub Delays : (kind g : ℕ) → List ℕ → Type 0
 Delays kind g delays = (u : ℕ) → u < 8 → get_or delays u 0 ≡ later kind 0 (8 * g + u)
+
+-- the coded bits that the eight places of the byte g of the first block take
+abbrev pub Origins : (kind g : ℕ) → List ℕ → Type 0
+Origins kind g origins = (u : ℕ) → u < 8 → get_or origins u 0 ≡ source kind (8 * g + u) % coded_bits kind

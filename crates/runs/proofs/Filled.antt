@@ -10,6 +10,7 @@ use Rattle.runs.specs.Lengths.{kind_of, frame_len}
 use Rattle.runs.specs.Chain.{Buffer}
 use Rattle.runs.specs.Lent.{Frames, Lent, ByteFrames, or_zeros, filled, meant}
 use Rattle.runs.specs.Runs.{Fitting}
+use Rattle.runs.proofs.Cases.{each_extended}
 
 zeros-at : (n j : ℕ) → ◌≡◌ {A = ℕ} (get_or (replicate n 0) j 0) 0
 zeros-at zero j = refl
@@ -27,10 +28,7 @@ filled-bytes mode f h =
       p1-bytes = h.p1-bytes;
       pids-bytes = h.pids-bytes;
       p2-bytes = h.p2-bytes;
-      extended-bytes = λ e. elim e [
-        | P3 ↦ or-zeros-bytes _ f.p3 (h.extended-bytes P3)
-        | P4 ↦ or-zeros-bytes _ f.p4 (h.extended-bytes P4)
-      ];
+      extended-bytes = each_extended _ (or-zeros-bytes _ f.p3 (h.extended-bytes P3)) (or-zeros-bytes _ f.p4 (h.extended-bytes P4));
     }
 
 pub or-zeros-none : (n : ℕ) (b : Buffer) → length b ≡ 0 → or_zeros n b ≡ replicate n 0

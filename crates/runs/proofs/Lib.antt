@@ -1,3 +1,4 @@
+pub mod Cases
 pub mod Rows
 pub mod PX
 pub mod PM

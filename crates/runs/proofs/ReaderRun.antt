@@ -24,6 +24,7 @@ use Rattle.runs.proofs.Lists.{cons-both}
 use Rattle.runs.proofs.States.{next-at}
 use Rattle.runs.proofs.Memory.{read-refused, read_memory}
 use Rattle.runs.proofs.Reader.{read-given, read-gives}
+use Rattle.runs.proofs.Cases.{each_number}
 
 module _ (mode : ℕ) (cov : covered mode ≡ true) (F : ℕ → Frames) (n : ℕ)
     (right : (t : ℕ) → t < n → Fitting mode (F t)) where
@@ -41,10 +42,7 @@ module _ (mode : ℕ) (cov : covered mode ≡ true) (F : ℕ → Frames) (n : �
   got-cons T k g gs r ih =
       record {
         as_many = ap suc ih.as_many;
-        each = λ i. elim i [
-          | zero ↦ λ h. rw (add-zero T) r
-          | suc j ↦ λ h. rw (add-suc T j, ← suc-add T j) (ih.each j (le_of_suc-le-suc h))
-        ];
+        each = each_number _ (λ h. rw (add-zero T) r) (λ j. λ h. rw (add-suc T j, ← suc-add T j) (ih.each j (le_of_suc-le-suc h)));
       }
 
   -- the number read is the one sent

@@ -32,6 +32,7 @@ use Rattle.runs.proofs.Filled.{filled-bytes}
 use Rattle.runs.proofs.Lists.{length-map, table_at, table-shift}
 use Rattle.runs.proofs.Passing.{wrong-head}
 use Rattle.runs.proofs.States.{defined-shift, defined-start, defined_from, fresh_at, memory-shift, memory_start, memory_from, next-at, start-ok, valid-at}
+use Rattle.runs.proofs.Cases.{each_extended, each_number}
 
 lent-right : (mode : ℕ) (l : Lent) (rest : List Size) → l.frames.reserved < 8 → ByteFrames l.frames → wrong 0 (lent_sizes mode l ++ rest) ≡ none → Fitting mode l.frames
 unfolding lent_sizes
@@ -41,7 +42,7 @@ lent-right mode l rest low bytes h =
     let (c, e₃) = wrong-head _ _ _ _ e₂ in
     let (d, e₄) = wrong-head _ _ _ _ e₃ in
     let (e, e₅) = wrong-head _ _ _ _ e₄ in
-    record { reserved-right = low; p1-right = a; pids-right = b; p2-right = c; extended-right = λ x. elim x [ P3 ↦ d | P4 ↦ e ]; bytes = bytes }
+    record { reserved-right = low; p1-right = a; pids-right = b; p2-right = c; extended-right = each_extended _ d e; bytes = bytes }
 
 pub record MemoryRight (len : Kind → ℕ) (mode : ℕ) (m : Memory) : Type 0 where
   pub extended : (e : Extended) → length (memory_of m e) ≡ len (kind_of mode e)
@@ -49,7 +50,7 @@ pub record MemoryRight (len : Kind → ℕ) (mode : ℕ) (m : Memory) : Type 0 w
 
 pub zeros-right : (len : Kind → ℕ) (mode : ℕ) → MemoryRight len mode (zeros len mode)
 zeros-right len mode =
-    record { extended = λ x. elim x [ P3 ↦ length-replicate _ 0 | P4 ↦ length-replicate _ 0 ]; delay = length-replicate _ 0 }
+    record { extended = each_extended _ (length-replicate _ 0) (length-replicate _ 0); delay = length-replicate _ 0 }
 
 abbrev pub frames_in : ℕ → List Call → List Frames
 frames_in mode ss = map (λ (c : Call). filled mode c.lent.frames) ss
@@ -81,12 +82,9 @@ unfolding table sent defined_from memory_from filled
 ran-cons mode z T m l ss right ih =
     record {
       signals = ap₂ (λ (x : Signal) (xs : List Signal). x ∷ xs) here (ih.signals ∙ rest);
-      rights = λ t. elim t [ zero ↦ λ h. right | suc k ↦ λ h. ih.rights k (le_of_suc-le-suc h) ];
-      states = λ t. elim t [
-        | zero ↦ λ h. next-at mode z l.frames.reserved T ∙ ap (λ (k : ℕ). state_at mode l.frames.reserved (suc k)) (sym (add-zero T))
-        | suc k ↦ λ h. ih.states k (le_of_suc-le-suc h) ∙ ap (λ (j : ℕ). state_at mode (F (suc k)).reserved (suc j)) (suc-add T k ∙ sym (add-suc T k))
-      ];
-      memories = λ t. elim t [ zero ↦ λ h. refl | suc k ↦ λ h. ih.memories k (le_of_suc-le-suc h) ∙ sym (memory-shift mode T m F k) ];
+      rights = each_number _ (λ h. right) (λ k. λ h. ih.rights k (le_of_suc-le-suc h));
+      states = each_number _ (λ h. next-at mode z l.frames.reserved T ∙ ap (λ (k : ℕ). state_at mode l.frames.reserved (suc k)) (sym (add-zero T))) (λ k. λ h. ih.states k (le_of_suc-le-suc h) ∙ ap (λ (j : ℕ). state_at mode (F (suc k)).reserved (suc j)) (suc-add T k ∙ sym (add-suc T k)));
+      memories = each_number _ (λ h. refl) (λ k. λ h. ih.memories k (le_of_suc-le-suc h) ∙ sym (memory-shift mode T m F k));
     }
   where
     F : ℕ → Frames
@@ -104,10 +102,7 @@ pub memory-right : (mode : ℕ) → covered mode ≡ true → (t : ℕ) (m : Mem
 unfolding memory_next
 memory-right mode cov t m f mr fr =
     record {
-      extended = λ x. elim x [
-        | P3 ↦ memory-length (kind_of mode P3) (t % 2) m.for3 f.p3
-        | P4 ↦ memory-length (kind_of mode P4) (t % 2) m.for4 f.p4
-      ];
+      extended = each_extended _ (memory-length (kind_of mode P3) (t % 2) m.for3 f.p3) (memory-length (kind_of mode P4) (t % 2) m.for4 f.p4);
       delay = waiting-length (main_of mode) m.delayed _ mr.delay (scrambled-length (main_of mode) f.p1);
     }
 
@@ -140,7 +135,7 @@ send-run mode cov [] s z hz T m right =
       signals = refl;
       rights = λ t h. absurd (not-suc-le-zero h);
       states = λ t h. absurd (not-suc-le-zero h);
-      memories = λ t. elim t [ zero ↦ λ h. refl | suc k ↦ λ h. absurd (not-suc-le-zero (le_of_suc-le-suc h)) ];
+      memories = each_number _ (λ h. refl) (λ k. λ h. absurd (not-suc-le-zero (le_of_suc-le-suc h)));
     }
 send-run mode cov (l ∷ ls) s z hz T m right =
     send-cases mode cov z hz T m l s.0

@@ -44,6 +44,7 @@ use Rattle.runs.proofs.Delay.{goes-frame, goes-zero}
 use Rattle.runs.proofs.TwoPaths.{delayed-path, s as s-of, s-fits, second_is}
 use Rattle.runs.proofs.Sender.{matrices-at}
 use Rattle.runs.proofs.Fixed.{matrix_in, matrix-of, memory-of, pm-at, px-at}
+use Rattle.runs.proofs.Cases.{each_extended}
 
 -- ---- an extended channel from a fresh start, L1 frame t bringing the frames A t
 
@@ -118,7 +119,7 @@ second-coded Mp6 a i h = scrambled-coded 9216 9216 (long 9216 (omega arith) refl
 module _ (mode : ℕ) (F : ℕ → Frames) (e : Extended) where
   pub memory-in : (t : ℕ) → memory_of (memory_before mode F t) e ≡ memories (kind_of mode e) 0 (replicate (sender_len (kind_of mode e)) 0) (λ i. frame_of (F i) e) t
   unfolding memory_before memories
-  memory-in zero = elim e [ P3 ↦ refl | P4 ↦ refl ]
+  memory-in zero = each_extended (λ e. memory_of (memory_before mode F 0) e ≡ memories (kind_of mode e) 0 (replicate (sender_len (kind_of mode e)) 0) (λ i. frame_of (F i) e) 0) refl refl e
   memory-in (suc t) = memory-of mode (t % 2) (memory_before mode F t) (F t) e ∙ rw (zero-add t, memory-in t)
 
   matrix-in : (t : ℕ) → matrix_in mode F e t ≡ shown (kind_of mode e) (λ i. frame_of (F i) e) t

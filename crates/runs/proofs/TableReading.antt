@@ -102,17 +102,17 @@ module _ (s : State) (m : Memory) (l : Lent) where
       (λ k w e. zero_one (ap number_of e)) (λ k w e. zero_one (ap number_of e)) (λ k w e. zero_one (ap number_of e)) (λ k w e. zero_one (ap number_of e)) Success h refl)
       (read-judged (valid s) refl)
 
-  pub read_answer : (read_step s m l).answer ≡ read_answer s m l
+  pub read_step-answer : (read_step s m l).answer ≡ read_answer s m l
   unfolding read_step received
-  read_answer = answer-out (λ (r : Result). r.answer) (read_answer s m l) (received s m l) _ refl refl
+  read_step-answer = answer-out (λ (r : Result). r.answer) (read_answer s m l) (received s m l) _ refl refl
 
   pub read_table : ReadTable s m l
   unfolding read_step
   read_table =
       record {
-        answers = subst (Follows (ReadMet s m l)) (sym read_answer) read-follows;
-        done = λ e. success-done (read_answer s m l) _ _ (sym read_answer ∙ e);
-        left = λ n. not-success (read_answer s m l) _ _ (λ e. n (read_answer ∙ e)) ∙ ap (refused s m (unnumbered l)) (sym read_answer);
+        answers = subst (Follows (ReadMet s m l)) (sym read_step-answer) read-follows;
+        done = λ e. success-done (read_answer s m l) _ _ (sym read_step-answer ∙ e);
+        left = λ n. not-success (read_answer s m l) _ _ (λ e. n (read_step-answer ∙ e)) ∙ ap (refused s m (unnumbered l)) (sym read_step-answer);
       }
 
 pub tables : Tables

@@ -128,6 +128,7 @@ memory-decides len mode m = decides-both to from (wrong-decides (memory_sizes le
     to k (here n) = for-p3 n
     to k (there (here n)) = for-p4 n
     to k (there (there (here n))) = delay n
+    to _ (there (there (there {i = i} x15))) = elim x15 [ ]
 
     from : (k : ℕ) → MemoryWrong len mode m k → WrongAt (memory_sizes len mode m) k
     from k (for-p3 n) = here n
@@ -170,6 +171,7 @@ module _ (Right : ℕ → ℕ → Type 0) (len : Kind → ℕ) (mode : ℕ) (m :
       to k (there (there (there (there (there (there (there (there (there (here n)))))))))) = memory 0 (for-p3 n)
       to k (there (there (there (there (there (there (there (there (there (there (here n))))))))))) = memory 1 (for-p4 n)
       to k (there (there (there (there (there (there (there (there (there (there (there (here n)))))))))))) = memory 2 (delay n)
+      to _ (there (there (there (there (there (there (there (there (there (there (there (there {i = i} x60)))))))))))) = elim x60 [ ]
 
       held : (k : ℕ) → MemoryWrong len mode m k → WrongAt sizes (9 + k)
       held k (for-p3 n) = there (there (there (there (there (there (there (there (there (here n)))))))))

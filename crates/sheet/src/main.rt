@@ -1,9 +1,19 @@
 // sheet MODE COUNT [without P3|P4|P3 P4] [work]: reads a cell list, an empty line and COUNT L1 frames, each its reserved number and its transfer frames, as `sender` does,
-// and prints the answer sheet, with `work` the working below each answer, or the line that says why there is none, which goes to standard error too, with the cause in words.
+// and prints the answer sheet, with `work` the working below each answer, or the line that says why there is none, which goes to standard error too.
 #![tactic(auto)]
 
 use argument_words::Asked;
-use libc::STDIN_FILENO;
+use libc::{STDERR_FILENO, STDIN_FILENO};
+
+// Writes the sheet, and says why there is none.
+fn tell(text: &[u8]) {
+    if !programs::write_out(text) {
+        return;
+    }
+    if text.len() > 0 && text[0] == b'N' {
+        io::write_all(STDERR_FILENO, text);
+    }
+}
 
 // Reads the input, all of it that can matter, and writes the sheet.
 fn run(mode: u8, count: u64, without3: bool, without4: bool, work: bool) {
@@ -12,7 +22,7 @@ fn run(mode: u8, count: u64, without3: bool, without4: bool, work: bool) {
     let mut out = programs::sheet_text();
     let sheet = sheets::sheet(mode, count, without3, without4, work, &input[..n], &mut out);
     let end = programs::within(sheet.length, &out);
-    messages::tell_sheet(&out[..end]);
+    tell(&out[..end]);
 }
 
 fn main() {

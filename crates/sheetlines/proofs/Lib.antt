@@ -1,4 +1,2 @@
 pub mod Known
 pub mod Ranges
-pub mod Inside
-pub mod Older

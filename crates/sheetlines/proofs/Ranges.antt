@@ -1,5 +1,5 @@
--- In the older modes: a cell for which a finder names a coded bit is one of the matrix, and so is a cell that a locator names; a bit is coded in no L1 frame
--- before the run's first, and sent at most two after its own. Assumes nothing.
+-- A cell for which a finder names a coded bit is one of the matrix, and so is a cell that a locator names; a bit is coded in no L1 frame before the run's first,
+-- and sent at most two after its own. Assumes nothing.
 use mathlib.Core.Path.{◌≡◌, refl, sym, ap, subst, ◌∙◌}
 use Prim.Native.Nat.{ℕ, ◌+◌, ◌*◌, ◌≤◌, ◌<◌}
 use mathlib.Core.Bool.{Bool, true, false, cond}
@@ -15,7 +15,7 @@ use Rattle.runs.specs.declared.Kind.{Kind}
 use Rattle.runs.specs.declared.Kind.TheVariants.{Unused, Narrow, Wide}
 use Rattle.runs.specs.declared.State.{State}
 use Rattle.runs.specs.Lengths.{table_row}
-use Rattle.runs.specs.Starting.{valid}
+use Rattle.runs.specs.Starting.{state_at, valid}
 use Rattle.queries.specs.Finder.{found}
 use Rattle.queries.specs.declared.finder.Found.TheVariants.{P1, Pids}
 use Rattle.queries.specs.FinderPX.{cell_of, columns_of, found_px, frame_coded, kind_of_number, told}
@@ -27,6 +27,7 @@ use Rattle.calls.proofs.Admitted.{valid-says}
 use Rattle.locating.specs.Locator.{located}
 use Rattle.locating.specs.declared.locator.Located.TheVariants.{At}
 use Rattle.locating.specs.LocatorPX.{located_px}
+use Rattle.locating.specs.declared.locator_px.LocatedPx.{LocatedPx}
 use Rattle.locating.specs.declared.locator_px.LocatedPx.TheVariants.{At as AtPX}
 use Rattle.locating.specs.BothWays.{found_again}
 use Rattle.locating.proofs.AgainPM.{both_ways}
@@ -167,3 +168,14 @@ module _ (s : State) (channel frame bit n pair row column : ℕ) (e : located_px
           let d = standing-says k row_of (later (table_row k) s.half j) n pair row column q in
           let l = few (table_row k) s.half j row_of (valid-says s v-is).1 (px.bit-inside k frame bit lf lb) in
           (omega (arith, d.later-is, l), d.pair_lt, d.row_lt, omega (arith, d.column-lt, at-most-144 k))
+
+-- ---- what the code found or located at a state, said of the run's
+
+module _ (mode t : ℕ) where
+  pub found_as : (channel pair row column : ℕ) {state : State} {r x : FoundPx} → state ≡ state_at mode 0 t → r ≡ found_px state channel pair row column → r ≡ x
+      → found_px (state_at mode 0 t) channel pair row column ≡ x
+  found_as channel pair row column e f g = sym (ap (λ (s : State). found_px s channel pair row column) e) ∙ sym f ∙ g
+
+  pub located-as : (channel frame bit : ℕ) {state : State} {r x : LocatedPx} → state ≡ state_at mode 0 t → r ≡ located_px state channel frame bit → r ≡ x
+      → located_px (state_at mode 0 t) channel frame bit ≡ x
+  located-as channel frame bit e f g = sym (ap (λ (s : State). located_px s channel frame bit) e) ∙ sym f ∙ g

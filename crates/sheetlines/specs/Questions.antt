@@ -1,7 +1,7 @@
--- House matter (D148): what a line of the list asks for: a cell of one L1 frame, or a coded bit of a transfer frame handed over with it, numbered from 0:
+-- House matter: what a line of the list asks for: a cell of one L1 frame, or a coded bit of a transfer frame that was handed over with it, numbered from 0:
 --     FRAME PM ROW COL
 --     FRAME PX1 PAIR ROW COL        (PX2 likewise)
---     FRAME P1 TFRAME BIT           (PIDS, P3, P4, P2 and P1' likewise)
+--     FRAME P1 TFRAME BIT           (PIDS, P3, P4 likewise)
 -- One space parts two words. The last word is all that is left, so a space too many stands in it, and it is no number.
 use Rattle.std.specs.Prelude.{ℕ, cond, List, eqb, ltb}
 use Rattle.bits.specs.Tests.{same}
@@ -25,7 +25,7 @@ abbrev pub with : Operand → (ℕ → Question) → Question
 with (Number n) asked = asked n
 with NotDecimal asked = Wrong
 
--- the name's number: 0 for PM, 1 to 6 for the channels P1, PIDS, P3, P4, P2 and P1'; 7: it is none of these
+-- the name's number: 0 for PM, 1 to 4 for the channels P1, PIDS, P3 and P4; 5: it is none of these
 unfoldable pub named : List ℕ → ℕ
 named name =
     cond (same name (ascii "PM")) 0
@@ -33,13 +33,11 @@ named name =
     (cond (same name (ascii "PIDS")) 2
     (cond (same name (ascii "P3")) 3
     (cond (same name (ascii "P4")) 4
-    (cond (same name (ascii "P2")) 5
-    (cond (same name (ascii "P1'")) 6
-    7))))))
+    5))))
 
 -- what two numbers ask for behind it: ROW COL, or TFRAME BIT
 unfoldable pub two : (name frame first second : ℕ) → Question
-two name frame first second = cond (eqb name 0) (Pm frame first second) (cond (ltb name 7) (Bit frame name first second) Wrong)
+two name frame first second = cond (eqb name 0) (Pm frame first second) (cond (ltb name 5) (Bit frame name first second) Wrong)
 
 unfoldable pub two_question : (name : ℕ) (frame place : List ℕ) → Question
 two_question name frame place =
@@ -63,7 +61,7 @@ named_px1 = ascii "PX1"
 abbrev pub named_px2 : List ℕ
 named_px2 = ascii "PX2"
 
--- PX1 is asked for by channel 3 and PX2 by channel 4, in every mode
+-- PX1 brings channel P3, PX2 channel P4
 unfoldable pub asking : (frame name place : List ℕ) → Question
 asking frame name place =
     cond (same name named_px1) (px_question 3 frame place)

@@ -2,19 +2,18 @@
 ghost use Rattle.std.specs.Prelude.{◌≡◌, ◌+◌, ◌*◌, ◌<◌, ◌≤◌};
 ghost use Rattle.interleaving.specs.TableI.{ks};
 ghost use Rattle.runs.specs.Starting.{state_at};
-ghost use Rattle.finding.specs.Finder.{found_in};
-ghost use Rattle.finding.specs.Locator.{located_in};
-ghost use Rattle.finding_px.specs.Finder.{found_px_in};
-ghost use Rattle.finding_px.specs.Locator.{located_px_in};
-ghost use Rattle.sheetlines.specs.Entries.{bit_entry, columns_in, entry_of, in_pm, in_px, number_in, of_pm, pm_entry, pm_placed, px_entry, px_placed, turn_of};
+ghost use Rattle.queries.specs.Finder.{found};
+ghost use Rattle.queries.specs.FinderPX.{cell_of, found_px, kind_of_number};
+ghost use Rattle.locating.specs.Locator.{located};
+ghost use Rattle.locating.specs.LocatorPX.{located_px};
+ghost use Rattle.sheetlines.specs.Entries.{bit_entry, entry_of, in_pm, in_px, pm_entry, pm_placed, px_entry, px_placed, turn_of};
 
 use crate::questions::Question;
-use finding::Owner;
-use finding_px::FoundPxIn;
 use locating::{Located, LocatedPx};
-use runs::{Extended, State};
+use queries::{Found, FoundPx};
+use runs::State;
 
-// A coded bit: this one of this transfer frame of a channel (1 is P1, 2 PIDS, 3 P3, 4 P4, 5 P2, 6 P1'), handed over with L1 frame `from`.
+// A coded bit: this one of this transfer frame of a channel (1 is P1, 2 PIDS, 3 P3, 4 P4), handed over with L1 frame `from`.
 #[derive(Clone, Copy)]
 pub struct CodedBit {
     pub channel: u8,
@@ -33,23 +32,12 @@ pub struct Cell {
     pub number: usize,
 }
 
-// This coded bit stands in this cell; or the zero fill, or the zeros of the diversity delay, in a cell of L1 frame `sent`; or nothing: the line is refused.
+// This coded bit stands in this cell; or the zero fill, in a cell of L1 frame `sent`; or nothing: the line is refused.
 #[derive(Clone, Copy)]
 pub enum Entry {
     Stands { coded: CodedBit, cell: Cell },
     Fill { sent: u64 },
-    Zeros { sent: u64 },
     Refused,
-}
-
-// Whether a channel is sent in PM: P1, PIDS or P2.
-pub fn is_of_pm(channel: u8) -> bool
-    ensures { result ≡ of_pm channel }
-{
-    if channel < 3 {
-        return true;
-    }
-    channel == 5
 }
 
 // The state before an L1 frame of a run, with the number 0: a finder's answer is the same for every number.
@@ -74,7 +62,7 @@ pub fn state_before(mode: u8, frame: u64) -> State
     }
 }
 
-// A coded bit of P1, PIDS or P2 in its cell of PM, in L1 frame t.
+// A coded bit of P1 or PIDS in its cell of PM, in L1 frame t.
 fn in_pm(t: u64, channel: u8, frame: usize, bit: usize, row: usize, column: usize) -> Entry
     requires { (row < 512) × (column < 720) }
     ensures { result ≡ in_pm t channel frame bit row column }
@@ -95,29 +83,16 @@ fn in_pm(t: u64, channel: u8, frame: usize, bit: usize, row: usize, column: usiz
     Entry::Stands { coded, cell }
 }
 
-// The cells of a row of the matrices of PX1 or PX2 in which a channel is sent.
-fn px_columns(mode: u8, channel: u8) -> usize
-    ensures { (result ≡ columns_in mode channel) × (result ≤ 288) }
-{
-    if channel == 3 {
-        return queries::columns(modes::kind_of(mode, Extended::P3));
-    }
-    if channel == 4 {
-        return queries::columns(modes::kind_of(mode, Extended::P4));
-    }
-    finding_px::columns(modes::main_of(mode))
-}
-
 // The number of a cell of PX1 or PX2, counted through the eight matrices.
 fn px_cell(mode: u8, channel: u8, pair: usize, row: usize, column: usize) -> usize
-    requires { (pair < 8) × (row < 64) × (column < 288) }
-    ensures { result ≡ number_in mode channel pair row column }
+    requires { (pair < 8) × (row < 64) × (column < 144) }
+    ensures { result ≡ cell_of (kind_of_number mode channel) pair row column }
 {
-    let columns = px_columns(mode, channel);
+    let columns = queries::columns(queries::kind_of_number(mode, channel));
     (pair * 64 + row) * columns + column
 }
 
-// A coded bit of P3, P4 or P1' of L1 frame `from` in its cell of PX1 or PX2 of L1 frame `sent`.
+// A coded bit of P3 or P4 of L1 frame `from` in its cell of PX1 or PX2 of L1 frame `sent`.
 fn in_px(
     mode: u8,
     channel: u8,
@@ -129,7 +104,7 @@ fn in_px(
     row: usize,
     column: usize,
 ) -> Entry
-    requires { (pair < 8) × (row < 64) × (column < 288) }
+    requires { (pair < 8) × (row < 64) × (column < 144) }
     ensures { result ≡ in_px mode channel from sent frame bit pair row column }
 {
     let coded = CodedBit {
@@ -149,23 +124,22 @@ fn in_px(
 }
 
 // A cell of PM of L1 frame t.
-fn pm_entry(table: &[u16; 1152], mode: u8, t: u64, row: usize, column: usize) -> Entry
+fn pm_entry(table: &[u16; 1152], t: u64, row: usize, column: usize) -> Entry
     requires { table.now ≡ ks }
-    ensures { result ≡ pm_entry t row column (found_in mode row column) }
+    ensures { result ≡ pm_entry t row column (found row column) }
 {
-    match finding::find_in_by(table, mode, row, column) {
-        Owner::P1 { frame, bit } => in_pm(t, 1, frame, bit, row, column),
-        Owner::P2 { bit } => in_pm(t, 5, 0, bit, row, column),
-        Owner::Pids { frame, bit } => in_pm(t, 2, frame, bit, row, column),
-        Owner::Refused { answer: _ } => Entry::Refused,
+    match queries::find_by(table, row, column) {
+        Found::P1 { bit } => in_pm(t, 1, 0, bit, row, column),
+        Found::Pids { frame, bit } => in_pm(t, 2, frame, bit, row, column),
+        Found::Refused { answer: _ } => Entry::Refused,
     }
 }
 
-// A coded bit of P1, PIDS or P2 of L1 frame t.
-fn pm_placed(mode: u8, t: u64, channel: u8, frame: usize, bit: usize) -> Entry
-    ensures { result ≡ pm_placed t channel frame bit (located_in mode channel frame bit) }
+// A coded bit of P1 or PIDS of L1 frame t.
+fn pm_placed(t: u64, channel: u8, frame: usize, bit: usize) -> Entry
+    ensures { result ≡ pm_placed t channel frame bit (located channel frame bit) }
 {
-    match finding::locate_in(mode, channel, frame, bit) {
+    match locating::locate(channel, frame, bit) {
         Located::At {
             position: _,
             row,
@@ -177,11 +151,11 @@ fn pm_placed(mode: u8, t: u64, channel: u8, frame: usize, bit: usize) -> Entry
 
 // A cell of PX1 or PX2 of the L1 frame `sent`.
 fn px_entry(mode: u8, sent: u64, channel: u8, pair: usize, row: usize, column: usize) -> Entry
-    ensures { result ≡ px_entry mode channel sent pair row column (found_px_in (state_at mode 0 sent) channel pair row column) }
+    ensures { result ≡ px_entry mode channel sent pair row column (found_px (state_at mode 0 sent) channel pair row column) }
 {
     let state = state_before(mode, sent);
-    match finding_px::find_px_in(state, channel, pair, row, column) {
-        FoundPxIn::Coded {
+    match queries::find_px(state, channel, pair, row, column) {
+        FoundPx::Coded {
             earlier,
             frame,
             bit,
@@ -189,23 +163,18 @@ fn px_entry(mode: u8, sent: u64, channel: u8, pair: usize, row: usize, column: u
             let from = sent - earlier as u64;
             in_px(mode, channel, from, sent, frame, bit, pair, row, column)
         }
-        FoundPxIn::Fill => Entry::Fill { sent },
-        FoundPxIn::Second { frame, bit } => {
-            let from = sent - finding_px::delay(modes::main_of(mode)) as u64;
-            in_px(mode, 6, from, sent, frame, bit, pair, row, column)
-        }
-        FoundPxIn::DelayZero => Entry::Zeros { sent },
-        FoundPxIn::Refused { answer: _ } => Entry::Refused,
+        FoundPx::Fill => Entry::Fill { sent },
+        FoundPx::Refused { answer: _ } => Entry::Refused,
     }
 }
 
-// A coded bit of P3, P4 or P1' of the L1 frame `from`.
+// A coded bit of P3 or P4 of the L1 frame `from`.
 fn px_placed(mode: u8, from: u64, channel: u8, frame: usize, bit: usize) -> Entry
     requires { from < 4294967296 }
-    ensures { result ≡ px_placed mode channel from frame bit (located_px_in (state_at mode 0 from) channel frame bit) }
+    ensures { result ≡ px_placed mode channel from frame bit (located_px (state_at mode 0 from) channel frame bit) }
 {
     let state = state_before(mode, from);
-    match finding_px::locate_px_in(state, channel, frame, bit) {
+    match locating::locate_px(state, channel, frame, bit) {
         LocatedPx::At {
             later,
             pair,
@@ -224,8 +193,8 @@ fn bit_entry(mode: u8, from: u64, channel: u8, frame: usize, bit: usize) -> Entr
     requires { from < 4294967296 }
     ensures { result ≡ bit_entry mode channel from frame bit }
 {
-    if is_of_pm(channel) {
-        return pm_placed(mode, from, channel, frame, bit);
+    if channel < 3 {
+        return pm_placed(from, channel, frame, bit);
     }
     px_placed(mode, from, channel, frame, bit)
 }
@@ -238,7 +207,7 @@ pub fn entry_for(table: &[u16; 1152], mode: u8, count: u64, question: Question) 
     match question {
         Question::Pm { frame, row, column } => {
             if frame < count {
-                return pm_entry(table, mode, frame, row, column);
+                return pm_entry(table, frame, row, column);
             }
             Entry::Refused
         }
@@ -282,7 +251,6 @@ pub fn turn_of(count: u64, entry: Entry) -> u64
             count
         }
         Entry::Fill { sent } => sent,
-        Entry::Zeros { sent } => sent,
         Entry::Refused => count,
     }
 }

@@ -5,6 +5,6 @@ mod entries;
 mod questions;
 mod values;
 
-pub use entries::{Cell, CodedBit, Entry, entry_for, is_of_pm, state_before, turn_of};
+pub use entries::{Cell, CodedBit, Entry, entry_for, state_before, turn_of};
 pub use questions::{Question, asked};
 pub use values::bit_at;

@@ -5,8 +5,7 @@ ghost use Rattle.sheetlines.specs.Questions.{named, plain_question, px_question,
 use operands::Operand;
 use text::{plain_line, rest, word};
 
-// A cell of an L1 frame: of PM, or of PX1 (channel 3) or PX2 (channel 4) with the block pair. Or a coded bit of channel 1 (P1), 2 (PIDS), 3 (P3), 4 (P4),
-// 5 (P2) or 6 (P1'), by the L1 frame with which its transfer frame was handed over.
+// A cell of an L1 frame: of PM, or of PX1 (channel 3) or PX2 (channel 4) with the block pair. Or a coded bit of channel 1 (P1), 2 (PIDS), 3 (P3) or 4 (P4), by the L1 frame with which its transfer frame was handed over.
 #[derive(Clone, Copy)]
 pub enum Question {
     Pm {
@@ -30,7 +29,7 @@ pub enum Question {
     Wrong,
 }
 
-// The number of a name: 0 of PM, 1 to 6 of P1, PIDS, P3, P4, P2 and P1', 7 of any other.
+// The number of a name: 0 of PM, 1 to 4 of P1, PIDS, P3 and P4, 5 of any other.
 fn name_number(name: &[u8]) -> u8
     ensures { result ≡ named name.now }
 {
@@ -49,13 +48,7 @@ fn name_number(name: &[u8]) -> u8
     if bits::same(name, b"P4") {
         return 4;
     }
-    if bits::same(name, b"P2") {
-        return 5;
-    }
-    if bits::same(name, b"P1'") {
-        return 6;
-    }
-    7
+    5
 }
 
 // A cell of PM by its row and its column, or a coded bit by its transfer frame and its number in it.
@@ -69,7 +62,7 @@ fn two(name: u8, frame: u64, first: u64, second: u64) -> Question
             column: second as usize,
         };
     }
-    if name < 7 {
+    if name < 5 {
         return Question::Bit {
             frame,
             channel: name,

@@ -47,32 +47,27 @@ number-first (b ∷ w) f P h k = go (operand_of (b ∷ w)) h
     go NotDecimal h = absurd (h refl)
 
 -- a name has two letters at least
-or-next : (name w : List ℕ) (n i next : ℕ) → length w ≡ n → 2 ≤ n → (next < 7 → 2 ≤ length name) → cond (same name w) i next < 7 → 2 ≤ length name
-or-next name w n i next e l k = go (same name w) refl
-  where
-    go : (b : Bool) → same name w ≡ b → cond b i next < 7 → 2 ≤ length name
-    go true f h = let q : length name ≡ n = ap length (same_true name w f) ∙ e in omega arith
-    go false f h = k h
-
-named-long : (name : List ℕ) → named name < 7 → 2 ≤ length name
+named-long : (name : List ℕ) → named name < 5 → 2 ≤ length name
 unfolding named
 named-long name =
-    or-next name (ascii "PM") 2 0 _ refl (omega arith)
-    (or-next name (ascii "P1") 2 1 _ refl (omega arith)
-    (or-next name (ascii "PIDS") 4 2 _ refl (omega arith)
-    (or-next name (ascii "P3") 2 3 _ refl (omega arith)
-    (or-next name (ascii "P4") 2 4 _ refl (omega arith)
-    (or-next name (ascii "P2") 2 5 _ refl (omega arith)
-    (or-next name (ascii "P1'") 3 6 _ refl (omega arith)
-    (λ h. absurd (omega arith))))))))
-
-two-named : (name frame first second : ℕ) → Asks (two name frame first second) → name < 7
-unfolding two
-two-named name frame first second = go (eqb name 0) (ltb name 7) refl refl
+    go (same name (ascii "PM")) (same name (ascii "P1")) (same name (ascii "PIDS")) (same name (ascii "P3")) (same name (ascii "P4")) refl refl refl refl refl
   where
-    go : (a b : Bool) → eqb name 0 ≡ a → ltb name 7 ≡ b → Asks (cond a (Pm frame first second) (cond b (Bit frame name first second) Wrong)) → name < 7
+    go : (a b c d e : Bool) → same name (ascii "PM") ≡ a → same name (ascii "P1") ≡ b → same name (ascii "PIDS") ≡ c → same name (ascii "P3") ≡ d → same name (ascii "P4") ≡ e
+        → cond a 0 (cond b 1 (cond c 2 (cond d 3 (cond e 4 5)))) < 5 → 2 ≤ length name
+    go true b c d e p q r s t h = let l : length name ≡ 2 = ap length (same_true name _ p) in omega arith
+    go false true c d e p q r s t h = let l : length name ≡ 2 = ap length (same_true name _ q) in omega arith
+    go false false true d e p q r s t h = let l : length name ≡ 4 = ap length (same_true name _ r) in omega arith
+    go false false false true e p q r s t h = let l : length name ≡ 2 = ap length (same_true name _ s) in omega arith
+    go false false false false true p q r s t h = let l : length name ≡ 2 = ap length (same_true name _ t) in omega arith
+    go false false false false false p q r s t h = absurd (omega arith)
+
+two-named : (name frame first second : ℕ) → Asks (two name frame first second) → name < 5
+unfolding two
+two-named name frame first second = go (eqb name 0) (ltb name 5) refl refl
+  where
+    go : (a b : Bool) → eqb name 0 ≡ a → ltb name 5 ≡ b → Asks (cond a (Pm frame first second) (cond b (Bit frame name first second) Wrong)) → name < 5
     go true b p q h = let z = eqb-true name 0 p in omega arith
-    go false true p q h = ltb-true name 7 q
+    go false true p q h = ltb-true name 5 q
     go false false p q h = absurd (h refl)
 
 -- ---- a line

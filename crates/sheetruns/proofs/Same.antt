@@ -10,7 +10,7 @@ use Rattle.sheetlines.specs.Entries.{entry_of, turn_of}
 use Rattle.sheetlines.specs.Questions.{question_of}
 use Rattle.sheetlines.specs.declared.questions.Question.{Question}
 use Rattle.sheetlines.specs.declared.entries.Entry.{Entry}
-use Rattle.sheetlines.specs.declared.entries.Entry.TheVariants.{Stands, Fill, Zeros, Refused}
+use Rattle.sheetlines.specs.declared.entries.Entry.TheVariants.{Stands, Fill, Refused}
 use Rattle.sheettext.specs.Texts.{bit_text, is_refused, names, value_text}
 use Rattle.sheetlists.specs.Lists.{answer, answers, stands_in, valued}
 use Rattle.sheetruns.specs.Told.{unsent}
@@ -46,7 +46,6 @@ no_value : (working : Entry → List ℕ) (count : ℕ) (v w : Entry → ℕ) (e
 unfolding turn_of value_text bit_text
 no_value working count v w (Stands coded cell) q = let h : count ≤ cell.sent = omega arith in rw (le-ltb cell.sent count h)
 no_value working count v w (Fill sent) q = refl
-no_value working count v w (Zeros sent) q = refl
 no_value working count v w Refused q = refl
 
 pub later_same : (working : Entry → List ℕ) (value : Entry → ℕ) (mode count : ℕ) (ls : List (List ℕ)) → answers (valued working count value) mode count count ls ≡ unsent working mode count ls

@@ -9,8 +9,7 @@ use Rattle.sheetlines.specs.declared.questions.Question.TheVariants.{Bit, Pm, Px
 use Rattle.sheetlines.specs.declared.entries.Cell.{Cell}
 use Rattle.sheetlines.specs.declared.entries.CodedBit.{CodedBit}
 use Rattle.sheetlines.specs.declared.entries.Entry.{Entry}
-use Rattle.sheetlines.specs.declared.entries.Entry.TheVariants.{Stands, Fill, Zeros, Refused}
-use Rattle.sheetlines.specs.Entries.{of_pm}
+use Rattle.sheetlines.specs.declared.entries.Entry.TheVariants.{Stands, Fill, Refused}
 
 -- a number and a space; a number that ends its line
 abbrev pub word : ℕ → List ℕ
@@ -37,17 +36,12 @@ ending n = ascii "END " ++ last n
 
 -- ---- the names of an answer
 
--- the matrix in which a channel is sent: P1, PIDS and P2 are in PM, P3 in PX1, P4 and P1' in PX2
+-- the matrix in which a channel is sent, and the channel: 1 is P1, 2 PIDS, 3 P3, 4 P4
 unfoldable pub matrix_name : (channel : ℕ) → List ℕ
-matrix_name channel = cond (of_pm channel) (ascii "PM ") (cond (eqb channel 3) (ascii "PX1 ") (ascii "PX2 "))
+matrix_name channel = cond (ltb channel 3) (ascii "PM ") (cond (eqb channel 3) (ascii "PX1 ") (ascii "PX2 "))
 
 unfoldable pub channel_name : (channel : ℕ) → List ℕ
-channel_name channel =
-    cond (eqb channel 1) (ascii "P1 ")
-    (cond (eqb channel 2) (ascii "PIDS ")
-    (cond (eqb channel 3) (ascii "P3 ")
-    (cond (eqb channel 4) (ascii "P4 ")
-    (cond (eqb channel 5) (ascii "P2 ") (ascii "P1' ")))))
+channel_name channel = cond (eqb channel 1) (ascii "P1 ") (cond (eqb channel 2) (ascii "PIDS ") (cond (eqb channel 3) (ascii "P3 ") (ascii "P4 ")))
 
 -- what a line asks for: FRAME PM ROW COL, FRAME PX1 PAIR ROW COL, or FRAME CHANNEL TFRAME BIT
 unfoldable pub asked : Question → List ℕ
@@ -56,11 +50,11 @@ asked (Px frame channel pair row column) = word frame ++ (matrix_name channel ++
 asked (Bit frame channel tframe bit) = word frame ++ (channel_name channel ++ (word tframe ++ word bit))
 asked Wrong = []
 
--- a number that P3, P4 and P1' have, and P1, PIDS and P2 have not
+-- a number that P3 and P4 have, and P1 and PIDS have not
 unfoldable pub of_px : (channel n : ℕ) → List ℕ
-of_px channel n = cond (of_pm channel) [] (word n)
+of_px channel n = cond (ltb channel 3) [] (word n)
 
--- whose bit stands in a cell: P1 TFRAME BIT (PIDS and P2 likewise), or P3 FROM TFRAME BIT (P4 and P1' likewise)
+-- whose bit stands in a cell: P1 TFRAME BIT, PIDS TFRAME BIT, or P3 FROM TFRAME BIT
 unfoldable pub owner : CodedBit → List ℕ
 owner coded = channel_name coded.channel ++ (of_px coded.channel coded.from ++ (word coded.frame ++ decimal coded.bit))
 
@@ -76,11 +70,10 @@ found (Px frame channel pair row column) coded cell = owner coded
 found (Bit frame channel tframe bit) coded cell = place coded.channel cell
 found Wrong coded cell = []
 
--- the names of an answer: what is asked and what is found, or FILL, or DELAY for the diversity delay's zeros (D149). Of what is refused nothing is said here
+-- the names of an answer: what is asked and what is found, or FILL. Of what is refused nothing is said here
 unfoldable pub names : Question → Entry → List ℕ
 names q (Stands coded cell) = asked q ++ found q coded cell
 names q (Fill sent) = asked q ++ ascii "FILL"
-names q (Zeros sent) = asked q ++ ascii "DELAY"
 names q Refused = []
 
 -- ---- what stands behind them
@@ -89,25 +82,22 @@ names q Refused = []
 unfoldable pub bit_text : (sent : Bool) (value : ℕ) → List ℕ
 bit_text sent value = cond sent (ascii " " ++ last value) (ascii " LATER\n")
 
--- in a run of `count` L1 frames; behind FILL and DELAY nothing
+-- in a run of `count` L1 frames; behind FILL nothing
 unfoldable pub value_text : (count : ℕ) → Entry → (value : ℕ) → List ℕ
 value_text count (Stands coded cell) value = bit_text (ltb cell.sent count) value
 value_text count (Fill sent) value = ascii "\n"
-value_text count (Zeros sent) value = ascii "\n"
 value_text count Refused value = []
 
--- the bit that stands in the cell, in the matrices of an L1 frame: by the channel, as `matrix_name`
+-- the bit that stands in the cell, in the matrices of an L1 frame: P1 and PIDS are in PM, P3 in PX1 and P4 in PX2
 unfoldable pub value_in : Matrices → Entry → ℕ
 value_in x (Stands coded cell) =
-    cond (of_pm coded.channel) (bit_at x.pm cell.number)
+    cond (ltb coded.channel 3) (bit_at x.pm cell.number)
     (cond (eqb coded.channel 3) (bit_at x.px1 cell.number) (bit_at x.px2 cell.number))
 value_in x (Fill sent) = 0
-value_in x (Zeros sent) = 0
 value_in x Refused = 0
 
 -- whether nothing can be answered
 unfoldable pub is_refused : Entry → Bool
 is_refused (Stands coded cell) = false
 is_refused (Fill sent) = false
-is_refused (Zeros sent) = false
 is_refused Refused = true

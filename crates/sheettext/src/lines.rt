@@ -12,7 +12,7 @@ fn put_matrix(out: &mut [u8], at: usize, channel: u8) -> usize
     requires { at + 4 ≤ length out.old }
     ensures { Put out.old out.new at result 4 (matrix_name channel) }
 {
-    if sheetlines::is_of_pm(channel) {
+    if channel < 3 {
         return put(out, at, b"PM ");
     }
     if channel == 3 {
@@ -35,13 +35,7 @@ fn put_channel(out: &mut [u8], at: usize, channel: u8) -> usize
     if channel == 3 {
         return put(out, at, b"P3 ");
     }
-    if channel == 4 {
-        return put(out, at, b"P4 ");
-    }
-    if channel == 5 {
-        return put(out, at, b"P2 ");
-    }
-    put(out, at, b"P1' ")
+    put(out, at, b"P4 ")
 }
 
 // Puts what a line asks for.
@@ -84,12 +78,12 @@ fn put_asked(out: &mut [u8], at: usize, question: Question) -> usize
     }
 }
 
-// Puts a number that P3, P4 and P1' have, and P1, PIDS and P2 have not.
+// Puts a number that P3 and P4 have, and P1 and PIDS have not.
 fn put_of_px(out: &mut [u8], at: usize, channel: u8, n: u64) -> usize
     requires { at + 21 ≤ length out.old }
     ensures { Put out.old out.new at result 21 (of_px channel n) }
 {
-    if sheetlines::is_of_pm(channel) {
+    if channel < 3 {
         return at;
     }
     field(out, at, n, b' ')
@@ -160,10 +154,6 @@ pub fn put_names(out: &mut [u8], at: usize, question: Question, entry: Entry) ->
             let m = put_asked(out, at, question);
             put(out, m, b"FILL")
         }
-        Entry::Zeros { sent: _ } => {
-            let m = put_asked(out, at, question);
-            put(out, m, b"DELAY")
-        }
         Entry::Refused => at,
     }
 }
@@ -188,7 +178,6 @@ pub fn put_value(out: &mut [u8], at: usize, count: u64, entry: Entry, value: u8)
     match entry {
         Entry::Stands { coded: _, cell } => put_bit(out, at, cell.sent < count, value),
         Entry::Fill { sent: _ } => put(out, at, b"\n"),
-        Entry::Zeros { sent: _ } => put(out, at, b"\n"),
         Entry::Refused => at,
     }
 }
@@ -199,7 +188,7 @@ pub fn value_of(entry: Entry, pm: &[u8], px1: &[u8], px2: &[u8]) -> u8
 {
     match entry {
         Entry::Stands { coded, cell } => {
-            if sheetlines::is_of_pm(coded.channel) {
+            if coded.channel < 3 {
                 return sheetlines::bit_at(pm, cell.number);
             }
             if coded.channel == 3 {
@@ -208,7 +197,6 @@ pub fn value_of(entry: Entry, pm: &[u8], px1: &[u8], px2: &[u8]) -> u8
             sheetlines::bit_at(px2, cell.number)
         }
         Entry::Fill { sent: _ } => 0,
-        Entry::Zeros { sent: _ } => 0,
         Entry::Refused => 0,
     }
 }
@@ -220,7 +208,6 @@ pub fn is_refused(entry: Entry) -> bool
     match entry {
         Entry::Stands { coded: _, cell: _ } => false,
         Entry::Fill { sent: _ } => false,
-        Entry::Zeros { sent: _ } => false,
         Entry::Refused => true,
     }
 }

@@ -1,13 +1,21 @@
--- For the code alone: what a turn of the loop asks for and what it leaves.
+-- For the code alone: what a sending leaves, and what a turn of the loop asks for and what it leaves.
 use Rattle.std.specs.Prelude.{ℕ, ◌+◌, ◌*◌, ◌^◌, ◌≤◌, ◌<◌, ◌≡◌, List, length}
 use Rattle.runs.specs.Answers.{number_of}
-use Rattle.runs.specs.Lent.{Memory, Result}
+use Rattle.runs.specs.Lent.{Matrices, Memory, Result}
+use Rattle.calls.specs.declared.states.Outcome.{Outcome}
 use Rattle.text.specs.Lines.{lines}
 use Rattle.text.specs.Put.{Put}
 use Rattle.sheetlines.specs.declared.entries.Entry.{Entry}
 use Rattle.sheettext.specs.Texts.{value_in}
 use Rattle.sheetlists.specs.Lists.{answers, asking, valued}
 use Rattle.sheetturns.specs.declared.turns.Turn.{Turn}
+
+-- a sending gave g
+pub record Gave (g : Result) (r : Outcome) (m : Memory) (x : Matrices) : Type 0 where
+  pub answer : r.answer ≡ g.answer
+  pub state : r.state ≡ g.state
+  pub memory : m ≡ g.memory
+  pub matrices : x ≡ g.lent.signal.matrices
 
 -- room for the answers of L1 frame t, and numbers that are not too great
 pub record Asks (mode count t n3 n4 : ℕ) (list all out : List ℕ) (at : ℕ) : Type 0 where

@@ -19,7 +19,7 @@ use Rattle.sheetinputs.specs.Inputs.{frame_size}
 use Rattle.sheetlines.specs.declared.entries.CodedBit.{CodedBit}
 use Rattle.sheetlines.specs.declared.entries.Cell.{Cell}
 use Rattle.sheetlines.specs.declared.entries.Entry.{Entry}
-use Rattle.sheetlines.specs.declared.entries.Entry.TheVariants.{Stands, Fill, Zeros, Refused}
+use Rattle.sheetlines.specs.declared.entries.Entry.TheVariants.{Stands, Fill, Refused}
 use Rattle.workings.specs.declared.Worked.{Worked}
 use Rattle.workings.specs.Shown.{worked}
 use Rattle.worktext.specs.Texts.{work_line}
@@ -95,10 +95,6 @@ module _ (mode n3 n4 : ℕ) (bytes : List ℕ) where
       pub work-fill : (sent : ℕ) → e ≡ Fill sent → work_text work mode n3 n4 bytes e ≡ []
       unfolding work_text working_text
       work-fill sent q = rw (f, q)
-
-      pub work-zeros : (sent : ℕ) → e ≡ Zeros sent → work_text work mode n3 n4 bytes e ≡ []
-      unfolding work_text working_text
-      work-zeros sent q = rw (f, q)
 
       pub work-refused : e ≡ Refused → work_text work mode n3 n4 bytes e ≡ []
       unfolding work_text working_text

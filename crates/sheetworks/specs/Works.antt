@@ -7,7 +7,7 @@ use Rattle.layout.specs.Layout.{cut}
 use Rattle.sheetinputs.specs.Inputs.{frame_size}
 use Rattle.sheetlines.specs.declared.entries.CodedBit.{CodedBit}
 use Rattle.sheetlines.specs.declared.entries.Entry.{Entry}
-use Rattle.sheetlines.specs.declared.entries.Entry.TheVariants.{Stands, Fill, Zeros, Refused}
+use Rattle.sheetlines.specs.declared.entries.Entry.TheVariants.{Stands, Fill, Refused}
 use Rattle.workings.specs.declared.Worked.{Worked}
 use Rattle.workings.specs.Shown.{worked}
 use Rattle.worktext.specs.Texts.{work_line}
@@ -26,11 +26,10 @@ working_of mode n3 n4 bytes coded =
     worked (state_at mode 0 coded.from) coded.channel (channel_in (frames_in mode n3 n4 (bytes_at mode n3 n4 bytes coded.from)) coded.channel)
     coded.frame coded.bit
 
--- the line below an answer that names a coded bit, sent or not; below FILL and DELAY there is none
+-- the line below an answer that names a coded bit, sent or not; below FILL there is none
 unfoldable pub working_text : (mode n3 n4 : ℕ) (bytes : List ℕ) → Entry → List ℕ
 working_text mode n3 n4 bytes (Stands coded cell) = work_line (working_of mode n3 n4 bytes coded)
 working_text mode n3 n4 bytes (Fill sent) = []
-working_text mode n3 n4 bytes (Zeros sent) = []
 working_text mode n3 n4 bytes Refused = []
 
 -- where workings are asked for

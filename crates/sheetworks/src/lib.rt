@@ -95,7 +95,6 @@ pub fn put_working(
             worktext::put_work(out, at, working_of(mode, n3, n4, bytes, coded))
         }
         Entry::Fill { sent: _ } => at,
-        Entry::Zeros { sent: _ } => at,
         Entry::Refused => at,
     }
 }

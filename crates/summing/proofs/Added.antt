@@ -64,10 +64,10 @@ sum_more b c cs n hb hc =
     ∙ ap (λ (k : ℕ). packed k (λ i. total (plus b c ∷ cs) (λ (d : Buffer). bit_at d i) % 2)) (sym (length-packed (length b) (both b c)))
 
 -- is their sum
-pub one_by_one : (b : Buffer) (cs : List Buffer) (n : ℕ) → Bytes b → length b ≡ n → Every (λ (c : Buffer). length c ≡ n) cs
+pub one_by_one-sum : (b : Buffer) (cs : List Buffer) (n : ℕ) → Bytes b → length b ≡ n → Every (λ (c : Buffer). length c ≡ n) cs
     → one_by_one b cs ≡ sum_of (b ∷ cs) (λ (d : Buffer). d)
 unfolding sum_of
-one_by_one b [] n bytes h each = sym (sum_one b bytes)
-one_by_one b (c ∷ cs) n bytes h each =
-    one_by_one (plus b c) cs n (packed-bytes (length b) (both b c) (λ i _. omega arith)) (length-packed (length b) (both b c) ∙ h) each.1
+one_by_one-sum b [] n bytes h each = sym (sum_one b bytes)
+one_by_one-sum b (c ∷ cs) n bytes h each =
+    one_by_one-sum (plus b c) cs n (packed-bytes (length b) (both b c) (λ i _. omega arith)) (length-packed (length b) (both b c) ∙ h) each.1
     ∙ sym (sum_more b c cs n h each.0)

@@ -40,6 +40,7 @@ use Rattle.summing.specs.Sums.{total, sum_of, sum_number, sum_matrices, sum_memo
 use Rattle.summing.proofs.Sums.{Sums, sum-zero, sums-beside, sums-channel, sums-coded-each, sums-each, sums-written}
 use Rattle.summing.proofs.Buffers.{SumsOf, bits-sum, bytes_drop, bytes-sum, every-all, length-sum, packed-sum, sum_is, sums-append, sums-drop, sums-packed, sums-take, zeros-sum}
 use Rattle.summing.proofs.Controls.{control-sum}
+use Rattle.runs.proofs.Cases.{each_extended}
 
 module _ {R : Type 0} (rs : List R) where
   -- frames whose bits are the sums of those of the things, and a number that is the sum of theirs
@@ -123,10 +124,10 @@ module _ {R : Type 0} (rs : List R) (odd : length rs % 2 ≡ 1) where
     unfolding sum_memory
     held-sums e =
         rw em.is
-        (elim e [
-          | P3 ↦ bits-sum rs odd _ (sender_len (kind_of mode P3)) (every-all (λ r. (em.right r).extended P3) rs)
-          | P4 ↦ bits-sum rs odd _ (sender_len (kind_of mode P4)) (every-all (λ r. (em.right r).extended P4) rs)
-        ])
+        (each_extended (λ e. SumsOf rs (λ r. memory_of (m r) e) (memory_of (sum_memory rs m) e))
+        (bits-sum rs odd _ (sender_len (kind_of mode P3)) (every-all (λ r. (em.right r).extended P3) rs))
+        (bits-sum rs odd _ (sender_len (kind_of mode P4)) (every-all (λ r. (em.right r).extended P4) rs))
+        e)
 
     delay-sums : SumsOf rs (λ r. (m r).delayed) n.delayed
     unfolding sum_memory
@@ -211,10 +212,7 @@ module _ {R : Type 0} (rs : List R) (odd : length rs % 2 ≡ 1) where
     unfolding memory_next
     next-right r =
         record {
-          extended = λ e. elim e [
-            | P3 ↦ memory-length (kind_of mode P3) half (m r).for3 (f r).p3
-            | P4 ↦ memory-length (kind_of mode P4) half (m r).for4 (f r).p4
-          ];
+          extended = each_extended _ (memory-length (kind_of mode P3) half (m r).for3 (f r).p3) (memory-length (kind_of mode P4) half (m r).for4 (f r).p4);
           delay = goes-length (m r) (f r) (em.right r).delay;
         }
 

@@ -21,6 +21,7 @@ use Rattle.summing.specs.Sums.{sum_of, sum_number, sum_frames, sum_matrices, sum
 use Rattle.summing.specs.Keys.{Together, Summed, Keys, ThreeOf, ThreeKeys, Three}
 use Rattle.summing.proofs.Buffers.{bits-sum, bytes-sum, every_map, length-sum, of_three, sum_of-cong}
 use Rattle.summing.proofs.Chained.{SumsFrames, before-sums, defined-control, defined-matrices}
+use Rattle.runs.proofs.Cases.{each_extended}
 
 -- ---- the sums of frames
 
@@ -33,10 +34,7 @@ module _ (mode : ℕ) {R : Type 0} (rs : List R) (odd : length rs % 2 ≡ 1) (f 
         p1-sums = bits-sum rs odd _ _ (every_map (λ r x. x.p1-right) rs fit);
         pids-sums = bits-sum rs odd _ _ (every_map (λ r x. x.pids-right) rs fit);
         p2-sums = bits-sum rs odd _ _ (every_map (λ r x. x.p2-right) rs fit);
-        extended-sums = λ e. elim e [
-          | P3 ↦ bits-sum rs odd _ _ (every_map (λ r x. x.extended-right P3) rs fit)
-          | P4 ↦ bits-sum rs odd _ _ (every_map (λ r x. x.extended-right P4) rs fit)
-        ];
+        extended-sums = each_extended _ (bits-sum rs odd _ _ (every_map (λ r x. x.extended-right P3) rs fit)) (bits-sum rs odd _ _ (every_map (λ r x. x.extended-right P4) rs fit));
       }
 
   number_lt : sum_number rs (λ r. (f r).reserved) < 8
@@ -51,15 +49,12 @@ module _ (mode : ℕ) {R : Type 0} (rs : List R) (odd : length rs % 2 ≡ 1) (f 
         p1-right = length-sum rs odd _ (p1_len (main_of mode)) (every_map (λ r x. x.p1-right) rs fit);
         pids-right = length-sum rs odd _ pids_len (every_map (λ r x. x.pids-right) rs fit);
         p2-right = length-sum rs odd _ (p2_len (main_of mode)) (every_map (λ r x. x.p2-right) rs fit);
-        extended-right = λ e. elim e [
-          | P3 ↦ length-sum rs odd _ (frame_len (kind_of mode P3)) (every_map (λ r x. x.extended-right P3) rs fit)
-          | P4 ↦ length-sum rs odd _ (frame_len (kind_of mode P4)) (every_map (λ r x. x.extended-right P4) rs fit)
-        ];
+        extended-right = each_extended _ (length-sum rs odd _ (frame_len (kind_of mode P3)) (every_map (λ r x. x.extended-right P3) rs fit)) (length-sum rs odd _ (frame_len (kind_of mode P4)) (every_map (λ r x. x.extended-right P4) rs fit));
         bytes = record {
           p1-bytes = bytes-sum rs odd _;
           pids-bytes = bytes-sum rs odd _;
           p2-bytes = bytes-sum rs odd _;
-          extended-bytes = λ e. elim e [ P3 ↦ bytes-sum rs odd _ | P4 ↦ bytes-sum rs odd _ ];
+          extended-bytes = each_extended _ (bytes-sum rs odd _) (bytes-sum rs odd _);
         };
       }
 

@@ -1,4 +1,4 @@
-mod Spelling
+pub mod Spelling
 pub mod Stored
 pub mod Ends
 mod Plain

@@ -9,5 +9,5 @@ ghost use Rattle.version.specs.Version.{version};
 pub extern "C" fn layer1_version() -> u32
     ensures { result ≡ version }
 {
-    4
+    3
 }

@@ -23,8 +23,7 @@ overflow_mul-v c =
 
 pub around-requires : goal.around-requires
 around-requires c =
-    let a = c.args in
-    (
+    let a = c.args in (
       unit-within a.n a.u c.requires.bound.0 c.requires.bound.1 a.frames.now c.requires.bound.2,
       ap (λ (v : ℕ). 2 * v) c.requires.bound.3
           ∙ sym (unit-byte a.n a.u c.requires.bound.0 c.requires.bound.1),

@@ -66,13 +66,12 @@ pub loop-i-smaller : goal.loop-i-smaller
 loop-i-smaller c = omega arith
 
 pub loop-i-preserved : goal.loop-i-preserved
-loop-i-preserved c =
-    (
-      omega arith,
-      omega (arith, c.push-n.ensures),
-      c.loop-i.invariant.2
-          ∙ digit c.args.text.now c.loop-i.n c.loop-i.i c.loop-i-test.true (sym c.is_digit.ensures ∙ c.if-not-is_digit.false) _ c.push-n.ensures,
-    )
+loop-i-preserved c = (
+  omega arith,
+  omega (arith, c.push-n.ensures),
+  c.loop-i.invariant.2
+      ∙ digit c.args.text.now c.loop-i.n c.loop-i.i c.loop-i-test.true (sym c.is_digit.ensures ∙ c.if-not-is_digit.false) _ c.push-n.ensures,
+)
 
 pub returns : goal.returns
 returns c =

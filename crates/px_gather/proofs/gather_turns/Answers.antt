@@ -62,6 +62,6 @@ loop-t-preserved c =
 
 pub returns : goal.returns
 returns c = record {
-      by_index = λ t h. c.loop-t.invariant.2 t (omega arith);
-      by_index_2 = c.loop-t.invariant.3;
-    }
+  by_index = λ t h. c.loop-t.invariant.2 t (omega arith);
+  by_index_2 = c.loop-t.invariant.3;
+}

@@ -19,14 +19,10 @@ place_at : (c : After-nibble-low)
     (w / 8 * t + a.g ≡ 144 * partitions a.kind * t + a.g) × (w / 8 * t + a.g < coded_bytes a.kind) × (w / 8 * t ≤ 4608 * 15)
     × (coded_bytes a.kind ≤ 9216)
 place_at c =
-    let at-loop-test = c in
-    let at-loop = at-loop-test in
-    let at_block = at-loop in
-    let at-start = at_block in
-    let a = at-start.args in
-    let pre = at-start.requires in
-    let block = at_block.block-size in
-    stored_at a.kind block.result at-loop.loop.t a.g pre.0 at-loop-test.loop-test.true pre.2 block.ensures.0 block.ensures.1
+    let a = c.args in
+    let pre = c.requires in
+    let block = c.block-size in
+    stored_at a.kind block.result c.loop-t.t a.g pre.0 c.loop-t-test.true pre.2 block.ensures.0 block.ensures.1
 
 pub loop-t-init : goal.loop-t-init
 loop-t-init c = (search rules, search rules, λ l r hr hk e b s h. absurd (omega arith), λ s h l. refl)

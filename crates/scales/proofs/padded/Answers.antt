@@ -9,13 +9,12 @@ pub overflow_mul-n : goal.overflow_mul-n
 overflow_mul-n c = omega (arith, below_power c.loop-i.n c.loop-i.i c.loop-i.invariant.3 (omega arith))
 
 pub loop-i-preserved : goal.loop-i-preserved
-loop-i-preserved c =
-    (
-      omega arith,
-      omega arith,
-      padded-next _ _ c.loop-i.n c.loop-i.i c.loop-i.invariant.0 c.loop-i.invariant.2,
-      power-ten c.loop-i.n c.loop-i.i c.loop-i.invariant.3,
-    )
+loop-i-preserved c = (
+  omega arith,
+  omega arith,
+  padded-next _ _ c.loop-i.n c.loop-i.i c.loop-i.invariant.0 c.loop-i.invariant.2,
+  power-ten c.loop-i.n c.loop-i.i c.loop-i.invariant.3,
+)
 
 pub returns : goal.returns
 returns c =

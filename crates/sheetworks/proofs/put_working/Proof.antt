@@ -2,7 +2,7 @@
 use borrow.Author.Tests.{not-false, not-true}
 use Rattle.text.proofs.Left.{put-nothing}
 use Rattle.text.proofs.Stored.{put-text}
-use Rattle.sheetworks.proofs.Parts.{no-work, work-fill, work-refused, work-stands, work-zeros}
+use Rattle.sheetworks.proofs.Parts.{no-work, work-fill, work-refused, work-stands}
 use borrow.Author.Rules.{rules}
 use Rattle.sheetworks.proofs.put_working.Statement.{statement}
 use Rattle.sheetworks.proofs.put_working.Tie as tie
@@ -25,9 +25,6 @@ enum_told c = search rules
 enum-told-2 : tie.Need-enum-told-2
 enum-told-2 c = search rules
 
-enum-told-3 : tie.Need-enum-told-3
-enum-told-3 c = search rules
-
 same_length : tie.Need-same-length
 same_length c = search rules
 
@@ -39,16 +36,7 @@ returns-3 : tie.Need-returns-3
 returns-3 c = put-nothing _ _ _ _ (work-fill c.before.before.before.before.before.args.mode c.before.before.before.before.before.args.n3 c.before.before.before.before.before.args.n4 c.before.before.before.before.before.args.bytes.now c.before.before.before.before.before.args.work (not-false _ c.before.before.if1.false) _ _ c.enum_told.given.1)
 
 returns-4 : tie.Need-returns-4
-returns-4 c =
-    let t = c.before.before in
-    let a = t.before.before.before.args in
-    put-nothing _ _ _ _ (work-zeros a.mode a.n3 a.n4 a.bytes.now a.work (not-false _ t.if1.false) _ _ c.enum-told2.given.1)
-
-returns-5 : tie.Need-returns-5
-returns-5 c =
-    let t = c.before.before in
-    let a = t.before.before.before.args in
-    put-nothing _ _ _ _ (work-refused a.mode a.n3 a.n4 a.bytes.now a.work (not-false _ t.if1.false) _ c.enum-told3.given.1)
+returns-4 c = put-nothing _ _ _ _ (work-refused c.before.before.before.before.before.args.mode c.before.before.before.before.before.args.n3 c.before.before.before.before.before.args.n4 c.before.before.before.before.before.args.bytes.now c.before.before.before.before.before.args.work (not-false _ c.before.before.if1.false) _ c.enum-told2.given.1)
 
 pub put-working-spec : {M : Type 1} → statement M
 put-working-spec =
@@ -60,9 +48,7 @@ put-working-spec =
     put-work-requires
     enum_told
     enum-told-2
-    enum-told-3
     same_length
     returns-2
     returns-3
-    returns-4
-    returns-5)
+    returns-4)

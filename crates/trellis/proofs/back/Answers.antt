@@ -42,7 +42,7 @@ loop-k-preserved c =
                 (step-scored costs c.requires.1 final (80 - k) loop.s c.step-s.result i.0 step.0 step.1),
             kept_more costs c.requires.1 final (k - 1) loop.s _ _ (omega (arith, loop.invariant.0))
                 (subst (λ (n : ℕ). Scored (tabled costs) final n loop.s) d i.0) (omega (arith, loop.invariant.1)) c.store.ensures
-                (subst (λ (n : ℕ). Kept (tabled costs) final n loop.auto) n i.1),
+                (subst (λ (n : ℕ). Kept (tabled costs) final n loop.kept) n i.1),
           ),
     )
 
@@ -53,4 +53,4 @@ returns c =
     let e : loop.k ≡ 0 = omega arith in
     λ final f.
     let i = loop.invariant.3 final f in
-    (subst (λ (n : ℕ). Scored (tabled costs) final (80 - n) loop.s) e i.0, subst (λ (n : ℕ). Kept (tabled costs) final n loop.auto) e i.1)
+    (subst (λ (n : ℕ). Scored (tabled costs) final (80 - n) loop.s) e i.0, subst (λ (n : ℕ). Kept (tabled costs) final n loop.kept) e i.1)

@@ -12,12 +12,11 @@ loop-r-init c = (omega arith, search rules, λ q h. absurd (omega arith), λ n h
 
 pub loop-r-preserved : goal.loop-r-preserved
 loop-r-preserved c =
-    let loop = c.loop-r in
-    (
+    let loop = c.loop-r in (
       search rules,
       simp length-set loop.invariant.1,
-      set_at loop.auto (λ q. get_or c.args.scores.now q 0) _ loop.r _ (omega (arith, loop.invariant.1, c.requires.0)) refl loop.invariant.2,
-      λ n h. get_or-set_other loop.auto _ n _ 0 (λ e. omega arith) ∙ loop.invariant.3 n h,
+      set_at loop.kept (λ q. get_or c.args.scores.now q 0) _ loop.r _ (omega (arith, loop.invariant.1, c.requires.0)) refl loop.invariant.2,
+      λ n h. get_or-set_other loop.kept _ n _ 0 (λ e. omega arith) ∙ loop.invariant.3 n h,
     )
 
 pub returns : goal.returns

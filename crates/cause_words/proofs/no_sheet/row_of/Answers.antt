@@ -12,97 +12,90 @@ returns-then-begins c = (omega arith, rw (sym c.begins.ensures ∙ c.if-begins.t
 
 pub returns-then-begins-2 : goal.returns-then-begins-2
 unfolding row_in names sheets causes rows
-returns-then-begins-2 c =
-    (
-      omega arith,
-      rw (
-        sym c.begins.ensures ∙ c.if-begins.false,
-        sym c.begins-2.ensures ∙ c.if-begins-2.true,
-      ),
-    )
+returns-then-begins-2 c = (
+  omega arith,
+  rw (
+    sym c.begins.ensures ∙ c.if-begins.false,
+    sym c.begins-2.ensures ∙ c.if-begins-2.true,
+  ),
+)
 
 pub returns-then-begins-3 : goal.returns-then-begins-3
 unfolding row_in names sheets causes rows
-returns-then-begins-3 c =
-    (
-      omega arith,
-      rw (
-        sym c.begins.ensures ∙ c.if-begins.false,
-        sym c.begins-2.ensures ∙ c.if-begins-2.false,
-        sym c.begins-3.ensures ∙ c.if-begins-3.true,
-      ),
-    )
+returns-then-begins-3 c = (
+  omega arith,
+  rw (
+    sym c.begins.ensures ∙ c.if-begins.false,
+    sym c.begins-2.ensures ∙ c.if-begins-2.false,
+    sym c.begins-3.ensures ∙ c.if-begins-3.true,
+  ),
+)
 
 pub returns-then-begins-4 : goal.returns-then-begins-4
 unfolding row_in names sheets causes rows
-returns-then-begins-4 c =
-    (
-      omega arith,
-      rw (
-        sym c.begins.ensures ∙ c.if-begins.false,
-        sym c.begins-2.ensures ∙ c.if-begins-2.false,
-        sym c.begins-3.ensures ∙ c.if-begins-3.false,
-        sym c.begins-4.ensures ∙ c.if-begins-4.true,
-      ),
-    )
+returns-then-begins-4 c = (
+  omega arith,
+  rw (
+    sym c.begins.ensures ∙ c.if-begins.false,
+    sym c.begins-2.ensures ∙ c.if-begins-2.false,
+    sym c.begins-3.ensures ∙ c.if-begins-3.false,
+    sym c.begins-4.ensures ∙ c.if-begins-4.true,
+  ),
+)
 
 pub returns-then-begins-5 : goal.returns-then-begins-5
 unfolding row_in names sheets causes rows
-returns-then-begins-5 c =
-    (
-      omega arith,
-      rw (
-        sym c.begins.ensures ∙ c.if-begins.false,
-        sym c.begins-2.ensures ∙ c.if-begins-2.false,
-        sym c.begins-3.ensures ∙ c.if-begins-3.false,
-        sym c.begins-4.ensures ∙ c.if-begins-4.false,
-        sym c.begins-5.ensures ∙ c.if-begins-5.true,
-      ),
-    )
+returns-then-begins-5 c = (
+  omega arith,
+  rw (
+    sym c.begins.ensures ∙ c.if-begins.false,
+    sym c.begins-2.ensures ∙ c.if-begins-2.false,
+    sym c.begins-3.ensures ∙ c.if-begins-3.false,
+    sym c.begins-4.ensures ∙ c.if-begins-4.false,
+    sym c.begins-5.ensures ∙ c.if-begins-5.true,
+  ),
+)
 
 pub returns-then-begins-6 : goal.returns-then-begins-6
 unfolding row_in names sheets causes rows
-returns-then-begins-6 c =
-    (
-      omega arith,
-      rw (
-        sym c.begins.ensures ∙ c.if-begins.false,
-        sym c.begins-2.ensures ∙ c.if-begins-2.false,
-        sym c.begins-3.ensures ∙ c.if-begins-3.false,
-        sym c.begins-4.ensures ∙ c.if-begins-4.false,
-        sym c.begins-5.ensures ∙ c.if-begins-5.false,
-        sym c.begins-6.ensures ∙ c.if-begins-6.true,
-      ),
-    )
+returns-then-begins-6 c = (
+  omega arith,
+  rw (
+    sym c.begins.ensures ∙ c.if-begins.false,
+    sym c.begins-2.ensures ∙ c.if-begins-2.false,
+    sym c.begins-3.ensures ∙ c.if-begins-3.false,
+    sym c.begins-4.ensures ∙ c.if-begins-4.false,
+    sym c.begins-5.ensures ∙ c.if-begins-5.false,
+    sym c.begins-6.ensures ∙ c.if-begins-6.true,
+  ),
+)
 
 pub returns-then-begins-7 : goal.returns-then-begins-7
 unfolding row_in names sheets causes rows
-returns-then-begins-7 c =
-    (
-      omega arith,
-      rw (
-        sym c.begins.ensures ∙ c.if-begins.false,
-        sym c.begins-2.ensures ∙ c.if-begins-2.false,
-        sym c.begins-3.ensures ∙ c.if-begins-3.false,
-        sym c.begins-4.ensures ∙ c.if-begins-4.false,
-        sym c.begins-5.ensures ∙ c.if-begins-5.false,
-        sym c.begins-6.ensures ∙ c.if-begins-6.false,
-        sym c.begins-7.ensures ∙ c.if-begins-7.true,
-      ),
-    )
+returns-then-begins-7 c = (
+  omega arith,
+  rw (
+    sym c.begins.ensures ∙ c.if-begins.false,
+    sym c.begins-2.ensures ∙ c.if-begins-2.false,
+    sym c.begins-3.ensures ∙ c.if-begins-3.false,
+    sym c.begins-4.ensures ∙ c.if-begins-4.false,
+    sym c.begins-5.ensures ∙ c.if-begins-5.false,
+    sym c.begins-6.ensures ∙ c.if-begins-6.false,
+    sym c.begins-7.ensures ∙ c.if-begins-7.true,
+  ),
+)
 
 pub returns : goal.returns
 unfolding row_in names sheets causes rows
-returns c =
-    (
-      omega arith,
-      rw (
-        sym c.begins.ensures ∙ c.if-begins.false,
-        sym c.begins-2.ensures ∙ c.if-begins-2.false,
-        sym c.begins-3.ensures ∙ c.if-begins-3.false,
-        sym c.begins-4.ensures ∙ c.if-begins-4.false,
-        sym c.begins-5.ensures ∙ c.if-begins-5.false,
-        sym c.begins-6.ensures ∙ c.if-begins-6.false,
-        sym c.begins-7.ensures ∙ c.if-begins-7.false,
-      ),
-    )
+returns c = (
+  omega arith,
+  rw (
+    sym c.begins.ensures ∙ c.if-begins.false,
+    sym c.begins-2.ensures ∙ c.if-begins-2.false,
+    sym c.begins-3.ensures ∙ c.if-begins-3.false,
+    sym c.begins-4.ensures ∙ c.if-begins-4.false,
+    sym c.begins-5.ensures ∙ c.if-begins-5.false,
+    sym c.begins-6.ensures ∙ c.if-begins-6.false,
+    sym c.begins-7.ensures ∙ c.if-begins-7.false,
+  ),
+)

@@ -15,9 +15,6 @@ returns c = rw c.before.before.entry.given.1 (omega (arith, c.if1.true))
 enum-known-entry-2 : tie.Need-enum-known-entry-2
 enum-known-entry-2 c = search rules
 
-enum-known-entry-3 : tie.Need-enum-known-entry-3
-enum-known-entry-3 c = search rules
-
 enum_told : tie.Need-enum-told
 enum_told c = search rules
 
@@ -31,13 +28,9 @@ returns-3 c = rw c.before.entry2.given.1
 
 returns-4 : tie.Need-returns-4
 unfolding turn_of
-returns-4 c = rw c.before.entry3.given.1
-
-returns-5 : tie.Need-returns-5
-unfolding turn_of
-returns-5 c = rw c.enum_told.given.1
+returns-4 c = rw c.enum_told.given.1
 
 pub turn-of-spec : {M : Type 1} → statement M
 turn-of-spec =
     tie.close
-    (tie.spec enum-known-entry returns enum-known-entry-2 enum-known-entry-3 enum_told returns-2 returns-3 returns-4 returns-5)
+    (tie.spec enum-known-entry returns enum-known-entry-2 enum_told returns-2 returns-3 returns-4)

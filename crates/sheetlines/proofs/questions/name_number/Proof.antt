@@ -23,12 +23,7 @@ same-requires-2 c κs = search rules
 
 returns-2 : tie.Need-returns-2
 unfolding named
-returns-2 c =
-    let n1 = c.before.before.before in
-    rw (
-      sym n1.before.same.ensures ∙ n1.if1.false,
-      sym c.before.same2.ensures ∙ c.if2.true,
-    )
+returns-2 c = rw (sym c.before.before.before.before.same.ensures ∙ c.before.before.before.if1.false, sym c.before.same2.ensures ∙ c.if2.true)
 
 slice-aggregate-same-3 : tie.Need-slice-aggregate-same-3
 slice-aggregate-same-3 c = search rules
@@ -38,14 +33,7 @@ same-requires-3 c κs = search rules
 
 returns-3 : tie.Need-returns-3
 unfolding named
-returns-3 c =
-    let n2 = c.before.before.before in
-    let n1 = n2.before.before.before in
-    rw (
-      sym n1.before.same.ensures ∙ n1.if1.false,
-      sym n2.before.same2.ensures ∙ n2.if2.false,
-      sym c.before.same3.ensures ∙ c.if3.true,
-    )
+returns-3 c = rw (sym c.before.before.before.before.before.before.before.same.ensures ∙ c.before.before.before.before.before.before.if1.false, sym c.before.before.before.before.same2.ensures ∙ c.before.before.before.if2.false, sym c.before.same3.ensures ∙ c.if3.true)
 
 slice-aggregate-same-4 : tie.Need-slice-aggregate-same-4
 slice-aggregate-same-4 c = search rules
@@ -55,16 +43,7 @@ same-requires-4 c κs = search rules
 
 returns-4 : tie.Need-returns-4
 unfolding named
-returns-4 c =
-    let n3 = c.before.before.before in
-    let n2 = n3.before.before.before in
-    let n1 = n2.before.before.before in
-    rw (
-      sym n1.before.same.ensures ∙ n1.if1.false,
-      sym n2.before.same2.ensures ∙ n2.if2.false,
-      sym n3.before.same3.ensures ∙ n3.if3.false,
-      sym c.before.same4.ensures ∙ c.if4.true,
-    )
+returns-4 c = rw (sym c.before.before.before.before.before.before.before.before.before.before.same.ensures ∙ c.before.before.before.before.before.before.before.before.before.if1.false, sym c.before.before.before.before.before.before.before.same2.ensures ∙ c.before.before.before.before.before.before.if2.false, sym c.before.before.before.before.same3.ensures ∙ c.before.before.before.if3.false, sym c.before.same4.ensures ∙ c.if4.true)
 
 slice-aggregate-same-5 : tie.Need-slice-aggregate-same-5
 slice-aggregate-same-5 c = search rules
@@ -75,83 +54,23 @@ same-requires-5 c κs = search rules
 returns-5 : tie.Need-returns-5
 unfolding named
 returns-5 c =
-    let n4 = c.before.before.before in
-    let n3 = n4.before.before.before in
-    let n2 = n3.before.before.before in
-    let n1 = n2.before.before.before in
     rw (
-      sym n1.before.same.ensures ∙ n1.if1.false,
-      sym n2.before.same2.ensures ∙ n2.if2.false,
-      sym n3.before.same3.ensures ∙ n3.if3.false,
-      sym n4.before.same4.ensures ∙ n4.if4.false,
+      sym c.before.before.before.before.before.before.before.before.before.before.before.before.before.same.ensures ∙ c.before.before.before.before.before.before.before.before.before.before.before.before.if1.false,
+      sym c.before.before.before.before.before.before.before.before.before.before.same2.ensures ∙ c.before.before.before.before.before.before.before.before.before.if2.false,
+      sym c.before.before.before.before.before.before.before.same3.ensures ∙ c.before.before.before.before.before.before.if3.false,
+      sym c.before.before.before.before.same4.ensures ∙ c.before.before.before.if4.false,
       sym c.before.same5.ensures ∙ c.if5.true,
     )
-
-slice-aggregate-same-6 : tie.Need-slice-aggregate-same-6
-slice-aggregate-same-6 c = search rules
-
-same-requires-6 : tie.Need-same-requires-6
-same-requires-6 c κs = search rules
 
 returns-6 : tie.Need-returns-6
 unfolding named
 returns-6 c =
-    let n5 = c.before.before.before in
-    let n4 = n5.before.before.before in
-    let n3 = n4.before.before.before in
-    let n2 = n3.before.before.before in
-    let n1 = n2.before.before.before in
     rw (
-      sym n1.before.same.ensures ∙ n1.if1.false,
-      sym n2.before.same2.ensures ∙ n2.if2.false,
-      sym n3.before.same3.ensures ∙ n3.if3.false,
-      sym n4.before.same4.ensures ∙ n4.if4.false,
-      sym n5.before.same5.ensures ∙ n5.if5.false,
-      sym c.before.same6.ensures ∙ c.if6.true,
-    )
-
-slice-aggregate-same-7 : tie.Need-slice-aggregate-same-7
-slice-aggregate-same-7 c = search rules
-
-same-requires-7 : tie.Need-same-requires-7
-same-requires-7 c κs = search rules
-
-returns-7 : tie.Need-returns-7
-unfolding named
-returns-7 c =
-    let n6 = c.before.before.before in
-    let n5 = n6.before.before.before in
-    let n4 = n5.before.before.before in
-    let n3 = n4.before.before.before in
-    let n2 = n3.before.before.before in
-    let n1 = n2.before.before.before in
-    rw (
-      sym n1.before.same.ensures ∙ n1.if1.false,
-      sym n2.before.same2.ensures ∙ n2.if2.false,
-      sym n3.before.same3.ensures ∙ n3.if3.false,
-      sym n4.before.same4.ensures ∙ n4.if4.false,
-      sym n5.before.same5.ensures ∙ n5.if5.false,
-      sym n6.before.same6.ensures ∙ n6.if6.false,
-      sym c.before.same7.ensures ∙ c.if7.true,
-    )
-
-returns-8 : tie.Need-returns-8
-unfolding named
-returns-8 c =
-    let n6 = c.before.before.before in
-    let n5 = n6.before.before.before in
-    let n4 = n5.before.before.before in
-    let n3 = n4.before.before.before in
-    let n2 = n3.before.before.before in
-    let n1 = n2.before.before.before in
-    rw (
-      sym n1.before.same.ensures ∙ n1.if1.false,
-      sym n2.before.same2.ensures ∙ n2.if2.false,
-      sym n3.before.same3.ensures ∙ n3.if3.false,
-      sym n4.before.same4.ensures ∙ n4.if4.false,
-      sym n5.before.same5.ensures ∙ n5.if5.false,
-      sym n6.before.same6.ensures ∙ n6.if6.false,
-      sym c.before.same7.ensures ∙ c.if7.false,
+      sym c.before.before.before.before.before.before.before.before.before.before.before.before.before.same.ensures ∙ c.before.before.before.before.before.before.before.before.before.before.before.before.if1.false,
+      sym c.before.before.before.before.before.before.before.before.before.before.same2.ensures ∙ c.before.before.before.before.before.before.before.before.before.if2.false,
+      sym c.before.before.before.before.before.before.before.same3.ensures ∙ c.before.before.before.before.before.before.if3.false,
+      sym c.before.before.before.before.same4.ensures ∙ c.before.before.before.if4.false,
+      sym c.before.same5.ensures ∙ c.if5.false,
     )
 
 pub name-number-spec : {M : Type 1} → statement M
@@ -173,10 +92,4 @@ name-number-spec =
     slice-aggregate-same-5
     same-requires-5
     returns-5
-    slice-aggregate-same-6
-    same-requires-6
-    returns-6
-    slice-aggregate-same-7
-    same-requires-7
-    returns-7
-    returns-8)
+    returns-6)

@@ -13,9 +13,6 @@ enum-told-2 c = search rules
 enum-told-3 : tie.Need-enum-told-3
 enum-told-3 c = search rules
 
-enum-told-4 : tie.Need-enum-told-4
-enum-told-4 c = search rules
-
 returns : tie.Need-returns
 unfolding is_refused
 returns c = rw c.enum_told.given.1
@@ -28,10 +25,6 @@ returns-3 : tie.Need-returns-3
 unfolding is_refused
 returns-3 c = rw c.enum-told3.given.1
 
-returns-4 : tie.Need-returns-4
-unfolding is_refused
-returns-4 c = rw c.enum-told4.given.1
-
 pub is-refused-spec : {M : Type 1} → statement M
 is-refused-spec =
-    tie.close (tie.spec enum_told enum-told-2 enum-told-3 enum-told-4 returns returns-2 returns-3 returns-4)
+    tie.close (tie.spec enum_told enum-told-2 enum-told-3 returns returns-2 returns-3)

@@ -19,9 +19,7 @@ same_length c = search rules
 
 returns : tie.Need-returns
 unfolding channel_name
-returns c =
-    let t1 = c.before.before.before.before.before in
-    put-most (omega arith) (put-text (sym (rw (eq-eqb _ _ t1.if1.true))) c.before.before.put.ensures)
+returns c = put-most (omega arith) (put-text (sym (rw (eq-eqb _ _ c.before.before.before.before.before.if1.true))) c.before.before.put.ensures)
 
 slice-aggregate-put-2 : tie.Need-slice-aggregate-put-2
 slice-aggregate-put-2 c = search rules
@@ -34,10 +32,7 @@ same-length-2 c = search rules
 
 returns-2 : tie.Need-returns-2
 unfolding channel_name
-returns-2 c =
-    let t2 = c.before.before.before.before.before in
-    let t1 = t2.before in
-    put-text (sym (rw (ne_eqb _ _ t1.if1.false, eq-eqb _ _ t2.if2.true))) c.before.before.put2.ensures
+returns-2 c = put-text (sym (rw (ne_eqb _ _ c.before.before.before.before.before.before.if1.false, eq-eqb _ _ c.before.before.before.before.before.if2.true))) c.before.before.put2.ensures
 
 slice-aggregate-put-3 : tie.Need-slice-aggregate-put-3
 slice-aggregate-put-3 c = search rules
@@ -50,18 +45,7 @@ same-length-3 c = search rules
 
 returns-3 : tie.Need-returns-3
 unfolding channel_name
-returns-3 c =
-    let t3 = c.before.before.before.before.before in
-    let t2 = t3.before in
-    let t1 = t2.before in
-    put-most (omega arith)
-    (put-text
-    (sym (rw (
-      ne_eqb _ _ t1.if1.false,
-      ne_eqb _ _ t2.if2.false,
-      eq-eqb _ _ t3.if3.true,
-    )))
-    c.before.before.put3.ensures)
+returns-3 c = put-most (omega arith) (put-text (sym (rw (ne_eqb _ _ c.before.before.before.before.before.before.before.if1.false, ne_eqb _ _ c.before.before.before.before.before.before.if2.false, eq-eqb _ _ c.before.before.before.before.before.if3.true))) c.before.before.put3.ensures)
 
 slice-aggregate-put-4 : tie.Need-slice-aggregate-put-4
 slice-aggregate-put-4 c = search rules
@@ -74,76 +58,7 @@ same-length-4 c = search rules
 
 returns-4 : tie.Need-returns-4
 unfolding channel_name
-returns-4 c =
-    let t4 = c.before.before.before.before.before in
-    let t3 = t4.before in
-    let t2 = t3.before in
-    let t1 = t2.before in
-    put-most (omega arith)
-    (put-text
-    (sym (rw (
-      ne_eqb _ _ t1.if1.false,
-      ne_eqb _ _ t2.if2.false,
-      ne_eqb _ _ t3.if3.false,
-      eq-eqb _ _ t4.if4.true,
-    )))
-    c.before.before.put4.ensures)
-
-slice-aggregate-put-5 : tie.Need-slice-aggregate-put-5
-slice-aggregate-put-5 c = search rules
-
-put-requires-5 : tie.Need-put-requires-5
-put-requires-5 c κs = search rules
-
-same-length-5 : tie.Need-same-length-5
-same-length-5 c = search rules
-
-returns-5 : tie.Need-returns-5
-unfolding channel_name
-returns-5 c =
-    let t5 = c.before.before.before.before.before in
-    let t4 = t5.before in
-    let t3 = t4.before in
-    let t2 = t3.before in
-    let t1 = t2.before in
-    put-most (omega arith)
-    (put-text
-    (sym (rw (
-      ne_eqb _ _ t1.if1.false,
-      ne_eqb _ _ t2.if2.false,
-      ne_eqb _ _ t3.if3.false,
-      ne_eqb _ _ t4.if4.false,
-      eq-eqb _ _ t5.if5.true,
-    )))
-    c.before.before.put5.ensures)
-
-slice-aggregate-put-6 : tie.Need-slice-aggregate-put-6
-slice-aggregate-put-6 c = search rules
-
-put-requires-6 : tie.Need-put-requires-6
-put-requires-6 c κs = search rules
-
-same-length-6 : tie.Need-same-length-6
-same-length-6 c = search rules
-
-returns-6 : tie.Need-returns-6
-unfolding channel_name
-returns-6 c =
-    let t5 = c.before.before.before.before.before in
-    let t4 = t5.before in
-    let t3 = t4.before in
-    let t2 = t3.before in
-    let t1 = t2.before in
-    put-most (omega arith)
-    (put-text
-    (sym (rw (
-      ne_eqb _ _ t1.if1.false,
-      ne_eqb _ _ t2.if2.false,
-      ne_eqb _ _ t3.if3.false,
-      ne_eqb _ _ t4.if4.false,
-      ne_eqb _ _ t5.if5.false,
-    )))
-    c.before.before.put6.ensures)
+returns-4 c = put-most (omega arith) (put-text (sym (rw (ne_eqb _ _ c.before.before.before.before.before.before.before.if1.false, ne_eqb _ _ c.before.before.before.before.before.before.if2.false, ne_eqb _ _ c.before.before.before.before.before.if3.false))) c.before.before.put4.ensures)
 
 pub put-channel-spec : {M : Type 1} → statement M
 put-channel-spec =
@@ -164,12 +79,4 @@ put-channel-spec =
     slice-aggregate-put-4
     put-requires-4
     same-length-4
-    returns-4
-    slice-aggregate-put-5
-    put-requires-5
-    same-length-5
-    returns-5
-    slice-aggregate-put-6
-    put-requires-6
-    same-length-6
-    returns-6)
+    returns-4)

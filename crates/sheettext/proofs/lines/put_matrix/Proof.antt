@@ -1,15 +1,12 @@
 -- `put_matrix` meets its contract. Assumes nothing.
-use mathlib.Core.Path.{sym, ◌∙◌}
+use mathlib.Core.Path.{sym}
 use native.Mathlib.Omega.{arith}
-use borrow.Author.Tests.{eq-eqb, ne_eqb}
+use borrow.Author.Tests.{eq-eqb, le-ltb, lt-ltb, ne_eqb}
 use Rattle.text.proofs.Stored.{put-most, put-text}
 use Rattle.sheettext.specs.Texts.{matrix_name}
 use borrow.Author.Rules.{rules}
 use Rattle.sheettext.proofs.lines.put_matrix.Statement.{statement}
 use Rattle.sheettext.proofs.lines.put_matrix.Tie as tie
-
-is-of-pm-requires : tie.Need-is-of-pm-requires
-is-of-pm-requires c κs = search rules
 
 slice-aggregate-put : tie.Need-slice-aggregate-put
 slice-aggregate-put c = search rules
@@ -22,9 +19,7 @@ same_length c = search rules
 
 returns : tie.Need-returns
 unfolding matrix_name
-returns c =
-    let t = c.before.before.before.before.before in
-    put-most (omega arith) (put-text (sym (rw (sym t.before.is-of-pm.ensures ∙ t.if1.true))) c.before.before.put.ensures)
+returns c = put-most (omega arith) (put-text (sym (rw (lt-ltb _ _ c.before.before.before.before.before.if1.true))) c.before.before.put.ensures)
 
 slice-aggregate-put-2 : tie.Need-slice-aggregate-put-2
 slice-aggregate-put-2 c = search rules
@@ -37,10 +32,7 @@ same-length-2 c = search rules
 
 returns-2 : tie.Need-returns-2
 unfolding matrix_name
-returns-2 c =
-    let t = c.before.before.before.before.before in
-    let u = t.before in
-    put-text (sym (rw (sym u.before.is-of-pm.ensures ∙ u.if1.false, eq-eqb _ _ t.if2.true))) c.before.before.put2.ensures
+returns-2 c = put-text (sym (rw (le-ltb _ _ c.before.before.before.before.before.before.if1.false, eq-eqb _ _ c.before.before.before.before.before.if2.true))) c.before.before.put2.ensures
 
 slice-aggregate-put-3 : tie.Need-slice-aggregate-put-3
 slice-aggregate-put-3 c = search rules
@@ -53,16 +45,12 @@ same-length-3 c = search rules
 
 returns-3 : tie.Need-returns-3
 unfolding matrix_name
-returns-3 c =
-    let t = c.before.before.before.before.before in
-    let u = t.before in
-    put-text (sym (rw (sym u.before.is-of-pm.ensures ∙ u.if1.false, ne_eqb _ _ t.if2.false))) c.before.before.put3.ensures
+returns-3 c = put-text (sym (rw (le-ltb _ _ c.before.before.before.before.before.before.if1.false, ne_eqb _ _ c.before.before.before.before.before.if2.false))) c.before.before.put3.ensures
 
 pub put-matrix-spec : {M : Type 1} → statement M
 put-matrix-spec =
     tie.close
     (tie.spec
-    is-of-pm-requires
     slice-aggregate-put
     put-requires
     same_length

@@ -32,49 +32,23 @@ put-requires c κs = search rules
 enum-told-2 : tie.Need-enum-told-2
 enum-told-2 c = search rules
 
-put-asked-requires-3 : tie.Need-put-asked-requires-3
-put-asked-requires-3 c κs = search rules
-
-slice-aggregate-put-2 : tie.Need-slice-aggregate-put-2
-slice-aggregate-put-2 c = search rules
-
-put-requires-2 : tie.Need-put-requires-2
-put-requires-2 c κs = search rules
-
-enum-told-3 : tie.Need-enum-told-3
-enum-told-3 c = search rules
-
 same_length : tie.Need-same-length
 same_length c = search rules
 
 returns : tie.Need-returns
 unfolding names
-returns c =
-    let a = c.before.before.before.before.before.before in
-    put-text (sym (rw a.before.before.before.entry.given.1)) (put_then a.put-asked.ensures c.before.before.put-found.ensures)
+returns c = put-text (sym (rw c.before.before.before.before.before.before.before.before.before.entry.given.1)) (put_then c.before.before.before.before.before.before.put-asked.ensures c.before.before.put-found.ensures)
 
 same-length-2 : tie.Need-same-length-2
 same-length-2 c = search rules
 
 returns-2 : tie.Need-returns-2
 unfolding names
-returns-2 c =
-    let a = c.before.before.before.before.before.before.before in
-    put-text (sym (rw a.before.before.enum_told.given.1)) (put-most (omega arith) (put_then a.put-asked2.ensures c.before.before.put.ensures))
-
-same-length-3 : tie.Need-same-length-3
-same-length-3 c = search rules
+returns-2 c = put-text (sym (rw c.before.before.before.before.before.before.before.before.before.enum_told.given.1)) (put-most (omega arith) (put_then c.before.before.before.before.before.before.before.put-asked2.ensures c.before.before.put.ensures))
 
 returns-3 : tie.Need-returns-3
 unfolding names
-returns-3 c =
-    let a = c.before.before.before.before.before.before.before in
-    put-text (sym (rw a.before.before.enum-told2.given.1))
-    (put-most (omega arith) (put_then a.put-asked3.ensures c.before.before.put2.ensures))
-
-returns-4 : tie.Need-returns-4
-unfolding names
-returns-4 c = put-nothing _ _ _ _ (rw c.enum-told3.given.1)
+returns-3 c = put-nothing _ _ _ _ (rw c.enum-told2.given.1)
 
 pub put-names-spec : {M : Type 1} → statement M
 put-names-spec =
@@ -88,14 +62,8 @@ put-names-spec =
     slice-aggregate-put
     put-requires
     enum-told-2
-    put-asked-requires-3
-    slice-aggregate-put-2
-    put-requires-2
-    enum-told-3
     same_length
     returns
     same-length-2
     returns-2
-    same-length-3
-    returns-3
-    returns-4)
+    returns-3)

@@ -26,15 +26,6 @@ put-requires c κs = search rules
 enum-told-2 : tie.Need-enum-told-2
 enum-told-2 c = search rules
 
-slice-aggregate-put-2 : tie.Need-slice-aggregate-put-2
-slice-aggregate-put-2 c = search rules
-
-put-requires-2 : tie.Need-put-requires-2
-put-requires-2 c κs = search rules
-
-enum-told-3 : tie.Need-enum-told-3
-enum-told-3 c = search rules
-
 same_length : tie.Need-same-length
 same_length c = search rules
 
@@ -49,16 +40,9 @@ returns-2 : tie.Need-returns-2
 unfolding value_text
 returns-2 c = put-most (omega arith) (put-text (sym (rw c.before.before.before.before.before.enum_told.given.1)) c.before.before.put.ensures)
 
-same-length-3 : tie.Need-same-length-3
-same-length-3 c = search rules
-
 returns-3 : tie.Need-returns-3
 unfolding value_text
-returns-3 c = put-most (omega arith) (put-text (sym (rw c.before.before.before.before.before.enum-told2.given.1)) c.before.before.put2.ensures)
-
-returns-4 : tie.Need-returns-4
-unfolding value_text
-returns-4 c = put-nothing _ _ _ _ (rw c.enum-told3.given.1)
+returns-3 c = put-nothing _ _ _ _ (rw c.enum-told2.given.1)
 
 pub put-value-spec : {M : Type 1} → statement M
 put-value-spec =
@@ -70,13 +54,8 @@ put-value-spec =
     slice-aggregate-put
     put-requires
     enum-told-2
-    slice-aggregate-put-2
-    put-requires-2
-    enum-told-3
     same_length
     returns
     same-length-2
     returns-2
-    same-length-3
-    returns-3
-    returns-4)
+    returns-3)

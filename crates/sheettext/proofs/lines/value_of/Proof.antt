@@ -1,6 +1,5 @@
 -- `value_of` meets its contract: the match is the definition's. Assumes nothing.
-use mathlib.Core.Path.{sym, ◌∙◌}
-use borrow.Author.Tests.{eq-eqb, ne_eqb}
+use borrow.Author.Tests.{eq-eqb, le-ltb, lt-ltb, ne_eqb}
 use Rattle.sheettext.specs.Texts.{value_in}
 use borrow.Author.Rules.{rules}
 use Rattle.sheettext.proofs.lines.value_of.Statement.{statement}
@@ -9,26 +8,19 @@ use Rattle.sheettext.proofs.lines.value_of.Tie as tie
 enum-known-entry : tie.Need-enum-known-entry
 enum-known-entry c = search rules
 
-is-of-pm-requires : tie.Need-is-of-pm-requires
-is-of-pm-requires c κs = search rules
-
 bit-at-requires : tie.Need-bit-at-requires
 bit-at-requires c κs = search rules
 
 returns : tie.Need-returns
 unfolding value_in
-returns c =
-    let t = c.before in
-    rw (t.before.before.before.entry.given.1, sym t.before.is-of-pm.ensures ∙ t.if1.true) c.bit-at.ensures
+returns c = rw (c.before.before.before.before.entry.given.1, lt-ltb _ _ c.before.if1.true) c.bit-at.ensures
 
 bit-at-requires-2 : tie.Need-bit-at-requires-2
 bit-at-requires-2 c κs = search rules
 
 returns-2 : tie.Need-returns-2
 unfolding value_in
-returns-2 c =
-    let t = c.before.before.before in
-    rw (t.before.before.before.entry.given.1, sym t.before.is-of-pm.ensures ∙ t.if1.false, eq-eqb _ _ c.before.if2.true) c.bit-at2.ensures
+returns-2 c = rw (c.before.before.before.before.before.before.entry.given.1, le-ltb _ _ c.before.before.before.if1.false, eq-eqb _ _ c.before.if2.true) c.bit-at2.ensures
 
 bit-at-requires-3 : tie.Need-bit-at-requires-3
 bit-at-requires-3 c κs = search rules
@@ -39,14 +31,9 @@ enum_told c = search rules
 enum-told-2 : tie.Need-enum-told-2
 enum-told-2 c = search rules
 
-enum-told-3 : tie.Need-enum-told-3
-enum-told-3 c = search rules
-
 returns-3 : tie.Need-returns-3
 unfolding value_in
-returns-3 c =
-    let t = c.before.before.before in
-    rw (t.before.before.before.entry.given.1, sym t.before.is-of-pm.ensures ∙ t.if1.false, ne_eqb _ _ c.before.if2.false) c.bit-at3.ensures
+returns-3 c = rw (c.before.before.before.before.before.before.entry.given.1, le-ltb _ _ c.before.before.before.if1.false, ne_eqb _ _ c.before.if2.false) c.bit-at3.ensures
 
 returns-4 : tie.Need-returns-4
 unfolding value_in
@@ -56,16 +43,11 @@ returns-5 : tie.Need-returns-5
 unfolding value_in
 returns-5 c = rw c.enum-told2.given.1
 
-returns-6 : tie.Need-returns-6
-unfolding value_in
-returns-6 c = rw c.enum-told3.given.1
-
 pub value-of-spec : {M : Type 1} → statement M
 value-of-spec =
     tie.close
     (tie.spec
     enum-known-entry
-    is-of-pm-requires
     bit-at-requires
     returns
     bit-at-requires-2
@@ -73,8 +55,6 @@ value-of-spec =
     bit-at-requires-3
     enum_told
     enum-told-2
-    enum-told-3
     returns-3
     returns-4
-    returns-5
-    returns-6)
+    returns-5)

@@ -1,0 +1,7 @@
+-- `writing::narrow` meets its contract: the law `narrow-writing`. Assumes nothing.
+use Rattle.finding_px.proofs.Cells.{narrow-writing}
+use Rattle.finding_px.proofs.writing.narrow.Goals as goal
+
+pub returns : goal.returns
+returns c =
+    narrow-writing c.args.frame c.args.i _ c.requires.1 c.partition_of_4-p.ensures.0

@@ -1,0 +1,9 @@
+-- `times_at` meets its contract. Assumes nothing.
+use borrow.Author.Tests.{le-ltb, lt-ltb}
+use Rattle.vector_step.proofs.lines.times_at.Goals as goal
+
+pub returns-then-k-lt546 : goal.returns-then-k-lt546
+returns-then-k-lt546 c = rw (lt-ltb _ _ c.if-k-lt546.true)
+
+pub returns : goal.returns
+returns c = rw (le-ltb _ _ c.if-k-lt546.false)

@@ -1,0 +1,36 @@
+use mathlib.Core.Path.{refl, ap, ◌∙◌}
+use Prim.Native.Nat.{ℕ, ◌+◌, ◌-◌}
+use native.Mathlib.Omega.{arith}
+use Rattle.bits.proofs.Listed.{filled_none, filled-turn, filled-all}
+use Rattle.coding.specs.Coder.{back}
+use Rattle.bits.specs.Bits.{bit_at}
+use Rattle.workings.proofs.seven_bits.Goals as goal
+
+pub loop-d-init : goal.loop-d-init
+loop-d-init c = (omega arith, filled_none 7 _ _ refl)
+
+pub back-requires : goal.back-requires
+back-requires c = (omega arith, omega arith, omega arith, omega arith)
+
+pub overflow_add-start : goal.overflow_add-start
+overflow_add-start c = omega arith
+
+pub get-requires : goal.get-requires
+get-requires c = omega arith
+
+pub bounds-seven-d : goal.bounds-seven-d
+bounds-seven-d c = omega arith
+
+pub overflow_add-d : goal.overflow_add-d
+overflow_add-d c = omega arith
+
+pub loop-d-smaller : goal.loop-d-smaller
+loop-d-smaller c = omega arith
+
+pub loop-d-preserved : goal.loop-d-preserved
+loop-d-preserved c =
+    let a = c.args in
+    (omega arith, filled-turn _ c.loop-d.invariant.1 c.loop-d-test.true (c.get.ensures ∙ ap (λ (x : ℕ). bit_at a.frames.now (a.start + x)) c.back.ensures.0))
+
+pub returns : goal.returns
+returns c = filled-all c.loop-d.invariant.1 c.loop-d-test.false c.loop-d.invariant.0
