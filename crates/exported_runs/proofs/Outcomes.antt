@@ -23,15 +23,15 @@ module _ (o : Outcome) (m : Memory) (step : Started) (e : start_gave o m ≡ ste
   pub start_small : place_of step.answer < 2 ^ 24 → place_of o.answer < 2 ^ 24
   start_small = subst (λ (g : Started). place_of g.answer < 2 ^ 24) (sym e)
 
-  pub start_left : (r : ℕ) → r ≡ outcome_word o.answer o.state → start_left r m ≡ start_left_by step
-  start_left r w = ap (λ (r : ℕ). start_left r m) w ∙ ap start_left_by e
+  pub start_left-is : (r : ℕ) → r ≡ outcome_word o.answer o.state → start_left r m ≡ start_left_by step
+  start_left-is r w = ap (λ (r : ℕ). start_left r m) w ∙ ap start_left_by e
 
 module _ (o : Outcome) (m : Memory) (l : Lent) (step : Result) (e : gave o m l ≡ step) where
   pub small : place_of step.answer < 2 ^ 24 → place_of o.answer < 2 ^ 24
   small = subst (λ (g : Result). place_of g.answer < 2 ^ 24) (sym e)
 
-  pub left_by : (r : ℕ) → r ≡ outcome_word o.answer o.state → left r m l ≡ left_by step
-  left_by r w = ap (λ (r : ℕ). left r m l) w ∙ ap left_by e
+  pub left_by-is : (r : ℕ) → r ≡ outcome_word o.answer o.state → left r m l ≡ left_by step
+  left_by-is r w = ap (λ (r : ℕ). left r m l) w ∙ ap left_by e
 
 -- ---- a reading: the number that it returned is in the word
 

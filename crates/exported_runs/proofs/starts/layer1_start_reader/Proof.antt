@@ -1,5 +1,5 @@
 -- `layer1_start_reader` meets its contract: `layer1::start_reader` gave it, and every place fits its field. Assumes nothing.
-use Rattle.exported_runs.proofs.Outcomes.{start_left, start_small}
+use Rattle.exported_runs.proofs.Outcomes.{start_left-is, start_small}
 use Rattle.runs.proofs.Places.{start-place}
 use borrow.Author.Rules.{rules}
 use Rattle.exported_runs.proofs.starts.layer1_start_reader.Statement.{statement}
@@ -21,7 +21,7 @@ same-length-3 : tie.Need-same-length-3
 same-length-3 c = search rules
 
 returns : tie.Need-returns
-returns c = start_left _ _ _ c.before.before.before.before.before.before.before.before.start-reader.ensures _ c.outcome-word.ensures.0
+returns c = start_left-is _ _ _ c.before.before.before.before.before.before.before.before.start-reader.ensures _ c.outcome-word.ensures.0
 
 pub layer1-start-reader-spec : {M : Type 1} → statement M
 layer1-start-reader-spec =
