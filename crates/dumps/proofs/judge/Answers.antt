@@ -10,16 +10,13 @@ use Rattle.layout.proofs.Heads.{head_of}
 use Rattle.dumps.proofs.Fresh.{memory-clear, room-delay, room-memory3, room-memory4}
 use Rattle.dumps.proofs.Taken.{refused-head, taken-by}
 use Rattle.dumps.proofs.judge.Goals as goal
-use Rattle.dumps.proofs.judge.Goals.{Else-number-ne0, Start}
+use Rattle.dumps.proofs.judge.Goals.{Else-number-ne0}
 
 -- where the header was taken, it has eight bytes
-abbrev start_of : Else-number-ne0 → Start
-start_of c = c
-
-clear : (c : Else-number-ne0) → number_of (head_answer (start_of c).args.dump.now) ≡ 0
+clear : (c : Else-number-ne0) → number_of (head_answer c.args.dump.now) ≡ 0
 clear c = ap number_of (sym c.head_answer-head.ensures) ∙ sym c.number.ensures ∙ c.if-number-ne0.false
 
-long : (c : Else-number-ne0) → 8 ≤ length (start_of c).args.dump.now
+long : (c : Else-number-ne0) → 8 ≤ length c.args.dump.now
 long c = (head_of _ (clear c)).long
 
 pub returns-then-number-ne0 : goal.returns-then-number-ne0
@@ -69,4 +66,4 @@ judge_frames-requires c = memory-clear _ _ c.reader_lengths-want.ensures
 
 pub returns : goal.returns
 returns c =
-    c.judge_frames.ensures ∙ taken-by (start_of (goal.at.returns c).Else-number-ne0).args.dump.now c.word_at-count.result (clear (goal.at.returns c).Else-number-ne0) c.word_at-count.ensures
+    c.judge_frames.ensures ∙ taken-by c.args.dump.now c.word_at-count.result (clear (goal.at.returns c).Else-number-ne0) c.word_at-count.ensures
