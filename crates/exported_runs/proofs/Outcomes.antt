@@ -30,8 +30,8 @@ module _ (o : Outcome) (m : Memory) (l : Lent) (step : Result) (e : gave o m l �
   pub small : place_of step.answer < 2 ^ 24 → place_of o.answer < 2 ^ 24
   small = subst (λ (g : Result). place_of g.answer < 2 ^ 24) (sym e)
 
-  pub left-is : (r : ℕ) → r ≡ outcome_word o.answer o.state → left r m l ≡ left_by step
-  left-is r w = ap (λ (r : ℕ). left r m l) w ∙ ap left_by e
+  pub left_by-is : (r : ℕ) → r ≡ outcome_word o.answer o.state → left r m l ≡ left_by step
+  left_by-is r w = ap (λ (r : ℕ). left r m l) w ∙ ap left_by e
 
 -- ---- a reading: the number that it returned is in the word
 

@@ -9,7 +9,7 @@ use Rattle.bits.specs.Bits.{Bytes}
 use Rattle.runs.specs.Chain.{Buffer}
 use Rattle.runs.specs.Runs.{Every}
 use Rattle.summing.specs.Sums.{sum_of}
-use Rattle.summing.proofs.Added.{one_by_one, one_by_one, plus}
+use Rattle.summing.proofs.Added.{one_by_one, one_by_one-sum, plus}
 use Rattle.keys_step.specs.Summed.{added_to, summed}
 
 first : (sum x : Buffer) → added_to 0 sum x ≡ x
@@ -30,4 +30,4 @@ pub all-added : (sum x : Buffer) (xs : List Buffer) (n : ℕ) → Bytes x → le
     → summed 0 sum (x ∷ xs) ≡ sum_of (x ∷ xs) (λ (b : Buffer). b)
 unfolding summed
 all-added sum x xs n bytes long each =
-    summed-on 0 (added_to 0 sum x) xs ∙ ap (λ (y : Buffer). one_by_one y xs) (first sum x) ∙ one_by_one x xs n bytes long each
+    summed-on 0 (added_to 0 sum x) xs ∙ ap (λ (y : Buffer). one_by_one y xs) (first sum x) ∙ one_by_one-sum x xs n bytes long each

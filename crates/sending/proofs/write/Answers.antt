@@ -46,7 +46,8 @@ fill_control-requires c =
 pub returns : goal.returns
 returns c =
     let a = c.args in
-    worked a.state (memory a.memory3.now a.memory4.now a.delay.now) (frames a.reserved a.p1.now a.pids.now a.p2.now a.p3.now a.p4.now)
+    let leaves = worked a.state (memory a.memory3.now a.memory4.now a.delay.now) (frames a.reserved a.p1.now a.pids.now a.p2.now a.p3.now a.p4.now)
     c.main_of-main.result c.kind_of-2.result c.kind_of.result _ _ _ _ _ _ _
     c.main_of-main.ensures c.kind_of-2.ensures c.kind_of.ensures
-    c.write_px2.ensures.0 c.write_px2.ensures.1 c.write_pm.ensures c.write_px.ensures c.fill_control.ensures
+    c.write_px2.ensures.by_index c.write_px2.ensures.memory_after c.write_pm.ensures c.write_px.ensures c.fill_control.ensures in
+    record { control_after = leaves.0; delay_after = leaves.1 }

@@ -1,5 +1,5 @@
 -- `layer1_send` meets its contract: `layer1::send` gave it, and every place fits its field. Assumes nothing.
-use Rattle.exported_runs.proofs.Outcomes.{left-is, small}
+use Rattle.exported_runs.proofs.Outcomes.{left_by-is, small}
 use Rattle.runs.proofs.Places.{send-place}
 use borrow.Author.Rules.{rules}
 use Rattle.exported_runs.proofs.sends.layer1_send.Statement.{statement}
@@ -33,7 +33,7 @@ same-length-7 : tie.Need-same-length-7
 same-length-7 c = search rules
 
 returns : tie.Need-returns
-returns c = left-is _ _ _ _ c.before.before.before.before.before.before.before.before.before.before.before.before.before.before.before.before.send.ensures _ c.outcome-word.ensures.0
+returns c = left_by-is _ _ _ _ c.before.before.before.before.before.before.before.before.before.before.before.before.before.before.before.before.send.ensures _ c.outcome-word.ensures.0
 
 pub layer1-send-spec : {M : Type 1} → statement M
 layer1-send-spec =

@@ -6,12 +6,8 @@ use Rattle.ownerlines.specs.Printed.{output, printed}
 use Rattle.ownerlines.specs.Running.{held_of}
 use Rattle.ownerlines.proofs.Held.{held-empty, all_lines}
 use mathlib.Core.List.{[]}
-use Rattle.ownerlines.proofs.start.Statement.{statement}
-use Rattle.ownerlines.proofs.start.Tie as tie
+use Rattle.ownerlines.proofs.start.Goals as goal
 
-returns : tie.Need-returns
+pub returns : goal.returns
 returns c =
     (omega arith, refl, λ mode line. first-line held_of (printed mode) (output mode) [] (all_lines mode) refl held-empty)
-
-pub start_spec : {M : Type 1} → statement M
-start_spec = tie.close (tie.spec returns)

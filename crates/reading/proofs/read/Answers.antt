@@ -1,0 +1,122 @@
+-- `read` meets its contract: a refused state or length leaves everything, and otherwise it is received. Assumes nothing.
+use mathlib.Core.Path.{refl, sym, ◌∙◌}
+use native.Mathlib.Omega.{arith}
+use lib.Seq.{length-take-le}
+use lib.ListN.{length}
+use Prim.Native.Nat.{◌≤◌}
+use Rattle.runs.specs.declared.Extended.TheVariants.{P3, P4}
+use Rattle.runs.specs.MainChannels.{main_of}
+use Rattle.runs.specs.Lengths.{kind_of, reader_len}
+use Rattle.runs.specs.Lent.{Lent, Memory}
+use Rattle.runs.proofs.Bounds.{frame-le, p1-le, p2-le}
+use Rattle.calls.specs.Called.{lent, memory}
+use Rattle.calls.specs.Fits.{Fits}
+use Rattle.reading.proofs.ReadCases.{let-in, readable, turned_down}
+use Rattle.reading.proofs.read.Goals as goal
+use Rattle.reading.proofs.read.Goals.{Else-number-ne0, Start}
+
+-- what was lent, at the start
+abbrev lent_at : Start → Lent
+lent_at s =
+    let a = s.args in
+    lent 0 a.p1.now a.pids.now a.p2.now a.p3.now a.p4.now a.pm.now a.px1.now a.px2.now a.control.now
+
+abbrev memory_at : Start → Memory
+memory_at s = memory s.args.memory3.now s.args.memory4.now s.args.delay.now
+
+-- where the call was admitted, all lengths fit, and the frames of its own have room
+abbrev start_of : Else-number-ne0 → Start
+start_of c = c
+
+fit : (c : Else-number-ne0) → Fits reader_len (start_of c).args.state (memory_at (start_of c)) (lent_at (start_of c))
+fit c =
+    let s = start_of c in
+    readable s.args.state (memory_at s) (lent_at s) _ _ _ refl c.reader_lengths-want.ensures c.admit-answer.ensures (sym c.number.ensures ∙ c.if-number-ne0.false) (omega arith)
+
+short1 : (c : Else-number-ne0) → length (start_of c).args.p1.now ≤ 18272
+short1 c = omega (arith, (fit c).p1, p1-le (main_of (start_of c).args.state.mode))
+
+short2 : (c : Else-number-ne0) → length (start_of c).args.p2.now ≤ 13664
+short2 c = omega (arith, (fit c).p2, p2-le (main_of (start_of c).args.state.mode))
+
+short3 : (c : Else-number-ne0) → length (start_of c).args.p3.now ≤ 4608
+short3 c = omega (arith, (fit c).p3, frame-le (kind_of (start_of c).args.state.mode P3))
+
+short4 : (c : Else-number-ne0) → length (start_of c).args.p4.now ≤ 4608
+short4 c = omega (arith, (fit c).p4, frame-le (kind_of (start_of c).args.state.mode P4))
+
+pub returns-then-number-ne0 : goal.returns-then-number-ne0
+returns-then-number-ne0 c =
+    turned_down c.args.state (memory_at (goal.at.returns-then-number-ne0 c).Start) (lent_at (goal.at.returns-then-number-ne0 c).Start) _ _ _ refl c.reader_lengths-want.ensures c.admit-answer.ensures (λ z. c.if-number-ne0.true (c.number.ensures ∙ z))
+
+pub slice_bounds-own1-end : goal.slice_bounds-own1-end
+slice_bounds-own1-end c = short1 (goal.at.slice_bounds-own1-end c).Else-number-ne0
+
+pub slice_bounds-receive-end : goal.slice_bounds-receive-end
+slice_bounds-receive-end c = sym (length-take-le _ _ (short1 (goal.at.slice_bounds-receive-end c).Else-number-ne0))
+
+pub slice_bounds-own2-end : goal.slice_bounds-own2-end
+slice_bounds-own2-end c = short2 (goal.at.slice_bounds-own2-end c).Else-number-ne0
+
+pub slice_bounds-receive-end-3 : goal.slice_bounds-receive-end-3
+slice_bounds-receive-end-3 c = sym (length-take-le _ _ (short2 (goal.at.slice_bounds-receive-end-3 c).Else-number-ne0))
+
+pub slice_bounds-own3-end : goal.slice_bounds-own3-end
+slice_bounds-own3-end c = short3 (goal.at.slice_bounds-own3-end c).Else-number-ne0
+
+pub slice_bounds-receive-end-4 : goal.slice_bounds-receive-end-4
+slice_bounds-receive-end-4 c = sym (length-take-le _ _ (short3 (goal.at.slice_bounds-receive-end-4 c).Else-number-ne0))
+
+pub slice_bounds-own4-end : goal.slice_bounds-own4-end
+slice_bounds-own4-end c = short4 (goal.at.slice_bounds-own4-end c).Else-number-ne0
+
+pub slice_bounds-receive-end-5 : goal.slice_bounds-receive-end-5
+slice_bounds-receive-end-5 c = sym (length-take-le _ _ (short4 (goal.at.slice_bounds-receive-end-5 c).Else-number-ne0))
+
+pub receive-requires : goal.receive-requires
+receive-requires c =
+    let f = fit (goal.at.receive-requires c).Else-number-ne0 in (
+      f,
+      record {
+        mode-lt = f.mode-lt;
+        half_lt = f.half_lt;
+        reserved-lt = f.reserved-lt;
+        p1 = length-take-le _ _ (short1 (goal.at.receive-requires c).Else-number-ne0) ∙ f.p1;
+        pids = refl;
+        p2 = length-take-le _ _ (short2 (goal.at.receive-requires c).Else-number-ne0) ∙ f.p2;
+        p3 = length-take-le _ _ (short3 (goal.at.receive-requires c).Else-number-ne0) ∙ f.p3;
+        p4 = length-take-le _ _ (short4 (goal.at.receive-requires c).Else-number-ne0) ∙ f.p4;
+        pm = f.pm;
+        px1 = f.px1;
+        px2 = f.px2;
+        control = f.control;
+        memory3 = f.memory3;
+        memory4 = f.memory4;
+        delay = f.delay;
+      },
+    )
+
+pub shape_of-p1 : goal.shape_of-p1
+shape_of-p1 c = c.p1-1.given
+
+pub shape_of-pids : goal.shape_of-pids
+shape_of-pids c = c.pids-1.given
+
+pub shape_of-p2 : goal.shape_of-p2
+shape_of-p2 c = c.p2-1.given
+
+pub shape_of-p3 : goal.shape_of-p3
+shape_of-p3 c = c.p3-1.given
+
+pub shape_of-p4 : goal.shape_of-p4
+shape_of-p4 c = c.p4-1.given
+
+pub shape_of-memory3 : goal.shape_of-memory3
+shape_of-memory3 c = c.memory3-1.given
+
+pub shape_of-memory4 : goal.shape_of-memory4
+shape_of-memory4 c = c.memory4-1.given
+
+pub returns : goal.returns
+returns c =
+    c.receive.ensures ∙ let-in c.args.state (memory_at (goal.at.returns c).Start) (lent_at (goal.at.returns c).Start) _ _ _ refl c.reader_lengths-want.ensures c.admit-answer.ensures (sym c.number.ensures ∙ c.if-number-ne0.false)
