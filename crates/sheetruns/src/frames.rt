@@ -18,7 +18,7 @@ use sheetturns::take_turn;
 use text::{field, put};
 
 // Puts that an L1 frame is refused, and its answer.
-fn put_no_frame(out: &mut [u8], t: u64, answer: Answer) -> usize
+pub fn put_no_frame(out: &mut [u8], t: u64, answer: Answer) -> usize
     requires { 91 ≤ length out.old }
     ensures { Put out.old out.new 0 result 91 (no_frame t answer) }
 {

@@ -24,26 +24,31 @@ lent_at s =
 abbrev memory_at : Start → Memory
 memory_at s = memory s.args.memory3.now s.args.memory4.now s.args.delay.now
 
--- where the call was admitted, all lengths fit, and the frames of its own have room
-abbrev start_of : Else-number-ne0 → Start
-start_of c = c
+-- the same where the call was admitted
+abbrev lent_in : Else-number-ne0 → Lent
+lent_in c =
+    let a = c.args in
+    lent 0 a.p1.now a.pids.now a.p2.now a.p3.now a.p4.now a.pm.now a.px1.now a.px2.now a.control.now
 
-fit : (c : Else-number-ne0) → Fits reader_len (start_of c).args.state (memory_at (start_of c)) (lent_at (start_of c))
+abbrev memory_in : Else-number-ne0 → Memory
+memory_in c = memory c.args.memory3.now c.args.memory4.now c.args.delay.now
+
+-- all lengths fit there, and the frames of its own have room
+fit : (c : Else-number-ne0) → Fits reader_len c.args.state (memory_in c) (lent_in c)
 fit c =
-    let s = start_of c in
-    readable s.args.state (memory_at s) (lent_at s) _ _ _ refl c.reader_lengths-want.ensures c.admit-answer.ensures (sym c.number.ensures ∙ c.if-number-ne0.false) (omega arith)
+    readable c.args.state (memory_in c) (lent_in c) _ _ _ refl c.reader_lengths-want.ensures c.admit-answer.ensures (sym c.number.ensures ∙ c.if-number-ne0.false) (omega arith)
 
-short1 : (c : Else-number-ne0) → length (start_of c).args.p1.now ≤ 18272
-short1 c = omega (arith, (fit c).p1, p1-le (main_of (start_of c).args.state.mode))
+short1 : (c : Else-number-ne0) → length c.args.p1.now ≤ 18272
+short1 c = omega (arith, (fit c).p1, p1-le (main_of c.args.state.mode))
 
-short2 : (c : Else-number-ne0) → length (start_of c).args.p2.now ≤ 13664
-short2 c = omega (arith, (fit c).p2, p2-le (main_of (start_of c).args.state.mode))
+short2 : (c : Else-number-ne0) → length c.args.p2.now ≤ 13664
+short2 c = omega (arith, (fit c).p2, p2-le (main_of c.args.state.mode))
 
-short3 : (c : Else-number-ne0) → length (start_of c).args.p3.now ≤ 4608
-short3 c = omega (arith, (fit c).p3, frame-le (kind_of (start_of c).args.state.mode P3))
+short3 : (c : Else-number-ne0) → length c.args.p3.now ≤ 4608
+short3 c = omega (arith, (fit c).p3, frame-le (kind_of c.args.state.mode P3))
 
-short4 : (c : Else-number-ne0) → length (start_of c).args.p4.now ≤ 4608
-short4 c = omega (arith, (fit c).p4, frame-le (kind_of (start_of c).args.state.mode P4))
+short4 : (c : Else-number-ne0) → length c.args.p4.now ≤ 4608
+short4 c = omega (arith, (fit c).p4, frame-le (kind_of c.args.state.mode P4))
 
 pub returns-then-number-ne0 : goal.returns-then-number-ne0
 returns-then-number-ne0 c =

@@ -28,9 +28,9 @@ pub returns : goal.returns
 returns c =
     let mode = c.args.mode in
     let want : List ℕ = c.sender_lengths-want.result in
-    let e0 : get_or want 0 0 ≡ p1_len (main_of mode) = ap (λ (l : List ℕ). get_or l 0 0) l.sender-lengths.ensures in
-    let e1 : get_or want 1 0 ≡ pids_len = ap (λ (l : List ℕ). get_or l 1 0) l.sender-lengths.ensures in
-    let e2 : get_or want 2 0 ≡ p2_len (main_of mode) = ap (λ (l : List ℕ). get_or l 2 0) l.sender-lengths.ensures in
+    let e0 : get_or want 0 0 ≡ p1_len (main_of mode) = ap (λ (l : List ℕ). get_or l 0 0) c.sender_lengths-want.ensures in
+    let e1 : get_or want 1 0 ≡ pids_len = ap (λ (l : List ℕ). get_or l 1 0) c.sender_lengths-want.ensures in
+    let e2 : get_or want 2 0 ≡ p2_len (main_of mode) = ap (λ (l : List ℕ). get_or l 2 0) c.sender_lengths-want.ensures in
     let e3 = c.capped-p3.ensures.0 in
     let e4 = c.capped-p4.ensures.0 in
     λ i. 1 + e0 i + e1 i + e2 i + e3 i + e4 i

@@ -1,0 +1,56 @@
+use mathlib.Core.Path.{refl, sym, ◌∙◌}
+use Prim.Native.Nat.{◌-◌}
+use native.Mathlib.Omega.{arith}
+use borrow.Author.Rules.{rules}
+use Rattle.dumps.proofs.Steps.{begun, done, left_over, next_one, room, turned_down}
+use Rattle.dumps.proofs.judge_frames.Goals as goal
+
+pub loop-t-init : goal.loop-t-init
+loop-t-init c = (
+  omega arith,
+  omega arith,
+  c.frame_bytes-n.ensures,
+  refl,
+  refl,
+  refl,
+  begun c.args.mode c.args.count c.args.frames.now _ _ _ c.start_reader-begun.ensures c.requires,
+)
+
+pub returns-then-number-ne0 : goal.returns-then-number-ne0
+returns-then-number-ne0 c =
+    let a = c.args in
+    turned_down a.mode a.count a.frames.now _ _ _ _ _ c.loop-t.invariant.2 c.loop-t.invariant.6 c.loop-t-test.true c.judge_frame-judged.result _ c.judge_frame-judged.ensures (λ z. c.if-number-ne0.true (c.number.ensures ∙ z))
+
+pub overflow_add-at : goal.overflow_add-at
+overflow_add-at c =
+    let a = c.args in
+    let le = room a.mode a.count a.frames.now _ _ _ _ _ c.loop-t.invariant.2 c.loop-t.invariant.6 c.loop-t-test.true c.judge_frame-judged.result _ c.judge_frame-judged.ensures (sym c.number.ensures ∙ c.if-number-ne0.false) in
+    omega (arith, le, c.loop-t.invariant.0, c.ranges, c.well_formed)
+
+pub overflow_add-t : goal.overflow_add-t
+overflow_add-t c =
+    omega (arith, c.loop-t-test.true, c.ranges, c.well_formed)
+
+pub loop-t-preserved : goal.loop-t-preserved
+loop-t-preserved c =
+    let a = c.args in (
+      let le = room a.mode a.count a.frames.now _ _ _ _ _ c.loop-t.invariant.2 c.loop-t.invariant.6 c.loop-t-test.true c.judge_frame-judged.result _ c.judge_frame-judged.ensures (sym c.number.ensures ∙ c.if-number-ne0.false) in omega (arith, le, c.loop-t.invariant.0),
+      omega arith,
+      c.loop-t.invariant.2,
+      search rules,
+      search rules,
+      search rules,
+      next_one a.mode a.count a.frames.now _ _ _ _ _ c.loop-t.invariant.2 c.loop-t.invariant.6 c.loop-t-test.true c.judge_frame-judged.result _ c.judge_frame-judged.ensures (sym c.number.ensures ∙ c.if-number-ne0.false),
+    )
+
+pub returns-then-at-frames : goal.returns-then-at-frames
+returns-then-at-frames c =
+    let a = c.args in
+    c.judged_as.ensures
+    ∙ left_over a.mode a.count a.frames.now _ _ _ _ _ c.loop-t.invariant.2 c.loop-t.invariant.6 (omega (arith, c.loop-t.invariant, c.loop-t-test.false)) c.if-at-frames.true
+
+pub returns : goal.returns
+returns c =
+    let a = c.args in
+    c.judged_as-2.ensures
+    ∙ done a.mode a.count a.frames.now _ _ _ _ _ c.loop-t.invariant.2 c.loop-t.invariant.6 (omega (arith, c.loop-t.invariant, c.loop-t-test.false)) c.if-at-frames.false

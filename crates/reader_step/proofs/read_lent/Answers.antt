@@ -1,0 +1,27 @@
+-- `read_lent` meets its contract: the L1 frame was read, or it was refused. Assumes nothing.
+use mathlib.Core.Path.{◌∙◌, sym}
+use native.Mathlib.Omega.{arith}
+use Rattle.messages.specs.Lines.{in_words}
+use Rattle.steps.proofs.Taken.{was-done, was-refused}
+use Rattle.reader_step.specs.Returned.{frame_bytes}
+use Rattle.reader_step.proofs.read_lent.Goals as goal
+
+pub put_in_words-length-requires : goal.put_in_words-length-requires
+put_in_words-length-requires c = c.requires.0
+
+pub returns-then-number-ne0 : goal.returns-then-number-ne0
+returns-then-number-ne0 c =
+    let a = c.args in
+    let n = c.number-number.ensures in (
+      c.put_in_words-length.ensures.0,
+      was-refused (frame_bytes a.state.age) a.frame _ _ _ c.read_bytes-read.ensures (λ z. c.if-number-ne0.true (n ∙ z))
+          (c.put_in_words-length.ensures.1 ∙ (λ i. in_words (n i) (c.place-place.ensures i) a.frame)),
+    )
+
+pub put_returned-length-requires : goal.put_returned-length-requires
+put_returned-length-requires c = omega (arith, c.requires.1, c.p1-1.given, c.pids-1.given, c.p2-1.given, c.p3-1.given, c.p4-1.given)
+
+pub returns : goal.returns
+returns c =
+    let a = c.args in
+    (c.put_returned-length.ensures.0, was-done (frame_bytes a.state.age) a.frame _ _ _ c.read_bytes-read.ensures (sym c.number-number.ensures ∙ c.if-number-ne0.false) c.put_returned-length.ensures.1)

@@ -1,0 +1,26 @@
+-- `send_lent` meets its contract: the L1 frame was sent, or it was refused. Assumes nothing.
+use mathlib.Core.Path.{◌∙◌, sym}
+use native.Mathlib.Omega.{arith}
+use Rattle.messages.specs.Lines.{in_words}
+use Rattle.steps.proofs.Taken.{was-done, was-refused}
+use Rattle.sender_step.specs.Written.{signal_bytes}
+use Rattle.sender_step.proofs.send_lent.Goals as goal
+
+pub put_in_words-length-requires : goal.put_in_words-length-requires
+put_in_words-length-requires c = c.requires.0
+
+pub returns-then-number-ne0 : goal.returns-then-number-ne0
+returns-then-number-ne0 c = (
+  c.put_in_words-length.ensures.0,
+  was-refused signal_bytes c.args.frame _ _ _ c.send_input-sent.ensures (λ z. c.if-number-ne0.true (c.number-number.ensures ∙ z))
+      (c.put_in_words-length.ensures.1 ∙ (λ i. in_words (c.number-number.ensures i) (c.place-place.ensures i) c.args.frame)),
+)
+
+pub put_signal-length-requires : goal.put_signal-length-requires
+put_signal-length-requires c = omega (arith, c.requires.1, c.pm-1.given, c.px1-1.given, c.px2-1.given, c.control-1.given)
+
+pub returns : goal.returns
+returns c = (
+  c.put_signal-length.ensures.0,
+  was-done signal_bytes c.args.frame _ _ _ c.send_input-sent.ensures (sym c.number-number.ensures ∙ c.if-number-ne0.false) c.put_signal-length.ensures.1,
+)
