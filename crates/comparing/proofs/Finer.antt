@@ -14,7 +14,7 @@ use Rattle.coding.specs.Channel.{unchannel}
 use Rattle.interleaving.specs.PX.{coded_bytes}
 use Rattle.control.specs.Modes.{modes, one_of, covered}
 use Rattle.runs.specs.declared.Kind.TheVariants.{Wide}
-use Rattle.runs.specs.declared.Extended.TheVariants.{P3, P4}
+use Rattle.runs.specs.declared.Extended.TheVariants.{P3}
 use Rattle.runs.specs.MainChannels.{main_of, p1_len}
 use Rattle.runs.specs.Lengths.{kind_of, sender_len, pids_len}
 use Rattle.runs.specs.Chain.{Buffer, coded_of}

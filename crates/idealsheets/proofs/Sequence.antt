@@ -8,7 +8,6 @@ use lib.ListN.{length, get_or, take, drop}
 use lib.Seq.{drop-drop, get_or-drop}
 use borrow.Author.Tests.{eq-eqb}
 use Rattle.bits.specs.Bits.{Bytes}
-use Rattle.runs.specs.declared.Extended.TheVariants.{P3, P4}
 use Rattle.runs.specs.declared.State.{State}
 use Rattle.runs.specs.Answers.{number_of}
 use Rattle.runs.specs.Lengths.{pids_len}

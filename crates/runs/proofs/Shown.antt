@@ -25,7 +25,6 @@ use Rattle.interleaving.proofs.FoundPX.{bit-lt, earlier-le, stands-later, unreac
 use Rattle.interleaving.proofs.Frames.{matrix, coded-bit-back}
 use Rattle.interleaving.proofs.Mod.{div-of, mod-of}
 use Rattle.runs.specs.declared.Extended.{Extended}
-use Rattle.runs.specs.declared.Extended.TheVariants.{P3, P4}
 use Rattle.runs.specs.declared.Kind.{Kind}
 use Rattle.runs.specs.declared.Main.{Main}
 use Rattle.runs.specs.declared.Main.TheVariants.{Plain, Mp5, Mp6}

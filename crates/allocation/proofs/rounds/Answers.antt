@@ -1,5 +1,5 @@
 use mathlib.Core.Path.{◌≡◌, ap, ◌∙◌}
-use Prim.Native.Nat.{◌%◌, ◌-◌}
+use Prim.Native.Nat.{◌%◌}
 use native.Mathlib.Omega.{arith}
 use Rattle.allocation.specs.Allocation.{granted, turn, turns}
 use Rattle.allocation.proofs.Steps.{turns_more, turns-none}

@@ -1,5 +1,4 @@
 use mathlib.Core.Path.{refl}
-use Prim.Native.Nat.{◌-◌}
 use native.Mathlib.Omega.{arith}
 use Rattle.allocation.specs.Allocation.{smaller}
 use Rattle.bits.proofs.Listed.{filled_none, filled-turn, filled-all}

@@ -1,5 +1,4 @@
 use mathlib.Core.Path.{sym, ◌∙◌}
-use Prim.Native.Nat.{◌-◌}
 use native.Mathlib.Omega.{arith}
 use Rattle.bits.proofs.Listed.{filled_none, filled-turn, filled-all}
 use Rattle.allocation.proofs.write_places.Goals as goal

@@ -1,4 +1,3 @@
-use Prim.Native.Nat.{◌-◌}
 use native.Mathlib.Omega.{arith}
 use Rattle.transposing.proofs.Words.{begins-none, begins-at}
 use borrow.Author.Rules.{rules}

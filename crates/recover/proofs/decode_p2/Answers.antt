@@ -8,7 +8,7 @@ use Rattle.runs.specs.Chain.{p1_coded}
 use Rattle.runs.proofs.Bounds.{p2-le}
 use Rattle.recover.proofs.Mains.{behind, no-p2, p2-buffers, p2-found, plain-when, rest-is}
 use Rattle.recover.proofs.decode_p2.Goals as goal
-use Rattle.recover.proofs.decode_p2.Goals.{After-coded_bytes-k, Else-n-eq0}
+use Rattle.recover.proofs.decode_p2.Goals.{Else-n-eq0}
 
 room : (c : Else-n-eq0) → length c.args.p2.now ≤ 13664
 room c = let s = c in omega (arith, s.requires.1, p2-le s.args.main)

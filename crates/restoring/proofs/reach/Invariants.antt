@@ -1,6 +1,6 @@
 -- `restoring::reach` meets its contract. The loop's invariant: the sets from step j on are written. Assumes nothing.
 use mathlib.Core.Path.{◌≡◌}
-use Prim.Native.Nat.{◌≤◌, ◌-◌}
+use Prim.Native.Nat.{◌≤◌}
 use lib.ListN.{length}
 use Rattle.restoring.specs.Reaching.{Reached}
 use Rattle.restoring.proofs.reach.Given as goal

@@ -1,4 +1,4 @@
-use Rattle.std.proofs.Common.{◌-◌, sym, ◌∙◌, arith}
+use Rattle.std.proofs.Common.{sym, ◌∙◌, arith}
 use Rattle.scales.proofs.Digits.{digit-next, digit-over, digit-under, digits-end, short-long, short_none, short-start}
 use Rattle.scales.proofs.is_short.Goals as goal
 

@@ -1,4 +1,4 @@
-use Rattle.std.proofs.Common.{◌-◌, arith}
+use Rattle.std.proofs.Common.{arith}
 use Rattle.scales.proofs.Digits.{below_power, padded-end, padded-next, padded-start, power-ten}
 use Rattle.scales.proofs.padded.Goals as goal
 

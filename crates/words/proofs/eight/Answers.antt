@@ -1,5 +1,4 @@
 use mathlib.Core.Path.{refl}
-use Prim.Native.Nat.{◌-◌}
 use native.Mathlib.Omega.{arith}
 use Rattle.bits.proofs.Listed.{filled_none, filled-turn, filled-all}
 use Rattle.words.specs.Words.{eight_of}

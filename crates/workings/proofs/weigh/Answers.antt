@@ -1,5 +1,4 @@
 use mathlib.Core.Path.{◌≡◌, ◌∙◌}
-use Prim.Native.Nat.{◌-◌}
 use native.Mathlib.Omega.{arith}
 use Rattle.workings.specs.Shown.{weighed}
 use Rattle.workings.proofs.Sums.{added_none, added_more, added-seven}

@@ -1,5 +1,4 @@
 use mathlib.Core.Path.{sym, ◌∙◌}
-use Prim.Native.Nat.{◌-◌}
 use native.Mathlib.Omega.{arith}
 use Rattle.calls.specs.Called.{signal}
 use Rattle.bits.proofs.Listed.{filled_none, filled-stored, filled-all}

@@ -1,4 +1,3 @@
-use Prim.Native.Nat.{◌-◌}
 use native.Mathlib.Omega.{arith}
 use Rattle.pm.proofs.BackLaws.{columns-at}
 use borrow.Author.Rules.{rules}

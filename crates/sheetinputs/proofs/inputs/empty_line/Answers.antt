@@ -1,6 +1,5 @@
 use mathlib.Core.Path.{sym, ◌∙◌}
 use mathlib.Core.Bool.{true}
-use Prim.Native.Nat.{◌-◌}
 use native.Mathlib.Omega.{arith}
 use Rattle.sheetinputs.proofs.Empty.{empty-here, empty-later, empty-nowhere}
 use Rattle.sheetinputs.proofs.inputs.empty_line.Goals as goal

@@ -1,4 +1,3 @@
-use Prim.Native.Nat.{◌-◌}
 use native.Mathlib.Omega.{arith}
 use Rattle.text.specs.Lines.{newline}
 use Rattle.text.proofs.Ends.{end-within}

@@ -1,5 +1,5 @@
 use mathlib.Core.Path.{refl, sym, ap, ◌∙◌}
-use Prim.Native.Nat.{ℕ, ◌-◌, ◌*◌}
+use Prim.Native.Nat.{ℕ, ◌*◌}
 use native.Mathlib.Omega.{arith}
 use Rattle.sheetruns.proofs.Loop.{bytes-few, frame-within, going-begins, going-ends, going_on, going-stops, room_for, room-last}
 use Rattle.sheetruns.proofs.Loop.{put_first}

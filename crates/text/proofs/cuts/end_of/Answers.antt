@@ -1,4 +1,3 @@
-use Prim.Native.Nat.{◌-◌}
 use native.Mathlib.Omega.{arith}
 use Rattle.text.proofs.Ends.{end-here, end_later, end-nowhere}
 use Rattle.text.proofs.cuts.end_of.Goals as goal
