@@ -67,7 +67,7 @@ succeeded-all (c ∷ cs) e = rw (eq-eqb _ _ e.0) (ap (λ (r : List Call). c ∷ 
 pub calls-length : (s : State) (m : Memory) (ls : List Lent) → length (calls send_step s m ls) ≡ length ls
 unfolding calls
 calls-length s m [] = refl
-calls-length s m (l ∷ ls) = ap suc (calls-length _ _ ls)
+calls-length s m (l ∷ ls) = ap suc (calls-length (send_step s m l).state (send_step s m l).memory ls)
 
 pub lents-length : (mode n3 n4 n : ℕ) (bytes : List ℕ) → length (lents mode n3 n4 n bytes) ≡ n
 unfolding lents
