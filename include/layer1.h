@@ -49,8 +49,8 @@ uint32_t layer1_version(void);
 /* The most stack that a sending, a reading, the judging of a dump and an answer sheet take, in bytes, as compiled (measured by
  * wrapper/tests/stack.c); any other call takes less than a sending. */
 #define LAYER1_SEND_STACK 65536
-#define LAYER1_READ_STACK 118784
-#define LAYER1_JUDGE_STACK 212992
+#define LAYER1_READ_STACK 122880
+#define LAYER1_JUDGE_STACK 245760
 #define LAYER1_SHEET_STACK 167936
 
 /* The places of the buffers of a sending or a reading. PX2 has P4's matrices in MP11, and those of P1' in MP5 and MP6. */
