@@ -68,7 +68,8 @@ fn run(rt: &impl Streams, mode: u8, count: u64, n: u64) {
 fn main(rt: HostRuntime) {
     let line =
         b"keys MODE COUNT N, N odd: the scrambling sequence and the fixed bits of the control stand in every run, and cancel in an even number of them";
-    let mut words = io::buffer();
+    // Three words, 4,096 bytes for each and one for the byte that ends it.
+    let mut words = [0u8; 12291];
     let n = programs::read_words(&rt, &mut words);
     if programs::gives_help(&rt, line, &words[..n]) {
         return;

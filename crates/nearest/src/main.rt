@@ -44,7 +44,8 @@ fn run(rt: &impl Streams, budget: usize) {
 
 fn main(rt: HostRuntime) {
     let line = b"nearest BUDGET";
-    let mut words = io::buffer();
+    // One word of 4,096 bytes, and the byte that ends it.
+    let mut words = [0u8; 4097];
     let n = programs::read_words(&rt, &mut words);
     if programs::gives_help(&rt, line, &words[..n]) {
         return;

@@ -103,7 +103,8 @@ fn run_in(rt: &(impl Streams + AllocGlobal), mode: u64, line: &[u8]) {
 
 fn main(rt: HostRuntime) {
     let line = b"owners MODE (1, 2, 3 or 11)";
-    let mut words = io::buffer();
+    // One word of 4,096 bytes, and the byte that ends it.
+    let mut words = [0u8; 4097];
     let n = programs::read_words(&rt, &mut words);
     if programs::gives_help(&rt, line, &words[..n]) {
         return;

@@ -1,17 +1,30 @@
 // The words that a program was started with, its usage and its help.
+ghost use Rattle.std.specs.Prelude.{◌≤◌, length};
 ghost use Rattle.io.specs.Counts.{IsPrefixLen};
 
 use crate::streams::{Streams, say};
 use std::env::{Env, FillError};
 
-// The words behind the program's own name as one text, in which a zero byte ends each. A word that is longer than the rest of the buffer stands as an empty one, and
-// where a zero byte has no room the text is empty: no program takes an empty word, or none where it takes some.
+// How far a word that begins at `at` may reach: over 4,096 bytes, as far as the buffer goes.
+fn word_end(at: usize, out: &[u8]) -> usize
+    requires { at ≤ length out.now }
+    ensures { (at ≤ result) × (result ≤ length out.now) }
+{
+    if out.len() - at > 4096 {
+        return at + 4096;
+    }
+    out.len()
+}
+
+// The words behind the program's own name as one text, in which a zero byte ends each. A word of more than 4,096 bytes, or longer than the rest of the buffer,
+// stands as an empty one, and where a zero byte has no room the text is empty: no program takes an empty word, or none where it takes some.
 pub fn read_words(rt: &impl Env, out: &mut [u8]) -> usize
     ensures { IsPrefixLen result out.new }
 {
     let mut at: usize = 0;
     for i in 1..usize::MAX {
-        let n = match rt.arg(i, &mut out[at..]) {
+        let top = word_end(at, out);
+        let n = match rt.arg(i, &mut out[at..top]) {
             Ok(n) => n,
             Err(FillError::TooLong) => 0,
             Err(FillError::NotPresent) => return at,

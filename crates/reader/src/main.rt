@@ -125,7 +125,8 @@ fn run(rt: &impl Streams, mode: u8, count: u64, on: bool) {
 
 fn main(rt: HostRuntime) {
     let line = b"reader MODE COUNT [on]";
-    let mut words = [0u8; 1024];
+    // Three words, 4,096 bytes for each and one for the byte that ends it.
+    let mut words = [0u8; 12291];
     let n = programs::read_words(&rt, &mut words);
     if programs::gives_help(&rt, line, &words[..n]) {
         return;

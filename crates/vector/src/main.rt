@@ -64,7 +64,8 @@ fn with_scales(rt: &impl Streams, mode: u8, symbol: u64, lower: Typed, upper: Ty
 
 fn main(rt: HostRuntime) {
     let line = b"vector MODE SYMBOL LOWER UPPER";
-    let mut words = io::buffer();
+    // Four words, 4,096 bytes for each and one for the byte that ends it.
+    let mut words = [0u8; 16388];
     let n = programs::read_words(&rt, &mut words);
     if programs::gives_help(&rt, line, &words[..n]) {
         return;
