@@ -125,8 +125,8 @@ fn run(rt: &impl Streams, mode: u8, count: u64, on: bool) {
 
 fn main(rt: HostRuntime) {
     let line = b"reader MODE COUNT [on]";
-    // Three words, 4,096 bytes for each and one for the byte that ends it.
-    let mut words = [0u8; 12291];
+    // MODE and COUNT with 4,096 bytes each, `on`, and the bytes that end them.
+    let mut words = [0u8; 8197];
     let n = programs::read_words(&rt, &mut words);
     if programs::gives_help(&rt, line, &words[..n]) {
         return;

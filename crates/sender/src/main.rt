@@ -174,8 +174,8 @@ fn with_channels(
 
 fn main(rt: HostRuntime) {
     let line = b"sender MODE COUNT [without P3|P4|P3 P4] [dump]";
-    // Six words, 4,096 bytes for each and one for the byte that ends it.
-    let mut words = [0u8; 24582];
+    // MODE and COUNT with 4,096 bytes each, `without`, `P3`, `P4` and `dump`, and the bytes that end them.
+    let mut words = [0u8; 8213];
     let n = programs::read_words(&rt, &mut words);
     if programs::gives_help(&rt, line, &words[..n]) {
         return;

@@ -27,8 +27,8 @@ fn run(rt: &impl Streams, mode: u8, count: u64, without3: bool, without4: bool, 
 
 fn main(rt: HostRuntime) {
     let line = b"sheet MODE COUNT [without P3|P4|P3 P4] [work]";
-    // Six words, 4,096 bytes for each and one for the byte that ends it.
-    let mut words = [0u8; 24582];
+    // MODE and COUNT with 4,096 bytes each, `without`, `P3`, `P4` and `work`, and the bytes that end them.
+    let mut words = [0u8; 8213];
     let n = programs::read_words(&rt, &mut words);
     if programs::gives_help(&rt, line, &words[..n]) {
         return;
