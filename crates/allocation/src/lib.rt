@@ -35,10 +35,8 @@ fn sum(numbers: [u8; 8]) -> usize
     ensures { result ≡ total 8 numbers }
 {
     let mut s: usize = 0;
-    let mut d: usize = 0;
-    while d < 8 {
+    for d in 0..8 {
         s += wide(numbers[d]);
-        d += 1;
     }
     s
 }
@@ -58,10 +56,8 @@ fn smaller_each(shares: [u8; 8], waiting: [u8; 8]) -> [u8; 8]
     ensures { result ≡ smaller shares waiting }
 {
     let mut given = [0u8; 8];
-    let mut d: usize = 0;
-    while d < 8 {
+    for d in 0..8 {
         given[d] = smaller_of(shares[d], waiting[d]);
-        d += 1;
     }
     given
 }
@@ -104,10 +100,8 @@ fn rounds(start: Grants, waiting: [u8; 8]) -> Grants
     ensures { (shares : List ℕ) → start ≡ first shares waiting → result ≡ granted shares waiting }
 {
     let mut s = start;
-    let mut n: usize = 0;
-    while n < 128 {
+    for n in 0..128 {
         s = turn_of(s, waiting, n % 8);
-        n += 1;
     }
     s
 }
@@ -117,14 +111,12 @@ fn owner(given: [u8; 8], q: usize) -> u8
     ensures { result ≡ owner_of 8 0 given q }
 {
     let mut rest = q;
-    let mut d: usize = 0;
-    while d < 8 {
+    for d in 0..8 {
         let n = wide(given[d]);
         if rest < n {
             return d as u8;
         }
         rest -= n;
-        d += 1;
     }
     255
 }
@@ -134,10 +126,8 @@ fn write_places(given: [u8; 8], places: &mut [u8])
     requires { length places.old ≡ 16 }
     ensures { places.new ≡ listed 16 (owner_of 8 0 given) }
 {
-    let mut q: usize = 0;
-    while q < 16 {
+    for q in 0..16 {
         places[q] = owner(given, q);
-        q += 1;
     }
 }
 

@@ -42,12 +42,10 @@ fn are_cells(line: &[u8]) -> bool
     requires { length line.now ≡ 200 }
     ensures { result ≡ all 200 (λ n. is_cell (get_or line.now n 0)) }
 {
-    let mut i: usize = 0;
-    while i < 200 {
+    for i in 0..200 {
         if !is_cell(line[i]) {
             return false;
         }
-        i += 1;
     }
     true
 }
@@ -57,10 +55,8 @@ fn write_cells(line: &[u8], cells: &mut [u8])
     requires { (length line.now ≡ 200) × (length cells.old ≡ 200) }
     ensures { CellsOf line.now cells.new }
 {
-    let mut i: usize = 0;
-    while i < 200 {
+    for i in 0..200 {
         cells[i] = cell_of(line[i]);
-        i += 1;
     }
 }
 
@@ -106,10 +102,8 @@ pub fn put_hexadecimal(out: &mut [u8], at: usize, bytes: &[u8]) -> usize
     ensures { Put out.old out.new at result (2 * length bytes.now) (hexadecimal bytes.now) }
 {
     let mut end = at;
-    let mut i: usize = 0;
-    while i < bytes.len() {
+    for i in 0..bytes.len() {
         end = put_byte(out, end, bytes[i]);
-        i += 1;
     }
     end
 }

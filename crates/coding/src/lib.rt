@@ -89,10 +89,8 @@ fn double(one: u64, m: usize, words: &mut [u64; 256])
         → ((r : ℕ) → r < m → bit_xor (f r) (g one) ≡ f (m + r)) → ((r : ℕ) → r < m → g (get_or words.old r 0) ≡ f r) → (r : ℕ) → r < m + m
         → g (get_or words.new r 0) ≡ f r) }
 {
-    let mut r: usize = 0;
-    while r < m {
+    for r in 0..m {
         words[m + r] = words[r] ^ one;
-        r += 1;
     }
 }
 
@@ -102,11 +100,9 @@ fn fill_words(rate: Rate, inverse: bool, words: &mut [u64; 256])
     ensures { Words rate inverse words.new }
 {
     let mut m: usize = 1;
-    let mut e: usize = 0;
-    while e < 8 {
+    for e in 0..8 {
         double(word_one(rate, inverse, e), m, words);
         m *= 2;
-        e += 1;
     }
 }
 
@@ -152,10 +148,8 @@ fn load(bytes: &[u8], j: usize, m: usize) -> u64
     ensures { result ≡ number (8 * m) (λ i. bit_at bytes.now (8 * j + i)) }
 {
     let mut word: u64 = 0;
-    let mut k: usize = 0;
-    while k < m {
+    for k in 0..m {
         word = (word << 8) | (bytes[j + k] as u64);
-        k += 1;
     }
     word
 }
@@ -166,10 +160,8 @@ fn store(word: u64, m: usize, j: usize, out: &mut [u8])
     ensures { (f : ℕ → ℕ) → ((i : ℕ) → f i < 2) → word ≡ number (8 * m) (λ i. f (8 * j + i)) → take j out.old ≡ packed j f
         → take (j + m) out.new ≡ packed (j + m) f }
 {
-    let mut k: usize = 0;
-    while k < m {
+    for k in 0..m {
         out[j + k] = ((word >> (8 * (m - 1 - k))) % 256) as u8;
-        k += 1;
     }
 }
 

@@ -131,13 +131,11 @@ fn fill_points(
     let n = mode_number(mode);
     let width1 = width_of(kind_of(mode, Extended::P3));
     let width2 = width_of(kind_of(mode, Extended::P4));
-    let mut k: usize = 0;
-    while k < 1093 {
+    for k in 0..1093 {
         let p = element(
             n, k, symbol, width1, width2, lower, upper, pm, px1, px2, control,
         );
         store(p, k, re, im);
-        k += 1;
     }
 }
 

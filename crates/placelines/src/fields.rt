@@ -23,10 +23,8 @@ fn past_spaces(line: &[u8], k: usize) -> usize
     ensures { (result ≤ length line.now) × (drop result line.now ≡ after_spaces k line.now) }
 {
     let mut at: usize = 0;
-    let mut i: usize = 0;
-    while i < k {
+    for i in 0..k {
         at = past_space(line, at);
-        i += 1;
     }
     at
 }
@@ -61,12 +59,10 @@ fn number_at(line: &[u8], k: usize) -> usize
 pub fn is_read(line: &[u8]) -> bool
     ensures { result ≡ is_read 16 line.now }
 {
-    let mut k: usize = 0;
-    while k < 16 {
+    for k in 0..16 {
         if number_at(line, k) >= 256 {
             return false;
         }
-        k += 1;
     }
     true
 }
@@ -77,10 +73,8 @@ pub fn eight_at(line: &[u8], k: usize) -> [u8; 8]
     ensures { result ≡ eight_at k line.now }
 {
     let mut numbers = [0u8; 8];
-    let mut d: usize = 0;
-    while d < 8 {
+    for d in 0..8 {
         numbers[d] = number_at(line, k + d) as u8;
-        d += 1;
     }
     numbers
 }

@@ -27,10 +27,8 @@ fn nine_nibbles(pm: &[u8], n: usize, odd: usize, t: usize, out: &mut [u8; 2880])
     requires { (n + 5 ≤ length pm.now) × (odd < 2) × (t < 320) × (length out.old ≡ 2880) }
     ensures { (length out.new ≡ 2880) × ((g : ℕ → ℕ) → ((x : ℕ) → x < 9 → g (9 * t + x) ≡ number 4 (λ i. bit_at pm.now (8 * n + 4 * (odd + x) + i))) → Begins g (9 * t) out.old → Begins g (9 * t + 9) out.new) }
 {
-    let mut x: usize = 0;
-    while x < 9 {
+    for x in 0..9 {
         out[9 * t + x] = nibble(pm, n, odd + x);
-        x += 1;
     }
 }
 
@@ -57,11 +55,9 @@ fn read_row(pm: &[u8], cells: &[u32; 320], r: usize, out: &mut [u8; 2880])
     requires { (length pm.now ≡ 46080) × FirstCells cells.now × (r < 32) × (length out.old ≡ 2880) }
     ensures { (length out.new ≡ 2880) × Begins (nibble_in (bit_at pm.now) r) 2880 out.new }
 {
-    let mut t: usize = 0;
-    while t < 320 {
+    for t in 0..320 {
         let c = wide_cell(cells[t]);
         read_columns(pm, c + 720 * r, t, out);
-        t += 1;
     }
 }
 
@@ -105,10 +101,8 @@ fn column_words(spreads: &[u64; 16], nibbles: &[u8; 2880], x: usize, words: &mut
     requires { NibbleSpreads spreads.now × ((q : ℕ) → get_or nibbles.now q 0 < 16) × (x < 9) × (length words.old ≡ 40) }
     ensures { (length words.new ≡ 40) × ((f : ℕ → ℕ) (r : ℕ) → ((c : ℕ) → f c < 2) → Begins (nibble_in f r) 2880 nibbles.now → Begins (word_in f r x) 40 words.new) }
 {
-    let mut j: usize = 0;
-    while j < 40 {
+    for j in 0..40 {
         words[j] = turned(spreads, nibbles, 72 * j + x) as u32;
-        j += 1;
     }
 }
 
@@ -125,11 +119,9 @@ fn copy_column(words: &[u32; 40], i: usize, n: usize, coded: &mut [u8])
     requires { (i < 4) × (n + 40 ≤ length coded.old) }
     ensures { (g : ℕ → ℕ) (f : ℕ → ℕ → ℕ) → ((j u : ℕ) → f j u < 256) → ((j : ℕ) → j < 40 → get_or words.now j 0 ≡ quad (f j)) → ((j : ℕ) → j < 40 → g (n + j) ≡ f j i) → Changed n (n + 40) g coded.old coded.new }
 {
-    let mut j: usize = 0;
-    while j < 40 {
+    for j in 0..40 {
         let word = words[j];
         coded[n + j] = byte_in(word, i);
-        j += 1;
     }
 }
 
@@ -157,10 +149,8 @@ fn put_four(table: &[u16; 1152], words: &[u32; 40], r: usize, x: usize, coded: &
     requires { (table.now ≡ ks) × (length coded.old ≡ 45680) × (r < 32) × (x < 9) }
     ensures { (f : ℕ → ℕ) → ((q : ℕ) → f q < 2) → Begins (word_in f r x) 40 words.now → ColumnsDone f (36 * r + 4 * x) coded.old → ColumnsDone f (36 * r + 4 * (x + 1)) coded.new }
 {
-    let mut i: usize = 0;
-    while i < 4 {
+    for i in 0..4 {
         put_column(table, words, r, x, i, coded);
-        i += 1;
     }
 }
 
@@ -176,11 +166,9 @@ fn put_columns(
     ensures { (f : ℕ → ℕ) → ((q : ℕ) → f q < 2) → Begins (nibble_in f r) 2880 nibbles.now → ColumnsDone f (36 * r) coded.old → ColumnsDone f (36 * (r + 1)) coded.new }
 {
     let mut words = [0u32; 40];
-    let mut x: usize = 0;
-    while x < 9 {
+    for x in 0..9 {
         column_words(spreads, nibbles, x, &mut words);
         put_four(table, &words, r, x, coded);
-        x += 1;
     }
 }
 
@@ -193,10 +181,8 @@ pub fn gather_p1(pm: &[u8], coded: &mut [u8])
     let table = index_table();
     let cells = first_cells();
     let mut nibbles = [0u8; 2880];
-    let mut r: usize = 0;
-    while r < 32 {
+    for r in 0..32 {
         read_row(pm, &cells, r, &mut nibbles);
         put_columns(&spreads, &table, &nibbles, r, coded);
-        r += 1;
     }
 }

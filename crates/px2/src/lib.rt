@@ -83,11 +83,9 @@ fn starts(m: usize) -> [u16; 1152]
     ensures { Starts m result }
 {
     let mut starts = [0u16; 1152];
-    let mut k: usize = 0;
-    while k < 1152 {
+    for k in 0..1152 {
         let n = place(k);
         starts[n] = (m * k) as u16;
-        k += 1;
     }
     starts
 }
@@ -118,8 +116,7 @@ fn row_nibbles(
     requires { (a + 36 ≤ 1152) × (m ≤ 2) × (length coded.now ≡ 1152 * m) × Spreads spreads.now × Starts m starts.now × (length out.old ≡ 144) }
     ensures { Begins (row_of m (bit_at coded.now) starts.now a) (72 * m) out.new }
 {
-    let mut x: usize = 0;
-    while x < 9 {
+    for x in 0..9 {
         let n = a + 4 * x;
         let first = start(m, starts, n);
         let second = start(m, starts, n + 1);
@@ -136,7 +133,6 @@ fn row_nibbles(
             8 * (m * x),
             out,
         );
-        x += 1;
     }
 }
 
@@ -171,12 +167,10 @@ fn write_pair(
     requires { (s < 8 * m) × (t < 8 * m) × (m ≤ 2) × (first + n + 9 ≤ length px2.old) × (first + n + 9 ≤ 18432) }
     ensures { (f g : ℕ → ℕ) (starts l : List ℕ) (a : ℕ) → ((i : ℕ) → f i < 2) → Begins (row_of m f starts a) (72 * m) nibbles.now → ((e : ℕ) → e < 9 → g (n + e) ≡ 16 * pair_of f starts a s t (2 * e) + pair_of f starts a s t (2 * e + 1)) → Changed first n g l px2.old → Changed first (n + 9) g l px2.new }
 {
-    let mut e: usize = 0;
-    while e < 9 {
+    for e in 0..9 {
         let x = nibble(m, nibbles, s, t, 2 * e);
         let y = nibble(m, nibbles, s, t, 2 * e + 1);
         px2[first + n + e] = joined(x, y);
-        e += 1;
     }
 }
 
@@ -200,12 +194,10 @@ fn write_row(
     row_nibbles(m, spreads, starts, coded, C[0] * r, &mut nibbles);
     let n = pairs(row);
     let from = 18 * (m * y);
-    let mut q: usize = 0;
-    while q < n {
+    for q in 0..n {
         let s = turn(row, b, r, 2 * q);
         let t = turn(row, b, r, 2 * q + 1);
         write_pair(m, &nibbles, s, t, first, from + 9 * q, px2);
-        q += 1;
     }
 }
 
@@ -218,9 +210,7 @@ pub fn interleave(row: usize, f: usize, coded: &[u8], px2: &mut [u8])
     let spreads = transposing::spreads();
     let starts = starts(m);
     let first = f * frame_bytes(row);
-    let mut y: usize = 0;
-    while y < 64 {
+    for y in 0..64 {
         write_row(row, &spreads, &starts, coded, first, y, px2);
-        y += 1;
     }
 }

@@ -67,14 +67,12 @@ fn read_all(
     delay: &mut [u8],
 ) {
     let mut state = start;
-    let mut frame: u64 = 0;
-    while frame < count {
+    for frame in 0..count {
         let turned = turn(rt, on, state, frame, input, memory3, memory4, delay);
         if !turned.go_on {
             return;
         }
         state = turned.state;
-        frame += 1;
     }
 }
 

@@ -268,12 +268,10 @@ fn first_one(x: &[u8]) -> usize
     ensures { result ≡ lowest (8 * length x.now) (is_one x.now) }
 {
     let n = x.len() * 8;
-    let mut c: usize = zero_bytes(x) * 8;
-    while c < n {
+    for c in zero_bytes(x) * 8..n {
         if bits::get(x, c) == 1 {
             return c;
         }
-        c += 1;
     }
     n
 }

@@ -18,12 +18,10 @@ fn turn(rt: &impl Streams, number: u64) -> bool {
 
 // Goes through the lines, numbered from 1. A proved loop has to end, so it counts to a number that no run reaches.
 fn answer_all(rt: &impl Streams) {
-    let mut number: u64 = 1;
-    while number < 281474976710656 {
+    for number in 1..281474976710656 {
         if !turn(rt, number) {
             return;
         }
-        number += 1;
     }
 }
 

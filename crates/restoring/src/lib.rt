@@ -43,10 +43,8 @@ fn reach_last(kept: &mut [u64])
     requires { length kept.old ≡ 5184 }
     ensures { (cells : List ℕ) → Reached cells 80 kept.new }
 {
-    let mut r: usize = 0;
-    while r < 64 {
+    for r in 0..64 {
         kept[5120 + r] = 1u64 << r;
-        r += 1;
     }
 }
 
@@ -57,12 +55,10 @@ fn reach_step(cells: &[u8], all: &[u8; 128], j: usize, kept: &mut [u64])
 {
     let costs = trellis::eight(cells, j);
     let at = 64 * j;
-    let mut r: usize = 0;
-    while r < 64 {
+    for r in 0..64 {
         let zero = beyond(&costs, all, kept, j, 2 * r);
         let one = beyond(&costs, all, kept, j, 2 * r + 1);
         kept[at + r] = zero | one;
-        r += 1;
     }
 }
 
@@ -84,12 +80,10 @@ fn next_closed(kept: &[u64], from: usize) -> usize
     requires { (from ≤ 64) × (length kept.now ≡ 5184) }
     ensures { (cells : List ℕ) → Reached cells 0 kept.now → NextClosed cells from result }
 {
-    let mut e = from;
-    while e < 64 {
+    for e in from..64 {
         if holds(kept[e], e) {
             return e;
         }
-        e += 1;
     }
     64
 }
@@ -117,15 +111,13 @@ fn follow(cells: &[u8], all: &[u8; 128], kept: &[u64], e: usize, out: &mut [u8])
     ensures { Followed cells.now e out.new result }
 {
     let mut r = e;
-    let mut j: usize = 0;
-    while j < 80 {
+    for j in 0..80 {
         let b = only_way(cells, all, kept, j, r, e);
         if b == 2 {
             return false;
         }
         bits::put(out, j, b);
         r = (2 * r + b as usize) % 64;
-        j += 1;
     }
     true
 }

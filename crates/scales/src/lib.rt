@@ -23,15 +23,13 @@ fn is_short(text: &[u8], most: usize) -> bool
     if text.len() > most {
         return false;
     }
-    let mut i: usize = 0;
-    while i < text.len() {
+    for i in 0..text.len() {
         if text[i] < b'0' {
             return false;
         }
         if text[i] > b'9' {
             return false;
         }
-        i += 1;
     }
     true
 }
@@ -42,10 +40,8 @@ fn worth(text: &[u8]) -> u64
     ensures { result ≡ value text.now }
 {
     let mut n: u64 = 0;
-    let mut i: usize = 0;
-    while i < text.len() {
+    for i in 0..text.len() {
         n = 10 * n + (text[i] - 48) as u64;
-        i += 1;
     }
     n
 }
@@ -56,10 +52,8 @@ fn padded(number: u64, digits: usize) -> u64
     ensures { (result ≡ number * 10 ^ (16 - digits)) × (result < 10 ^ 16) }
 {
     let mut n = number;
-    let mut i = digits;
-    while i < 16 {
+    for i in digits..16 {
         n = 10 * n;
-        i += 1;
     }
     n
 }

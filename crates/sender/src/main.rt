@@ -58,14 +58,12 @@ fn send_all(
     delay: &mut [u8],
 ) -> bool {
     let mut state = start;
-    let mut frame: u64 = 0;
-    while frame < count {
+    for frame in 0..count {
         let turned = turn(rt, state, frame, n3, n4, input, memory3, memory4, delay);
         if !turned.good {
             return false;
         }
         state = turned.state;
-        frame += 1;
     }
     true
 }

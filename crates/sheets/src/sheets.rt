@@ -125,10 +125,8 @@ fn clear_from(out: &mut [u8], at: usize)
     requires { at ≤ length out.old }
     ensures { out.new ≡ take at out.old ++ replicate (length out.old - at) 0 }
 {
-    let mut i = at;
-    while i < out.len() {
+    for i in at..out.len() {
         out[i] = 0;
-        i += 1;
     }
 }
 

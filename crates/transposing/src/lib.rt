@@ -27,10 +27,8 @@ pub fn spreads() -> [u64; 256]
     ensures { Spreads result }
 {
     let mut table = [0u64; 256];
-    let mut x: usize = 0;
-    while x < 256 {
+    for x in 0..256 {
         table[x] = spread(x as u64);
-        x += 1;
     }
     table
 }
@@ -40,10 +38,8 @@ pub fn nibble_spreads() -> [u64; 16]
     ensures { NibbleSpreads result }
 {
     let mut table = [0u64; 16];
-    let mut x: usize = 0;
-    while x < 16 {
+    for x in 0..16 {
         table[x] = spread(x as u64);
-        x += 1;
     }
     table
 }
@@ -75,10 +71,8 @@ fn store_word(w: u64, n: usize, out: &mut [u8])
     requires { n + 8 ≤ length out.old }
     ensures { (g : ℕ → ℕ) → w ≡ eight (λ u. g (n + u)) → ((q : ℕ) → g q < 256) → Begins g n out.old → Begins g (n + 8) out.new }
 {
-    let mut u = 0;
-    while u < 8 {
+    for u in 0..8 {
         out[n + u] = byte_of(w, u);
-        u += 1;
     }
 }
 
@@ -97,13 +91,11 @@ pub fn four_columns(
     requires { Spreads spreads.now × (a + m ≤ length coded.now) × (b + m ≤ length coded.now) × (c + m ≤ length coded.now) × (d + m ≤ length coded.now) × (n + 8 * m ≤ length out.old) }
     ensures { (g : ℕ → ℕ) → ((q : ℕ) → g q < 256) → ((t : ℕ) → t < 8 * m → g (n + t) ≡ 8 * bit_at coded.now (8 * a + t) + 4 * bit_at coded.now (8 * b + t) + 2 * bit_at coded.now (8 * c + t) + bit_at coded.now (8 * d + t)) → Begins g n out.old → Begins g (n + 8 * m) out.new }
 {
-    let mut j: usize = 0;
-    while j < m {
+    for j in 0..m {
         let first = spread_at(spreads, coded, a + j);
         let second = spread_at(spreads, coded, b + j);
         let third = spread_at(spreads, coded, c + j);
         let fourth = spread_at(spreads, coded, d + j);
         store_word(8 * first + 4 * second + 2 * third + fourth, n + 8 * j, out);
-        j += 1;
     }
 }

@@ -52,10 +52,8 @@ pub fn all_outputs() -> [u8; 128]
     ensures { Outputs result }
 {
     let mut all = [0u8; 128];
-    let mut w: usize = 0;
-    while w < 128 {
+    for w in 0..128 {
         all[w] = window_outputs(w);
-        w += 1;
     }
     all
 }
@@ -79,10 +77,8 @@ pub fn eight(cells: &[u8], j: usize) -> [u16; 8]
     ensures { Eight cells.now j result }
 {
     let mut costs = [0u16; 8];
-    let mut y: usize = 0;
-    while y < 8 {
+    for y in 0..8 {
         costs[y] = cost(cells, j, y);
-        y += 1;
     }
     costs
 }
@@ -99,11 +95,9 @@ fn fill(costs: &[u16; 8], all: &[u8; 128], j: usize, table: &mut [u16])
     ensures { Filled costs.now table.old table.new j }
 {
     let at = 128 * j;
-    let mut w: usize = 0;
-    while w < 128 {
+    for w in 0..128 {
         let y = wide(all[w]);
         table[at + w] = costs[y];
-        w += 1;
     }
 }
 
@@ -114,11 +108,9 @@ pub fn costs(cells: &[u8]) -> [u16; 10240]
 {
     let mut table = [0u16; 10240];
     let all = all_outputs();
-    let mut j: usize = 0;
-    while j < 80 {
+    for j in 0..80 {
         let costs = eight(cells, j);
         fill(&costs, &all, j, &mut table);
-        j += 1;
     }
     table
 }
@@ -162,11 +154,9 @@ fn step(costs: &[u16; 10240], after: Scores) -> Scores
     let j = after.step - 1;
     let late = after.scores;
     let mut scores = [0u16; 64];
-    let mut r: usize = 0;
-    while r < 32 {
+    for r in 0..32 {
         scores[r] = better(costs, j, r, &late);
         scores[r + 32] = better(costs, j, r + 32, &late);
-        r += 1;
     }
     Scores { scores, step: j }
 }
@@ -201,10 +191,8 @@ fn store(scores: &[u16; 64], j: usize, kept: &mut [u16])
     ensures { Stored scores.now kept.old kept.new j }
 {
     let at = 64 * j;
-    let mut r: usize = 0;
-    while r < 64 {
+    for r in 0..64 {
         kept[at + r] = scores[r];
-        r += 1;
     }
 }
 
@@ -255,12 +243,10 @@ fn follow(costs: &[u16; 10240], kept: &[u16], e: usize, out: &mut [u8])
         → out.new ≡ packed 10 («walk_of» (tabled costs.now) final e) }
 {
     let mut r = e;
-    let mut j: usize = 0;
-    while j < 80 {
+    for j in 0..80 {
         let b = choose(costs, kept, j, r);
         bits::put(out, j, b);
         r = (2 * r + b as usize) % 64;
-        j += 1;
     }
 }
 
@@ -289,10 +275,8 @@ fn lowest(scores: &[u16; 64]) -> u16
     ensures { LeastScore scores.now 64 result }
 {
     let mut m = scores[0];
-    let mut r: usize = 1;
-    while r < 64 {
+    for r in 1..64 {
         m = lesser(m, scores[r]);
-        r += 1;
     }
     m
 }

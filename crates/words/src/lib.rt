@@ -189,10 +189,8 @@ pub fn eight(word: u64) -> [u8; 8]
     ensures { result ≡ eight_of word }
 {
     let mut numbers = [0u8; 8];
-    let mut d: usize = 0;
-    while d < 8 {
+    for d in 0..8 {
         numbers[d] = ((word >> (8 * d)) % 256) as u8;
-        d += 1;
     }
     numbers
 }

@@ -14,12 +14,6 @@ bounds-numbers-d c = omega arith
 pub overflow_add-s : goal.overflow_add-s
 overflow_add-s c = omega (arith, c.wide-s.ensures.1)
 
-pub overflow_add-d : goal.overflow_add-d
-overflow_add-d c = omega arith
-
-pub loop-d-smaller : goal.loop-d-smaller
-loop-d-smaller c = omega arith
-
 pub loop-d-preserved : goal.loop-d-preserved
 loop-d-preserved c = (omega arith, omega (arith, c.wide-s.ensures.1), ap₂ ◌+◌ c.loop-d.invariant.2 c.wide-s.ensures.0 ∙ sym (total-more c.loop-d.d _))
 

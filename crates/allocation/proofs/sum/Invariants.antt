@@ -6,6 +6,3 @@ use Rattle.allocation.proofs.sum.Given as goal
 
 abbrev pub invariant-loop-d : goal.invariant-loop-d
 invariant-loop-d l = (l.d ≤ 8) × (l.s ≤ 255 * l.d) × (l.s ≡ total l.d l.numbers)
-
-abbrev pub decreases-loop-d : goal.decreases-loop-d
-decreases-loop-d l = 8 - l.d

@@ -6,6 +6,3 @@ use Rattle.allocation.proofs.write_places.Given as goal
 
 abbrev pub invariant-loop-q : goal.invariant-loop-q
 invariant-loop-q l = (l.q ≤ 16) × Filled 16 (owner_of 8 0 l.given) l.places l.q
-
-abbrev pub decreases-loop-q : goal.decreases-loop-q
-decreases-loop-q l = 16 - l.q

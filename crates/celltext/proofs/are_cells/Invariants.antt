@@ -8,6 +8,3 @@ use Rattle.celltext.proofs.are_cells.Given as goal
 
 abbrev pub invariant-loop-i : goal.invariant-loop-i
 invariant-loop-i l = (l.i ≤ 200) × ((n : ℕ) → n < l.i → is_cell (get_or l.line n 0) ≡ true)
-
-abbrev pub decreases-loop-i : goal.decreases-loop-i
-decreases-loop-i l = 200 - l.i

@@ -9,6 +9,3 @@ abbrev pub invariant-loop-e : goal.invariant-loop-e
 invariant-loop-e l =
     (l.e ≤ 8) × (l.m ≡ 2 ^ l.e) × (length l.words ≡ 256)
     × ((k b : ℕ) → k < bytes_of l.inverse → b < l.m → placed l.rate l.inverse k (get_or l.words b 0) ≡ word_of l.rate l.inverse (b * 2 ^ (8 * k)))
-
-abbrev pub decreases-loop-e : goal.decreases-loop-e
-decreases-loop-e l = 8 - l.e

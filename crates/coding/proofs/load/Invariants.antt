@@ -6,6 +6,3 @@ use Rattle.coding.proofs.load.Given as goal
 
 abbrev pub invariant-loop-k : goal.invariant-loop-k
 invariant-loop-k l = (l.k ≤ l.m) × (l.word ≡ number (8 * l.k) (λ i. bit_at l.bytes (8 * l.j + i)))
-
-abbrev pub decreases-loop-k : goal.decreases-loop-k
-decreases-loop-k l = l.m - l.k

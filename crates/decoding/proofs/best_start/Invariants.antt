@@ -7,6 +7,3 @@ use Rattle.decoding.proofs.best_start.Given as goal
 
 abbrev pub invariant-loop-e : goal.invariant-loop-e
 invariant-loop-e l = (l.e ≤ l.budget) × BestStart (tabled l.costs) l.e l.best.e × (l.best.distance ≡ least (tabled l.costs) l.best.e)
-
-abbrev pub decreases-loop-e : goal.decreases-loop-e
-decreases-loop-e l = l.budget - l.e

@@ -7,6 +7,3 @@ use Rattle.diversity.proofs.first_apart.Given as goal
 
 abbrev pub invariant-loop-f : goal.invariant-loop-f
 invariant-loop-f l = (l.f ≤ 8) × ((i : ℕ) → i < l.f → apart l.n l.a l.b i ≡ false)
-
-abbrev pub decreases-loop-f : goal.decreases-loop-f
-decreases-loop-f l = 8 - l.f

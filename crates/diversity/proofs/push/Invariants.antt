@@ -5,6 +5,3 @@ use Rattle.diversity.proofs.push.Given as goal
 
 abbrev pub invariant-loop-i : goal.invariant-loop-i
 invariant-loop-i l = (l.i ≤ l.kept) × Moved l.n l.initial.memory l.memory l.i
-
-abbrev pub decreases-loop-i : goal.decreases-loop-i
-decreases-loop-i l = l.kept - l.i

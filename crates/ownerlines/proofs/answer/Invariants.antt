@@ -10,6 +10,3 @@ abbrev pub invariant-loop-i : goal.invariant-loop-i
 invariant-loop-i l =
     (l.i ≤ length l.block) × (length l.line ≡ length l.initial.line) × (length l.out ≡ length l.initial.out) × (l.q.held ≤ 4096) × (l.q.end ≤ 200 * l.i) × (l.q.number ≤ l.initial.q.number + l.i) ×
     ((seen text : List ℕ) → Reached l.mode seen text l.initial.line l.initial.q → Reached l.mode (seen ++ take l.i l.block) (text ++ take l.q.end l.out) l.line l.q)
-
-abbrev pub decreases-loop-i : goal.decreases-loop-i
-decreases-loop-i l = length l.block - l.i

@@ -7,6 +7,3 @@ use Rattle.pm.proofs.first_cells.Given as goal
 
 abbrev pub invariant-loop-t : goal.invariant-loop-t
 invariant-loop-t l = (l.t ≤ 320) × (length l.cells ≡ 320) × ((s : ℕ) → s < l.t → get_or l.cells s 0 ≡ p1_place s)
-
-abbrev pub decreases-loop-t : goal.decreases-loop-t
-decreases-loop-t l = 320 - l.t

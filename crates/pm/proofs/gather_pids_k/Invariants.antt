@@ -11,6 +11,3 @@ invariant-loop-s l =
     (l.s ≤ 20) × (length l.coded ≡ 400)
     × ((f : ℕ → ℕ) → bit_at l.initial.coded ≡ written (λ i. i) (λ i. bit_at l.pm (pids_place i)) (20 * l.m) f
     → bit_at l.coded ≡ written (λ i. i) (λ i. bit_at l.pm (pids_place i)) (20 * l.m + l.s) f)
-
-abbrev pub decreases-loop-s : goal.decreases-loop-s
-decreases-loop-s l = 20 - l.s

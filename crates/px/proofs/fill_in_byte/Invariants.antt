@@ -8,6 +8,3 @@ use Rattle.px.proofs.fill_in_byte.Given as goal
 
 abbrev pub invariant-loop-u : goal.invariant-loop-u
 invariant-loop-u l = (l.u ≤ 8) × ((i : ℕ) → 8 * l.j ≤ i → i < 8 * l.j + l.u → is_fill l.kind l.half (bit_at l.px) i ≡ false)
-
-abbrev pub decreases-loop-u : goal.decreases-loop-u
-decreases-loop-u l = 8 - l.u

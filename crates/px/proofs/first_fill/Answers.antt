@@ -16,9 +16,6 @@ loop-j-init c = (search rules, λ i l. absurd (omega arith))
 pub overflow_mul-j : goal.overflow_mul-j
 overflow_mul-j c = omega (arith, coded_bytes-le c.args.kind c.requires.0)
 
-pub overflow_add-j : goal.overflow_add-j
-overflow_add-j c = omega (arith, coded_bytes-le c.args.kind c.requires.0)
-
 pub returns-then-r-j : goal.returns-then-r-j
 unfolding first_fill
 returns-then-r-j c =

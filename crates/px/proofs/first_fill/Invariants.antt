@@ -9,6 +9,3 @@ use Rattle.px.proofs.first_fill.Given as goal
 
 abbrev pub invariant-loop-j : goal.invariant-loop-j
 invariant-loop-j l = (l.j ≤ length l.px) × ((i : ℕ) → i < 8 * l.j → is_fill l.kind l.half (bit_at l.px) i ≡ false)
-
-abbrev pub decreases-loop-j : goal.decreases-loop-j
-decreases-loop-j l = length l.px - l.j

@@ -9,6 +9,3 @@ use Rattle.px.proofs.merge.Given as goal
 abbrev pub invariant-loop-g : goal.invariant-loop-g
 invariant-loop-g l = (length l.memory ≡ 2 * coded_bytes l.kind) × (length l.px ≡ coded_bytes l.kind)
     × Status l.kind l.half l.memory l.px l.initial.memory l.initial.px (16 * l.g) × (l.g ≤ l.size)
-
-abbrev pub decreases-loop-g : goal.decreases-loop-g
-decreases-loop-g l = l.size - l.g

@@ -10,6 +10,3 @@ use Rattle.px.proofs.merge_turns.Given as goal
 abbrev pub invariant-loop-t : goal.invariant-loop-t
 invariant-loop-t l = (l.t ≤ 16) × (length l.memory ≡ 2 * coded_bytes l.kind) × (length l.px ≡ coded_bytes l.kind)
     × ((m p : List ℕ) → Status l.kind l.half l.initial.memory l.initial.px m p (16 * l.g) → Status l.kind l.half l.memory l.px m p (16 * l.g + l.t))
-
-abbrev pub decreases-loop-t : goal.decreases-loop-t
-decreases-loop-t l = 16 - l.t

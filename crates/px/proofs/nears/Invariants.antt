@@ -7,6 +7,3 @@ use Rattle.px.proofs.nears.Given as goal
 
 abbrev pub invariant-loop-q : goal.invariant-loop-q
 invariant-loop-q l = (l.q ≤ 32) × (length l.nears ≡ 32) × ((s : ℕ) → s < l.q → get_or l.nears s 0 ≡ near4 s)
-
-abbrev pub decreases-loop-q : goal.decreases-loop-q
-decreases-loop-q l = 32 - l.q

@@ -9,6 +9,3 @@ use Rattle.px2.proofs.interleave.Given as goal
 abbrev pub invariant-loop-y : goal.invariant-loop-y
 invariant-loop-y l =
     (l.y ≤ 64) × (length l.px2 ≡ length l.initial.px2) × Changed l.first (18 * ((l.row + 1) * l.y)) (byte_in l.row (bit_at l.coded)) l.initial.px2 l.px2
-
-abbrev pub decreases-loop-y : goal.decreases-loop-y
-decreases-loop-y l = 64 - l.y

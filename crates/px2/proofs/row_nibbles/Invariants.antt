@@ -9,6 +9,3 @@ use Rattle.px2.proofs.row_nibbles.Given as goal
 
 abbrev pub invariant-loop-x : goal.invariant-loop-x
 invariant-loop-x l = (l.x ≤ 9) × (length l.out ≡ length l.initial.out) × Begins (row_of l.m (bit_at l.coded) l.starts l.a) (8 * (l.m * l.x)) l.out
-
-abbrev pub decreases-loop-x : goal.decreases-loop-x
-decreases-loop-x l = 9 - l.x

@@ -10,6 +10,3 @@ abbrev pub invariant-loop-g : goal.invariant-loop-g
 invariant-loop-g l =
     (length l.coded ≡ coded_bytes l.kind)
     × ((t h : ℕ) → t < 16 → h < l.g → get_or l.coded (144 * partitions l.kind * t + h) 0 ≡ byte_of (λ i. bit_at l.three (later l.kind l.half i)) (144 * partitions l.kind * t + h))
-
-abbrev pub decreases-loop-g : goal.decreases-loop-g
-decreases-loop-g l = l.size - l.g

@@ -7,6 +7,3 @@ use Rattle.px_gather.proofs.gather_byte.Given as goal
 
 abbrev pub invariant-loop-u : goal.invariant-loop-u
 invariant-loop-u l = (l.u ≤ 8) × (l.a ≡ number l.u (λ k. bit_at l.three (later l.kind l.half (8 * (144 * partitions l.kind * l.t + l.g) + k))))
-
-abbrev pub decreases-loop-u : goal.decreases-loop-u
-decreases-loop-u l = 8 - l.u

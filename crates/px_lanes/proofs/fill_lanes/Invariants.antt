@@ -8,6 +8,3 @@ use Rattle.px_lanes.proofs.fill_lanes.Given as goal
 
 abbrev pub invariant-loop-i : goal.invariant-loop-i
 invariant-loop-i l = (l.i ≤ l.n) × (length l.lanes ≡ 1024) × Begins (lane_at l.kind) l.i l.lanes
-
-abbrev pub decreases-loop-i : goal.decreases-loop-i
-decreases-loop-i l = l.n - l.i

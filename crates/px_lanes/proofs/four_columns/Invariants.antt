@@ -9,6 +9,3 @@ use Rattle.px_lanes.proofs.four_columns.Given as goal
 abbrev pub invariant-loop-d : goal.invariant-loop-d
 invariant-loop-d l =
     (l.d ≤ 16) × (length l.quads ≡ 144) × (Begins (quad_at l.kind l.coded l.r) (16 * l.z) l.initial.quads → Begins (quad_at l.kind l.coded l.r) (16 * l.z + l.d) l.quads)
-
-abbrev pub decreases-loop-d : goal.decreases-loop-d
-decreases-loop-d l = 16 - l.d

@@ -12,6 +12,3 @@ abbrev pub invariant-loop-k : goal.invariant-loop-k
 invariant-loop-k v =
     (v.k ≤ v.w) × (length v.px ≡ coded_bytes v.kind)
     × ((l : List ℕ) → Begins (quad_at v.kind l v.r) 144 v.quads → Laid v.kind l (9 * (partitions v.kind / 2) * v.r) v.initial.px → Laid v.kind l (9 * (partitions v.kind / 2) * v.r + v.k) v.px)
-
-abbrev pub decreases-loop-k : goal.decreases-loop-k
-decreases-loop-k l = l.w - l.k

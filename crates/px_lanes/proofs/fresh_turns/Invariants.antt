@@ -16,6 +16,3 @@ invariant-loop-t v =
     × ((l : List ℕ) (r : ℕ) → r < 32 → 2 * v.k < 9 * partitions v.kind → 2 * v.g ≡ 9 * partitions v.kind * r + 2 * v.k → Begins (quad_at v.kind l r) 144 v.quads
     → (s : ℕ) → s < v.t → get_or v.px (144 * partitions v.kind * s + v.g) 0 ≡ byte_of (λ i. bit_at l (source v.kind i % coded_bits v.kind)) (144 * partitions v.kind * s + v.g))
     × ((s h : ℕ) → h < v.g → get_or v.px (144 * partitions v.kind * s + h) 0 ≡ get_or v.initial.px (144 * partitions v.kind * s + h) 0)
-
-abbrev pub decreases-loop-t : goal.decreases-loop-t
-decreases-loop-t l = 16 - l.t

@@ -8,6 +8,3 @@ use Rattle.px_lanes.proofs.row_quads.Given as goal
 
 abbrev pub invariant-loop-z : goal.invariant-loop-z
 invariant-loop-z l = (l.z ≤ 9) × (length l.quads ≡ 144) × Begins (quad_at l.kind l.coded l.r) (16 * l.z) l.quads
-
-abbrev pub decreases-loop-z : goal.decreases-loop-z
-decreases-loop-z l = 9 - l.z

@@ -7,6 +7,3 @@ use Rattle.recover.proofs.first_one.Given as goal
 
 abbrev pub invariant-loop-c : goal.invariant-loop-c
 invariant-loop-c l = (l.c ≤ l.n) × ((i : ℕ) → i < l.c → is_one l.x i ≡ false)
-
-abbrev pub decreases-loop-c : goal.decreases-loop-c
-decreases-loop-c l = l.n - l.c

@@ -15,6 +15,3 @@ invariant-loop-j l =
     × (l.r ≡ gone l.cells l.e zeros l.j)
     × (bit_at l.out ≡ written (λ i. i) (went l.cells l.e zeros) l.j (bit_at l.initial.out))
     × ((i : ℕ) → i < l.j → Fork l.cells l.e i → ⊥)
-
-abbrev pub decreases-loop-j : goal.decreases-loop-j
-decreases-loop-j l = 80 - l.j

@@ -8,6 +8,3 @@ use Rattle.restoring.proofs.next_closed.Given as goal
 
 abbrev pub invariant-loop-e : goal.invariant-loop-e
 invariant-loop-e l = (l.from ≤ l.e) × (l.e ≤ 64) × ((cells : List ℕ) → Reached cells 0 l.kept → (d : ℕ) → l.from ≤ d → d < l.e → closed cells d ≡ false)
-
-abbrev pub decreases-loop-e : goal.decreases-loop-e
-decreases-loop-e l = 64 - l.e

@@ -6,6 +6,3 @@ use Rattle.restoring.proofs.reach_last.Given as goal
 
 abbrev pub invariant-loop-r : goal.invariant-loop-r
 invariant-loop-r l = (l.r ≤ 64) × (length l.kept ≡ 5184) × ((q : ℕ) → q < l.r → get_or l.kept (5120 + q) 0 ≡ 2 ^ q)
-
-abbrev pub decreases-loop-r : goal.decreases-loop-r
-decreases-loop-r l = 64 - l.r

@@ -7,6 +7,3 @@ abbrev pub invariant-loop-i : goal.invariant-loop-i
 invariant-loop-i l =
     (l.i ≤ length l.text) × (length l.text ≤ 16) × (l.n < 10 ^ l.i) × (digits_alone (drop l.i l.text) ≡ true)
     × (value l.text ≡ l.n * 10 ^ (length l.text - l.i) + value (drop l.i l.text))
-
-abbrev pub decreases-loop-i : goal.decreases-loop-i
-decreases-loop-i l = length l.text - l.i

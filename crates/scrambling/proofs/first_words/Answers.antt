@@ -18,12 +18,6 @@ offset_bounds-ring-w c = omega arith
 pub bounds-ring-w : goal.bounds-ring-w
 bounds-ring-w c = omega arith
 
-pub overflow_add-w : goal.overflow_add-w
-overflow_add-w c = omega arith
-
-pub loop-w-smaller : goal.loop-w-smaller
-loop-w-smaller c = omega arith
-
 pub loop-w-preserved : goal.loop-w-preserved
 unfolding word_of
 loop-w-preserved c =

@@ -24,12 +24,6 @@ byte_of-requires c = omega (arith, and_le_r c.loop-i.i 3)
 pub bounds-out-i : goal.bounds-out-i
 bounds-out-i c = omega arith
 
-pub overflow_add-i : goal.overflow_add-i
-overflow_add-i c = omega arith
-
-pub loop-i-smaller : goal.loop-i-smaller
-loop-i-smaller c = simp length-set (omega arith)
-
 pub loop-i-preserved : goal.loop-i-preserved
 unfolding word_of
 loop-i-preserved c =

@@ -14,12 +14,6 @@ bounds-sum-i c = omega arith
 pub bounds-sum-i-in-loop-i : goal.bounds-sum-i-in-loop-i
 bounds-sum-i-in-loop-i c = omega arith
 
-pub overflow_add-i : goal.overflow_add-i
-overflow_add-i c = omega arith
-
-pub loop-i-smaller : goal.loop-i-smaller
-loop-i-smaller c = simp length-set (omega arith)
-
 pub loop-i-preserved : goal.loop-i-preserved
 loop-i-preserved c =
     let i = c.loop-i.i in

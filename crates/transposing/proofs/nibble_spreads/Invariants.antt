@@ -7,6 +7,3 @@ use Rattle.transposing.proofs.nibble_spreads.Given as goal
 
 abbrev pub invariant-loop-x : goal.invariant-loop-x
 invariant-loop-x l = (l.x ≤ 16) × (length l.table ≡ 16) × Begins spread_of l.x l.table
-
-abbrev pub decreases-loop-x : goal.decreases-loop-x
-decreases-loop-x l = 16 - l.x

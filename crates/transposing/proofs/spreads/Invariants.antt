@@ -7,6 +7,3 @@ use Rattle.transposing.proofs.spreads.Given as goal
 
 abbrev pub invariant-loop-x : goal.invariant-loop-x
 invariant-loop-x l = (l.x ≤ 256) × (length l.table ≡ 256) × Begins spread_of l.x l.table
-
-abbrev pub decreases-loop-x : goal.decreases-loop-x
-decreases-loop-x l = 256 - l.x

@@ -7,6 +7,3 @@ use Rattle.trellis.proofs.all_outputs.Given as goal
 
 abbrev pub invariant-loop-w : goal.invariant-loop-w
 invariant-loop-w l = (l.w ≤ 128) × (length l.all ≡ 128) × ((q : ℕ) → q < l.w → get_or l.all q 0 ≡ outputs_of q)
-
-abbrev pub decreases-loop-w : goal.decreases-loop-w
-decreases-loop-w l = 128 - l.w

@@ -8,6 +8,3 @@ use Rattle.trellis.proofs.costs.Given as goal
 abbrev pub invariant-loop-j : goal.invariant-loop-j
 invariant-loop-j l =
     (l.j ≤ 80) × (length l.table ≡ 10240) × ((i w : ℕ) → i < l.j → w < 128 → tabled l.table i w ≡ cost l.cells i w)
-
-abbrev pub decreases-loop-j : goal.decreases-loop-j
-decreases-loop-j l = 80 - l.j

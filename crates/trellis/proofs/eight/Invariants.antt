@@ -7,6 +7,3 @@ use Rattle.trellis.proofs.eight.Given as goal
 
 abbrev pub invariant-loop-y : goal.invariant-loop-y
 invariant-loop-y l = (l.y ≤ 8) × (length l.costs ≡ 8) × ((q : ℕ) → q < l.y → get_or l.costs q 0 ≡ cost_by l.cells l.j q)
-
-abbrev pub decreases-loop-y : goal.decreases-loop-y
-decreases-loop-y l = 8 - l.y

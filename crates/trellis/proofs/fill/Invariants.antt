@@ -11,6 +11,3 @@ invariant-loop-w l =
     × (length l.table ≡ 10240)
     × ((q : ℕ) → q < l.w → get_or l.table (l.at + q) 0 ≡ get_or l.costs (outputs_of q) 0)
     × ((n : ℕ) → n < l.at → get_or l.table n 0 ≡ get_or l.initial.table n 0)
-
-abbrev pub decreases-loop-w : goal.decreases-loop-w
-decreases-loop-w l = 128 - l.w

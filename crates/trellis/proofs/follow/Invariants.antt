@@ -14,6 +14,3 @@ invariant-loop-j l =
     × Bytes l.out
     × ((final : ℕ → ℕ) → Kept (tabled l.costs) final 0 l.kept
     → (l.r ≡ walked (tabled l.costs) final l.e l.j) × (bit_at l.out ≡ written (λ i. i) (walk (tabled l.costs) final l.e) l.j (bit_at l.initial.out)))
-
-abbrev pub decreases-loop-j : goal.decreases-loop-j
-decreases-loop-j l = 80 - l.j

@@ -5,6 +5,3 @@ use Rattle.trellis.proofs.lowest.Given as goal
 
 abbrev pub invariant-loop-r : goal.invariant-loop-r
 invariant-loop-r l = (l.r ≤ 64) × LeastScore l.scores l.r l.m
-
-abbrev pub decreases-loop-r : goal.decreases-loop-r
-decreases-loop-r l = 64 - l.r

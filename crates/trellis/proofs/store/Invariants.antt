@@ -10,6 +10,3 @@ invariant-loop-r l =
     × (length l.kept ≡ 5120)
     × ((q : ℕ) → q < l.r → get_or l.kept (l.at + q) 0 ≡ get_or l.scores q 0)
     × ((n : ℕ) → l.at + 64 ≤ n → get_or l.kept n 0 ≡ get_or l.initial.kept n 0)
-
-abbrev pub decreases-loop-r : goal.decreases-loop-r
-decreases-loop-r l = 64 - l.r

@@ -19,12 +19,6 @@ overflow_cast-numbers c = omega arith
 pub bounds-numbers-d : goal.bounds-numbers-d
 bounds-numbers-d c = omega arith
 
-pub overflow_add-d : goal.overflow_add-d
-overflow_add-d c = omega arith
-
-pub loop-d-smaller : goal.loop-d-smaller
-loop-d-smaller c = omega arith
-
 pub loop-d-preserved : goal.loop-d-preserved
 loop-d-preserved c = (omega arith, filled-turn _ c.loop-d.invariant.1 c.loop-d-test.true refl)
 

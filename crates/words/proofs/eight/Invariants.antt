@@ -5,6 +5,3 @@ use Rattle.words.proofs.eight.Given as goal
 
 abbrev pub invariant-loop-d : goal.invariant-loop-d
 invariant-loop-d l = (l.d ≤ 8) × Filled 8 (λ d. l.word / 2 ^ (8 * d) % 2 ^ 8) l.numbers l.d
-
-abbrev pub decreases-loop-d : goal.decreases-loop-d
-decreases-loop-d l = 8 - l.d

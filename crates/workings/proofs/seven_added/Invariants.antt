@@ -7,6 +7,3 @@ use Rattle.workings.proofs.seven_added.Given as goal
 
 abbrev pub invariant-loop-d : goal.invariant-loop-d
 invariant-loop-d l = (l.d ≤ 7) × Filled 7 (λ d. sequence (back l.n l.j d)) l.seven l.d
-
-abbrev pub decreases-loop-d : goal.decreases-loop-d
-decreases-loop-d l = 7 - l.d

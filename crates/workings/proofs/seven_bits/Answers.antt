@@ -21,12 +21,6 @@ get-requires c = omega arith
 pub bounds-seven-d : goal.bounds-seven-d
 bounds-seven-d c = omega arith
 
-pub overflow_add-d : goal.overflow_add-d
-overflow_add-d c = omega arith
-
-pub loop-d-smaller : goal.loop-d-smaller
-loop-d-smaller c = omega arith
-
 pub loop-d-preserved : goal.loop-d-preserved
 loop-d-preserved c =
     let a = c.args in

@@ -28,12 +28,6 @@ taken-sum-requires c =
 pub overflow_add-sum : goal.overflow_add-sum
 overflow_add-sum c = omega (arith, c.taken-sum.ensures.1)
 
-pub overflow_add-d : goal.overflow_add-d
-overflow_add-d c = omega arith
-
-pub loop-d-smaller : goal.loop-d-smaller
-loop-d-smaller c = omega arith
-
 pub loop-d-preserved : goal.loop-d-preserved
 loop-d-preserved c =
     let inv = c.loop-d.invariant in

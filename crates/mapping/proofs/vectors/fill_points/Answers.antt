@@ -21,12 +21,6 @@ element-p-requires c =
 pub store-requires : goal.store-requires
 store-requires c = let l = c.loop-k in (omega (arith, l.invariant.1.long, c.loop-k-test.true), omega (arith, l.invariant.2.long, c.loop-k-test.true))
 
-pub overflow_add-k : goal.overflow_add-k
-overflow_add-k c = omega arith
-
-pub loop-k-smaller : goal.loop-k-smaller
-loop-k-smaller c = omega arith
-
 pub loop-k-preserved : goal.loop-k-preserved
 loop-k-preserved c =
     let t = c.loop-k-test.true in

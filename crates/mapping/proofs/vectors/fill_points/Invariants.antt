@@ -10,6 +10,3 @@ invariant-loop-k l =
     (l.k ≤ 1093)
     × Filled 1093 (λ j. (point_at l.mode l.symbol l.lower l.upper (signal l.pm l.px1 l.px2 l.control) j).re) l.re l.k
     × Filled 1093 (λ j. (point_at l.mode l.symbol l.lower l.upper (signal l.pm l.px1 l.px2 l.control) j).im) l.im l.k
-
-abbrev pub decreases-loop-k : goal.decreases-loop-k
-decreases-loop-k l = 1093 - l.k

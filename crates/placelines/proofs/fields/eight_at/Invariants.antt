@@ -6,6 +6,3 @@ use Rattle.placelines.proofs.fields.eight_at.Given as goal
 
 abbrev pub invariant-loop-d : goal.invariant-loop-d
 invariant-loop-d l = (l.d ≤ 8) × Filled 8 (λ d. number_at (l.k + d) l.line) l.numbers l.d
-
-abbrev pub decreases-loop-d : goal.decreases-loop-d
-decreases-loop-d l = 8 - l.d

@@ -12,12 +12,6 @@ pub returns-then-number_at-ge256 : goal.returns-then-number_at-ge256
 returns-then-number_at-ge256 c =
     sym (not-read c.args.line.now c.loop-k.k 16 c.loop-k-test.true (subst (λ (n : ℕ). 256 ≤ n) c.number_at.ensures c.if-number_at-ge256.true))
 
-pub overflow_add-k : goal.overflow_add-k
-overflow_add-k c = omega arith
-
-pub loop-k-smaller : goal.loop-k-smaller
-loop-k-smaller c = omega arith
-
 pub loop-k-preserved : goal.loop-k-preserved
 loop-k-preserved c =
     (omega arith, read_more c.args.line.now c.loop-k.k c.loop-k.invariant.1 (subst (λ (n : ℕ). n < 256) c.number_at.ensures c.if-number_at-ge256.false))

@@ -7,6 +7,3 @@ use Rattle.placelines.proofs.fields.past_spaces.Given as goal
 
 abbrev pub invariant-loop-i : goal.invariant-loop-i
 invariant-loop-i l = (l.i ≤ l.k) × (l.at ≤ length l.line) × (drop l.at l.line ≡ after_spaces l.i l.line)
-
-abbrev pub decreases-loop-i : goal.decreases-loop-i
-decreases-loop-i l = l.k - l.i

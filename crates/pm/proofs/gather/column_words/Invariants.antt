@@ -9,6 +9,3 @@ use Rattle.pm.proofs.gather.column_words.Given as goal
 abbrev pub invariant-loop-j : goal.invariant-loop-j
 invariant-loop-j l =
     (l.j ≤ 40) × (length l.words ≡ 40) × ((f : ℕ → ℕ) (r : ℕ) → ((c : ℕ) → f c < 2) → Begins (nibble_in f r) 2880 l.nibbles → Begins (word_in f r l.x) l.j l.words)
-
-abbrev pub decreases-loop-j : goal.decreases-loop-j
-decreases-loop-j l = 40 - l.j

@@ -10,6 +10,3 @@ abbrev pub invariant-loop-x : goal.invariant-loop-x
 invariant-loop-x l =
     (l.x ≤ 9) × (length l.out ≡ 2880)
     × ((g : ℕ → ℕ) → ((x : ℕ) → x < 9 → g (9 * l.t + x) ≡ number 4 (λ i. bit_at l.pm (8 * l.n + 4 * (l.odd + x) + i))) → Begins g (9 * l.t) l.initial.out → Begins g (9 * l.t + l.x) l.out)
-
-abbrev pub decreases-loop-x : goal.decreases-loop-x
-decreases-loop-x l = 9 - l.x

@@ -9,6 +9,3 @@ use Rattle.pm.proofs.gather.read_row.Given as goal
 
 abbrev pub invariant-loop-t : goal.invariant-loop-t
 invariant-loop-t l = (l.t ≤ 320) × (length l.out ≡ 2880) × Begins (nibble_in (bit_at l.pm) l.r) (9 * l.t) l.out
-
-abbrev pub decreases-loop-t : goal.decreases-loop-t
-decreases-loop-t l = 320 - l.t

@@ -8,6 +8,3 @@ use Rattle.pm.proofs.scatter.scatter_p1.Given as goal
 
 abbrev pub invariant-loop-r : goal.invariant-loop-r
 invariant-loop-r l = (l.r ≤ 32) × (length l.pm ≡ 46080) × (length l.nibbles ≡ 2880) × RowsDone (bit_at l.coded) l.r l.pm
-
-abbrev pub decreases-loop-r : goal.decreases-loop-r
-decreases-loop-r l = 32 - l.r

@@ -70,14 +70,6 @@ returns-then-number-ne0 c =
     put_first _ _ (omega (arith, c.requires.6, c.loop-t.invariant.4, c.take_turn-turned.ensures.size))
     (going-stops c.loop-t.invariant.5 c.loop-t-test.true _ _ c.loop-t.invariant.0 refl _ refl _ c.take_turn-turned.result _ c.take_turn-turned.ensures (λ z. c.if-number-ne0.true (c.number.ensures ∙ z))) c.put_no_frame.ensures
 
-pub overflow_add-t : goal.overflow_add-t
-overflow_add-t c =
-    omega (arith, c.loop-t-test.true, c.requires.3)
-
-pub loop-t-smaller : goal.loop-t-smaller
-loop-t-smaller c =
-    omega (arith, c.loop-t-test.true)
-
 pub loop-t-preserved : goal.loop-t-preserved
 loop-t-preserved c = (
   c.loop-t.invariant.0,

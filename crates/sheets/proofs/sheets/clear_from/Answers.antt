@@ -10,12 +10,6 @@ loop-i-init c = (omega arith, c.requires, refl, cleared-none c.args.out.now c.ar
 pub bounds-out-i : goal.bounds-out-i
 bounds-out-i c = omega arith
 
-pub overflow_add-i : goal.overflow_add-i
-overflow_add-i c = omega arith
-
-pub loop-i-smaller : goal.loop-i-smaller
-loop-i-smaller c = omega (arith, length-set c.loop-i.out c.loop-i.i 0)
-
 pub loop-i-preserved : goal.loop-i-preserved
 loop-i-preserved c =
     (omega arith, omega (arith, c.loop-i-test.true, c.loop-i.invariant.2), length-set c.loop-i.out _ _ ∙ c.loop-i.invariant.2, cleared_more (take c.args.at c.args.out.now) c.loop-i.out c.args.at c.loop-i.i c.loop-i.invariant.0 c.loop-i-test.true c.loop-i.invariant.3)

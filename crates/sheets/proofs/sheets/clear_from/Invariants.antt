@@ -8,6 +8,3 @@ use Rattle.sheets.proofs.sheets.clear_from.Given as goal
 abbrev pub invariant-loop-i : goal.invariant-loop-i
 invariant-loop-i l =
     (l.at ≤ l.i) × (l.i ≤ length l.initial.out) × (length l.out ≡ length l.initial.out) × (take l.i l.out ≡ take l.at l.initial.out ++ replicate (l.i - l.at) 0)
-
-abbrev pub decreases-loop-i : goal.decreases-loop-i
-decreases-loop-i l = length l.out - l.i

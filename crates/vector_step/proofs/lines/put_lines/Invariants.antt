@@ -7,6 +7,3 @@ use Rattle.vector_step.proofs.lines.put_lines.Given as goal
 
 abbrev pub invariant-loop-k : goal.invariant-loop-k
 invariant-loop-k l = (l.k ≤ 1093) × (l.end ≤ 125 * l.k) × (length l.out ≡ length l.initial.out) × (take l.end l.out ≡ lines l.mode l.re l.im l.k)
-
-abbrev pub decreases-loop-k : goal.decreases-loop-k
-decreases-loop-k l = 1093 - l.k
