@@ -36,3 +36,6 @@ unfolding first_fill
 returns c =
     let n : 8 * length c.args.px.now ≡ coded_bits c.args.kind = omega arith in
     n ∙ sym (lowest-none _ _ (λ i l. c.loop-j.invariant.1 i (omega arith)))
+
+pub overflow_add-j : goal.overflow_add-j
+overflow_add-j c = omega (arith, coded_bytes-le c.args.kind c.requires.0)
