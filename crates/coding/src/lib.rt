@@ -236,11 +236,9 @@ pub fn encode(rate: Rate, n: usize, count: usize, frames: &[u8], out: &mut [u8])
 {
     let mut table = [0u64; 256];
     fill_words(rate, false, &mut table);
-    let mut u: usize = 0;
     let mut v: usize = 0;
-    while u < frames.len() / 2 {
+    for u in 0..frames.len() / 2 {
         store_unit(rate, coded_unit(rate, &table, n, frames, u, v), u, out);
-        u += 1;
         v = bits::next_around(n / 2, v);
     }
 }
@@ -252,11 +250,9 @@ pub fn decode(rate: Rate, n: usize, count: usize, coded: &[u8], out: &mut [u8])
 {
     let mut table = [0u64; 256];
     fill_words(rate, true, &mut table);
-    let mut u: usize = 0;
     let mut v: usize = 0;
-    while u < out.len() / 2 {
+    for u in 0..out.len() / 2 {
         store(frame_unit(rate, &table, n, coded, u, v), 2, 2 * u, out);
-        u += 1;
         v = bits::next_around(n / 2, v);
     }
 }
@@ -270,13 +266,11 @@ pub fn first_bad(rate: Rate, n: usize, count: usize, coded: &[u8], frames: &[u8]
     let mut table = [0u64; 256];
     fill_words(rate, false, &mut table);
     let units = frames.len() / 2;
-    let mut u: usize = 0;
     let mut v: usize = 0;
-    while u < units {
+    for u in 0..units {
         if coded_unit(rate, &table, n, frames, u, v) != load_unit(rate, coded, u) {
             return u / (n / 2);
         }
-        u += 1;
         v = bits::next_around(n / 2, v);
     }
     count

@@ -252,14 +252,12 @@ pub fn first_fill(kind: Kind, age: u8, px: &[u8]) -> usize
 fn zero_bytes(x: &[u8]) -> usize
     ensures { (result ≤ length x.now) × ((j : ℕ) → j < result → get_or x.now j 0 ≡ 0) }
 {
-    let mut j: usize = 0;
-    while j < x.len() {
+    for j in 0..x.len() {
         if x[j] != 0 {
             return j;
         }
-        j += 1;
     }
-    j
+    x.len()
 }
 
 // The lowest cell that is 1; as many as there are where there is none. Bytes of zeros are gone past at once.

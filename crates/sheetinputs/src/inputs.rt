@@ -65,15 +65,13 @@ pub fn empty_line(input: &[u8]) -> usize
     ensures { (result ≡ empty_line true input.now) × (result ≤ length input.now) }
 {
     let mut fresh = true;
-    let mut i: usize = 0;
-    while i < input.len() {
+    for i in 0..input.len() {
         if ends(fresh, empty_at(input, i)) {
             return i;
         }
         fresh = input[i] == b'\n';
-        i += 1;
     }
-    i
+    input.len()
 }
 
 // The bytes of an L1 frame.

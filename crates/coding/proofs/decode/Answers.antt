@@ -33,9 +33,6 @@ overflow_mul-u c = omega arith
 pub store-requires : goal.store-requires
 store-requires c = (omega arith, omega arith)
 
-pub loop-u-smaller : goal.loop-u-smaller
-loop-u-smaller c = omega arith
-
 pub loop-u-preserved : goal.loop-u-preserved
 loop-u-preserved c =
     let a = c.args in

@@ -10,6 +10,3 @@ use Rattle.coding.proofs.first_bad.Given as goal
 
 abbrev pub invariant-loop-u : goal.invariant-loop-u
 invariant-loop-u l = Agree (8 * (group_size l.rate * l.u)) (bit_at l.coded) (coded_each l.rate (8 * l.n) (bit_at l.frames)) × UnitIs l.n l.u l.v
-
-abbrev pub decreases-loop-u : goal.decreases-loop-u
-decreases-loop-u l = length l.frames / 2 - l.u

@@ -54,12 +54,6 @@ returns-then-have-i c =
     let a = c.args in
     sym (c.loop-i.invariant.1 ∙ other a.have.now a.want.now c.loop-i.i (omega arith) (omega (arith, c.requires)) c.if-have-i.true)
 
-pub overflow_add-i : goal.overflow_add-i
-overflow_add-i c = omega arith
-
-pub loop-i-smaller : goal.loop-i-smaller
-loop-i-smaller c = omega arith
-
 pub loop-i-preserved : goal.loop-i-preserved
 loop-i-preserved c =
     let a = c.args in

@@ -6,6 +6,3 @@ use Rattle.recover.proofs.zero_bytes.Given as goal
 
 abbrev pub invariant-loop-j : goal.invariant-loop-j
 invariant-loop-j l = (l.j ≤ length l.x) × ((i : ℕ) → i < l.j → get_or l.x i 0 ≡ 0)
-
-abbrev pub decreases-loop-j : goal.decreases-loop-j
-decreases-loop-j l = length l.x - l.j

@@ -17,12 +17,6 @@ returns-then-ends c =
 pub bounds-input-i : goal.bounds-input-i
 bounds-input-i c = omega arith
 
-pub overflow_add-i : goal.overflow_add-i
-overflow_add-i c = omega arith
-
-pub loop-i-smaller : goal.loop-i-smaller
-loop-i-smaller c = omega arith
-
 pub loop-i-preserved : goal.loop-i-preserved
 loop-i-preserved c =
     (omega (arith, c.loop-i-test.true), omega (arith, c.loop-i.invariant.1, empty-later c.args.input.now c.loop-i.i c.loop-i.fresh c.loop-i-test.true _ c.empty_at.ensures.0 (sym c.ends.ensures ∙ c.if-ends.false)))

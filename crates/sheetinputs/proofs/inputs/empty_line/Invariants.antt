@@ -8,6 +8,3 @@ use Rattle.sheetinputs.proofs.inputs.empty_line.Given as goal
 
 abbrev pub invariant-loop-i : goal.invariant-loop-i
 invariant-loop-i l = (l.i ≤ length l.input) × (empty_line true l.input ≡ l.i + empty_line l.fresh (drop l.i l.input))
-
-abbrev pub decreases-loop-i : goal.decreases-loop-i
-decreases-loop-i l = length l.input - l.i

@@ -14,12 +14,6 @@ returns-then-text-i c =
     let e = end-here a.separator a.text.now c.loop-i.i c.loop-i-test.true c.if-text-i.true in
     omega (arith, c.loop-i.invariant.1, e)
 
-pub overflow_add-i : goal.overflow_add-i
-overflow_add-i c = omega arith
-
-pub loop-i-smaller : goal.loop-i-smaller
-loop-i-smaller c = omega arith
-
 pub loop-i-preserved : goal.loop-i-preserved
 loop-i-preserved c =
     let a = c.args in

@@ -8,6 +8,3 @@ use Rattle.text.proofs.cuts.end_of.Given as goal
 abbrev pub invariant-loop-i : goal.invariant-loop-i
 invariant-loop-i l =
     (l.i ≤ length l.text) × (l.i + length (before l.separator (drop l.i l.text)) ≡ l.at + length (before l.separator (drop l.at l.text)))
-
-abbrev pub decreases-loop-i : goal.decreases-loop-i
-decreases-loop-i l = length l.text - l.i
