@@ -26,15 +26,13 @@ fn keep(text: &mut [u8], n: usize, byte: u8) -> usize
 }
 
 // Reads a line, without the newline that ends it. One that is longer than the buffer fills it, so a buffer is lent that is longer than any line that is taken.
-// A proved loop has to end, so it counts its turns down, from a number that no run uses up.
+// A proved loop has to end, so it reads a number of bytes that no line has.
 pub fn read_line(rt: &impl Streams, text: &mut [u8]) -> Line
     ensures { IsPrefixLen result.length text.new }
 {
     let mut n: usize = 0;
     let mut came = false;
-    let mut turns: u64 = 281474976710656;
-    while turns > 0 {
-        turns -= 1;
+    for _ in 0..281474976710656u64 {
         let mut one = [0u8; 1];
         if read_full(rt, &mut one) == 0 {
             return Line { length: n, came };

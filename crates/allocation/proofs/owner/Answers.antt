@@ -8,12 +8,6 @@ use Rattle.allocation.proofs.owner.Goals as goal
 pub loop-d-init : goal.loop-d-init
 loop-d-init c = (omega arith, refl)
 
-pub bounds-given-d : goal.bounds-given-d
-bounds-given-d c = omega arith
-
-pub overflow_cast-result : goal.overflow_cast-result
-overflow_cast-result c = omega arith
-
 pub returns-then-rest-n : goal.returns-then-rest-n
 returns-then-rest-n c =
     sym (c.loop-d.invariant.1 ∙ here _ _ _ c.loop-d-test.true (subst (λ (n : ℕ). c.loop-d.rest < n) c.wide-n.ensures.0 c.if-rest-n.true))

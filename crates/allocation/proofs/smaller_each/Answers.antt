@@ -7,15 +7,6 @@ use Rattle.allocation.proofs.smaller_each.Goals as goal
 pub loop-d-init : goal.loop-d-init
 loop-d-init c = (omega arith, filled_none 8 _ _ refl)
 
-pub bounds-shares-d : goal.bounds-shares-d
-bounds-shares-d c = omega arith
-
-pub bounds-waiting-d : goal.bounds-waiting-d
-bounds-waiting-d c = omega arith
-
-pub bounds-given-d : goal.bounds-given-d
-bounds-given-d c = omega arith
-
 pub loop-d-preserved : goal.loop-d-preserved
 loop-d-preserved c = (omega arith, filled-turn _ c.loop-d.invariant.1 c.loop-d-test.true c.smaller_of.ensures)
 

@@ -8,9 +8,6 @@ use Rattle.allocation.proofs.sum.Goals as goal
 pub loop-d-init : goal.loop-d-init
 loop-d-init c = (omega arith, omega arith, total-none _)
 
-pub bounds-numbers-d : goal.bounds-numbers-d
-bounds-numbers-d c = omega arith
-
 pub overflow_add-s : goal.overflow_add-s
 overflow_add-s c = omega (arith, c.wide-s.ensures.1)
 

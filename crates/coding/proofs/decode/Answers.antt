@@ -27,9 +27,6 @@ frame_unit-requires c =
       bound = (pre.enough, pre.even, coded-frame-there pre loop.u (omega arith), loop.invariant.1.0);
     }
 
-pub overflow_mul-u : goal.overflow_mul-u
-overflow_mul-u c = omega arith
-
 pub store-requires : goal.store-requires
 store-requires c = (omega arith, omega arith)
 

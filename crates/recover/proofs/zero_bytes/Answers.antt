@@ -13,4 +13,4 @@ pub loop-j-preserved : goal.loop-j-preserved
 loop-j-preserved c = (omega arith, below_more _ _ c.loop-j.invariant.1 (omega (arith, c.if-x-j-ne0.false)))
 
 pub returns : goal.returns
-returns c = c.loop-j.invariant
+returns c = (omega arith, λ i h. c.loop-j.invariant.1 i (omega arith))

@@ -12,14 +12,8 @@ use Rattle.scrambling.proofs.scramble_rest.Goals as goal
 pub loop-i-init : goal.loop-i-init
 loop-i-init c = (record { inside = omega arith; long = refl; front = c.requires.2 }, omega arith)
 
-pub bounds-frame-i : goal.bounds-frame-i
-bounds-frame-i c = omega arith
-
 pub byte_of-requires : goal.byte_of-requires
 byte_of-requires c = omega (arith, and_le_r c.loop-i.i 3)
-
-pub bounds-out-i : goal.bounds-out-i
-bounds-out-i c = omega arith
 
 pub loop-i-preserved : goal.loop-i-preserved
 unfolding word_of

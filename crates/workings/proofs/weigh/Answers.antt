@@ -7,12 +7,6 @@ use Rattle.workings.proofs.weigh.Goals as goal
 pub loop-d-init : goal.loop-d-init
 loop-d-init c = (omega arith, added_none _, omega arith)
 
-pub bounds-bits-d : goal.bounds-bits-d
-bounds-bits-d c = omega arith
-
-pub bounds-scrambling-d : goal.bounds-scrambling-d
-bounds-scrambling-d c = omega arith
-
 pub overflow_add-bits : goal.overflow_add-bits
 overflow_add-bits c =
     let p = c.requires in

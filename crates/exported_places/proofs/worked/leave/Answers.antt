@@ -3,9 +3,6 @@ use mathlib.Core.Path.{◌∙◌}
 use Rattle.exported_places.proofs.Numbers.{refused-left, length-left, done-left}
 use Rattle.exported_places.proofs.worked.leave.Goals as goal
 
-pub answer_word-requires : goal.answer_word-requires
-answer_word-requires c = c.requires.0
-
 pub returns-then-number-ne0 : goal.returns-then-number-ne0
 returns-then-number-ne0 c =
     refused-left _ _ _ c.number.ensures c.if-number-ne0.true _ c.answer_word.ensures

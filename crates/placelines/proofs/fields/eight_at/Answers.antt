@@ -16,9 +16,6 @@ pub overflow_cast-numbers : goal.overflow_cast-numbers
 overflow_cast-numbers c =
     omega (arith, c.number_at.ensures, read_at c.args.line.now 16 c.requires.0 (c.args.k + c.loop-d.d) (omega (arith, c.requires.1)))
 
-pub bounds-numbers-d : goal.bounds-numbers-d
-bounds-numbers-d c = omega arith
-
 pub loop-d-preserved : goal.loop-d-preserved
 loop-d-preserved c = (omega arith, filled-turn _ c.loop-d.invariant.1 c.loop-d-test.true c.number_at.ensures)
 

@@ -6,6 +6,3 @@ use Rattle.run_input.proofs.inputs.number_of.Goals as goal
 
 pub returns-then-input-eq0 : goal.returns-then-input-eq0
 returns-then-input-eq0 c = sym (get_or-eq_default c.args.input.now 0 (omega (arith, c.if-input-eq0.true)))
-
-pub returns : goal.returns
-returns c = refl

@@ -23,12 +23,6 @@ pub overflow_add-to : goal.overflow_add-to
 overflow_add-to c =
     omega (arith, frame-within c.loop-t.invariant.5 c.loop-t-test.true, c.loop-t.invariant.0, c.ranges, c.well_formed)
 
-pub slice_bounds-take_turn-count : goal.slice_bounds-take_turn-count
-slice_bounds-take_turn-count c = omega arith
-
-pub slice_bounds-take_turn-start : goal.slice_bounds-take_turn-start
-slice_bounds-take_turn-start c = omega arith
-
 pub slice_bounds-take_turn-end : goal.slice_bounds-take_turn-end
 slice_bounds-take_turn-end c = omega (arith, frame-within c.loop-t.invariant.5 c.loop-t-test.true, c.loop-t.invariant.0)
 

@@ -7,9 +7,6 @@ use Rattle.sheets.proofs.sheets.clear_from.Goals as goal
 pub loop-i-init : goal.loop-i-init
 loop-i-init c = (omega arith, c.requires, refl, cleared-none c.args.out.now c.args.at)
 
-pub bounds-out-i : goal.bounds-out-i
-bounds-out-i c = omega arith
-
 pub loop-i-preserved : goal.loop-i-preserved
 loop-i-preserved c =
     (omega arith, omega (arith, c.loop-i-test.true, c.loop-i.invariant.2), length-set c.loop-i.out _ _ ∙ c.loop-i.invariant.2, cleared_more (take c.args.at c.args.out.now) c.loop-i.out c.args.at c.loop-i.i c.loop-i.invariant.0 c.loop-i-test.true c.loop-i.invariant.3)

@@ -2,12 +2,6 @@ use native.Mathlib.Omega.{arith}
 use Rattle.text.proofs.Ends.{end-here, end_later, end-nowhere}
 use Rattle.text.proofs.cuts.end_of.Goals as goal
 
-pub loop-i-init : goal.loop-i-init
-loop-i-init c = omega arith
-
-pub bounds-text-i : goal.bounds-text-i
-bounds-text-i c = omega arith
-
 pub returns-then-text-i : goal.returns-then-text-i
 returns-then-text-i c =
     let a = c.args in
