@@ -54,14 +54,12 @@ pub fn is_misnamed(want: usize, without: bool) -> bool
 }
 
 // What a sender's program is to do, from the mode, the count and the channels without data.
+#[tactic(auto, unfolding(crate::specs::Arguments::sending_of))]
 pub fn sending_of(mode: u8, count: u64, without3: bool, without4: bool) -> Option<Sending>
     ensures { result ≡ sending_of mode count without3 without4 }
 {
     let want = modes::sender_lengths(mode);
-    if is_misnamed(want[3], without3) {
-        return None;
-    }
-    if is_misnamed(want[4], without4) {
+    if is_misnamed(want[3], without3) || is_misnamed(want[4], without4) {
         return None;
     }
     Some(Sending {
