@@ -1,5 +1,5 @@
 -- House matter: what an answer sheet says of a cell or of a coded bit that is asked for. The sheet is of the first `count` L1 frames of a sender's run.
-use Rattle.std.specs.Prelude.{ℕ, ◌+◌, ◌-◌, ◌*◌, min, cond, ltb}
+use Rattle.std.specs.Prelude.{ℕ, ◌+◌, ◌-◌, ◌*◌, min, cond, ltb, Option, Some, None}
 use Rattle.runs.specs.Starting.{state_at}
 use Rattle.queries.specs.Finder.{found}
 use Rattle.queries.specs.declared.finder.Found.{Found}
@@ -14,7 +14,7 @@ use Rattle.locating.specs.LocatorPX.{located_px}
 use Rattle.locating.specs.declared.locator_px.LocatedPx.{LocatedPx}
 use Rattle.locating.specs.declared.locator_px.LocatedPx.TheVariants.{At as AtPX, Refused as not-located-px}
 use Rattle.sheetlines.specs.declared.questions.Question.{Question}
-use Rattle.sheetlines.specs.declared.questions.Question.TheVariants.{Bit, Pm, Px, Wrong}
+use Rattle.sheetlines.specs.declared.questions.Question.TheVariants.{Bit, Pm, Px}
 use Rattle.sheetlines.specs.declared.entries.Entry.{Entry}
 use Rattle.sheetlines.specs.declared.entries.Entry.TheVariants.{Stands, Fill, Refused}
 
@@ -59,12 +59,12 @@ bit_entry mode channel from frame bit =
     (px_placed mode channel from frame bit (located_px (state_at mode 0 from) channel frame bit))
 
 -- a line that asks for nothing, or for something of an L1 frame that is not sent, is refused
-unfoldable pub entry_of : (mode count : ℕ) → Question → Entry
-entry_of mode count (Pm frame row column) = cond (ltb frame count) (pm_entry frame row column (found row column)) Refused
-entry_of mode count (Px frame channel pair row column) =
+unfoldable pub entry_of : (mode count : ℕ) → Option Question → Entry
+entry_of mode count (Some (Pm frame row column)) = cond (ltb frame count) (pm_entry frame row column (found row column)) Refused
+entry_of mode count (Some (Px frame channel pair row column)) =
     cond (ltb frame count) (px_entry mode channel frame pair row column (found_px (state_at mode 0 frame) channel pair row column)) Refused
-entry_of mode count (Bit frame channel tframe bit) = cond (ltb frame count) (bit_entry mode channel frame tframe bit) Refused
-entry_of mode count Wrong = Refused
+entry_of mode count (Some (Bit frame channel tframe bit)) = cond (ltb frame count) (bit_entry mode channel frame tframe bit) Refused
+entry_of mode count None = Refused
 
 -- among the answers of which L1 frame it stands: of that in which the cell is sent; `count` where that is none of the run's, and where nothing is answered
 unfoldable pub turn_of : (count : ℕ) → Entry → ℕ

@@ -200,41 +200,46 @@ fn bit_entry(mode: u8, from: u64, channel: u8, frame: usize, bit: usize) -> Entr
 }
 
 // What the sheet of a run of `count` L1 frames says of what a line asks for. The table of S-1 is lent, since a list asks for many cells.
-pub fn entry_for(table: &[u16; 1152], mode: u8, count: u64, question: Question) -> Entry
+#[tactic(auto, unfolding(crate::specs::Entries::entry_of))]
+pub fn entry_for(table: &[u16; 1152], mode: u8, count: u64, question: Option<Question>) -> Entry
     requires { (table.now ≡ ks) × (count ≤ 4294967296) }
     ensures { result ≡ entry_of mode count question }
 {
     match question {
-        Question::Pm { frame, row, column } => {
+        Some(Question::Pm { frame, row, column }) => {
             if frame < count {
                 return pm_entry(table, frame, row, column);
             }
             Entry::Refused
         }
-        Question::Px {
-            frame,
-            channel,
-            pair,
-            row,
-            column,
-        } => {
+        Some(
+            Question::Px {
+                frame,
+                channel,
+                pair,
+                row,
+                column,
+            },
+        ) => {
             if frame < count {
                 return px_entry(mode, frame, channel, pair, row, column);
             }
             Entry::Refused
         }
-        Question::Bit {
-            frame,
-            channel,
-            tframe,
-            bit,
-        } => {
+        Some(
+            Question::Bit {
+                frame,
+                channel,
+                tframe,
+                bit,
+            },
+        ) => {
             if frame < count {
                 return bit_entry(mode, frame, channel, tframe, bit);
             }
             Entry::Refused
         }
-        Question::Wrong => Entry::Refused,
+        None => Entry::Refused,
     }
 }
 
