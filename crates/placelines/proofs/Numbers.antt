@@ -2,7 +2,7 @@
 use mathlib.Core.Path.{◌≡◌, refl, sym, ap, ◌∙◌}
 use mathlib.Core.Bool.{Bool, true, false, cond, ◌&&◌, true≢false}
 use mathlib.Core.List.{List}
-use Prim.Native.Nat.{ℕ, zero, suc, ◌+◌, ◌-◌, ◌<◌, ◌≤◌, min}
+use Prim.Native.Nat.{ℕ, zero, suc, ◌+◌, ◌-◌, ◌<◌, ◌≤◌}
 use native.Mathlib.Decide.{ℕ_discrete}
 use native.Mathlib.Numerals.{add-one}
 use native.Mathlib.Omega.{arith}
@@ -12,8 +12,6 @@ use lib.ListN.{length, take, drop, drop_of_length-le, length-drop}
 use lib.Seq.{drop-drop, take_all}
 use Rattle.text.specs.Lines.{after, before, space}
 use Rattle.text.proofs.Ends.{after-dropped}
-use Rattle.operands.specs.declared.Operand.{Operand}
-use Rattle.operands.specs.declared.Operand.TheVariants.{Number, NotDecimal}
 use Rattle.operands.specs.Operands.{operand_of}
 use Rattle.placelines.specs.Read.{after_spaces, is_read, number_at, value_of, word_at}
 
@@ -78,18 +76,6 @@ read_at line (suc n) h k l = go (ℕ_discrete k n) (λ m. read_at line n (and_bo
     go : Dec (k ≡ n) → (k < n → number_at k line < 256) → number_at k line < 256
     go (yes e) before = rw e (ltb-true (number_at n line) 256 (and_both (is_read n line) _ h).1)
     go (no m) before = before (omega arith)
-
--- ---- the number of a word
-
-module _ (word : List ℕ) (read : Operand) (e : read ≡ operand_of word) where
-  pub value-small : (n : ℕ) → read ≡ Number n → n < 256 → n ≡ value_of (operand_of word)
-  value-small n k h = let m : n ≡ min n 256 = omega arith in m ∙ sym (ap value_of (sym e ∙ k))
-
-  pub value-great : (n : ℕ) → read ≡ Number n → 256 ≤ n → 256 ≡ value_of (operand_of word)
-  value-great n k h = let m : 256 ≡ min n 256 = omega arith in m ∙ sym (ap value_of (sym e ∙ k))
-
-  pub value_none : read ≡ NotDecimal → 256 ≡ value_of (operand_of word)
-  value_none k = sym (ap value_of (sym e ∙ k))
 
 -- ---- number k of a line, by the text after k spaces
 

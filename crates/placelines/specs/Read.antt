@@ -1,8 +1,6 @@
 -- A line of sixteen numbers, 0 to 255, with one space between two: the eight shares, then the eight counts of messages waiting.
-use Rattle.std.specs.Prelude.{ℕ, zero, suc, ◌+◌, min, Bool, true, cond, ◌&&◌, List, ltb}
+use Rattle.std.specs.Prelude.{ℕ, zero, suc, ◌+◌, min, Bool, true, cond, ◌&&◌, List, ltb, Option, Some, None}
 use Rattle.bits.specs.Listed.{listed}
-use Rattle.operands.specs.declared.Operand.{Operand}
-use Rattle.operands.specs.declared.Operand.TheVariants.{Number, NotDecimal}
 use Rattle.operands.specs.Operands.{operand_of}
 use Rattle.text.specs.Lines.{after, before, space}
 
@@ -16,9 +14,9 @@ unfoldable pub word_at : ℕ → List ℕ → List ℕ
 word_at k line = cond (ltb k 15) (before space (after_spaces k line)) (after_spaces k line)
 
 -- 256 stands for a greater number, and for what is no number
-abbrev pub value_of : Operand → ℕ
-value_of (Number n) = min n 256
-value_of NotDecimal = 256
+abbrev pub value_of : Option ℕ → ℕ
+value_of (Some n) = min n 256
+value_of None = 256
 
 unfoldable pub number_at : ℕ → List ℕ → ℕ
 number_at k line = value_of (operand_of (word_at k line))

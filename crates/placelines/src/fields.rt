@@ -4,7 +4,7 @@ ghost use Rattle.operands.specs.Operands.{operand_of};
 ghost use Rattle.text.specs.Lines.{after, space};
 ghost use Rattle.placelines.specs.Read.{after_spaces, eight_at, is_read, number_at, value_of};
 
-use operands::Operand;
+use operands::decimal;
 
 // Where the text after the next space begins: at the line's end, where there is none.
 fn past_space(line: &[u8], at: usize) -> usize
@@ -35,14 +35,9 @@ fn past_spaces(line: &[u8], k: usize) -> usize
 fn value(word: &[u8]) -> usize
     ensures { result ≡ value_of (operand_of word.now) }
 {
-    match operands::decimal(word) {
-        Operand::Number(n) => {
-            if n < 256 {
-                return n as usize;
-            }
-            256
-        }
-        Operand::NotDecimal => 256,
+    match decimal(word) {
+        Some(n) => n.min(256) as usize,
+        None => 256,
     }
 }
 
