@@ -205,41 +205,39 @@ pub fn entry_for(table: &[u16; 1152], mode: u8, count: u64, question: Option<Que
     requires { (table.now ≡ ks) × (count ≤ 4294967296) }
     ensures { result ≡ entry_of mode count question }
 {
+    let Some(question) = question else {
+        return Entry::Refused;
+    };
     match question {
-        Some(Question::Pm { frame, row, column }) => {
+        Question::Pm { frame, row, column } => {
             if frame < count {
                 return pm_entry(table, frame, row, column);
             }
             Entry::Refused
         }
-        Some(
-            Question::Px {
-                frame,
-                channel,
-                pair,
-                row,
-                column,
-            },
-        ) => {
+        Question::Px {
+            frame,
+            channel,
+            pair,
+            row,
+            column,
+        } => {
             if frame < count {
                 return px_entry(mode, frame, channel, pair, row, column);
             }
             Entry::Refused
         }
-        Some(
-            Question::Bit {
-                frame,
-                channel,
-                tframe,
-                bit,
-            },
-        ) => {
+        Question::Bit {
+            frame,
+            channel,
+            tframe,
+            bit,
+        } => {
             if frame < count {
                 return bit_entry(mode, frame, channel, tframe, bit);
             }
             Entry::Refused
         }
-        None => Entry::Refused,
     }
 }
 
