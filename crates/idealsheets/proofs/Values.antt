@@ -41,8 +41,9 @@ use Rattle.locating.specs.LocatorPX.{located_px}
 use Rattle.locating.specs.Sheets.{LocatedSheet}
 use Rattle.locating.proofs.Sheets.{located-sheets}
 use Rattle.sheetlines.specs.Entries.{bit_entry, entry_of, in_pm, pm_entry, pm_placed, px_entry, px_placed, turn_of}
+use Rattle.std.specs.Prelude.{Option, Some, None}
 use Rattle.sheetlines.specs.declared.questions.Question.{Question}
-use Rattle.sheetlines.specs.declared.questions.Question.TheVariants.{Bit, Pm, Px, Wrong}
+use Rattle.sheetlines.specs.declared.questions.Question.TheVariants.{Bit, Pm, Px}
 use Rattle.sheetlines.specs.declared.entries.Entry.{Entry}
 use Rattle.sheetlines.specs.declared.entries.Entry.TheVariants.{Refused}
 use Rattle.sheetlines.proofs.Ranges.{by-channel}
@@ -236,9 +237,9 @@ module _ (mode : ℕ) (o : older mode ≡ true) (a : SenderRun mode) (t : ℕ) (
   if-sent true e r = r
   if-sent false e r = refused-right
 
-  pub asked-value : (q : Question) → Right (entry_of mode n q)
+  pub asked-value : (q : Option Question) → Right (entry_of mode n q)
   unfolding entry_of
-  asked-value (Pm u row column) = if-sent (ltb u n) (pm_entry u row column (found row column)) (pm-found u row column (found row column) refl)
-  asked-value (Px u c pair row column) = if-sent (ltb u n) (px_entry mode c u pair row column (found_px (state_at mode 0 u) c pair row column)) (px-found u c pair row column)
-  asked-value (Bit u c frame bit) = if-sent (ltb u n) (bit_entry mode c u frame bit) (bit-right c u frame bit)
-  asked-value Wrong = refused-right
+  asked-value (Some (Pm u row column)) = if-sent (ltb u n) (pm_entry u row column (found row column)) (pm-found u row column (found row column) refl)
+  asked-value (Some (Px u c pair row column)) = if-sent (ltb u n) (px_entry mode c u pair row column (found_px (state_at mode 0 u) c pair row column)) (px-found u c pair row column)
+  asked-value (Some (Bit u c frame bit)) = if-sent (ltb u n) (bit_entry mode c u frame bit) (bit-right c u frame bit)
+  asked-value None = refused-right

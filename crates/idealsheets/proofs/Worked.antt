@@ -37,8 +37,9 @@ use Rattle.locating.specs.LocatorPX.{located_px}
 use Rattle.locating.proofs.AgainPM.{both_ways}
 use Rattle.locating.proofs.AgainPX.{both-ways-px}
 use Rattle.sheetlines.specs.Entries.{bit_entry, entry_of, in_pm, pm_entry, pm_placed, px_entry, px_placed}
+use Rattle.std.specs.Prelude.{Option, Some, None}
 use Rattle.sheetlines.specs.declared.questions.Question.{Question}
-use Rattle.sheetlines.specs.declared.questions.Question.TheVariants.{Bit, Pm, Px, Wrong}
+use Rattle.sheetlines.specs.declared.questions.Question.TheVariants.{Bit, Pm, Px}
 use Rattle.sheetlines.specs.declared.entries.CodedBit.{CodedBit}
 use Rattle.sheetlines.specs.declared.entries.Entry.{Entry}
 use Rattle.sheetlines.specs.declared.entries.Entry.TheVariants.{Stands, Fill, Refused}
@@ -225,9 +226,9 @@ module _ (mode : ℕ) (o : older mode ≡ true) (a : SenderRun mode) (t : ℕ) (
   if-sent true e r = r
   if-sent false e r = tt
 
-  pub asked-comes : (n : ℕ) (q : Question) → Comes (entry_of mode n q)
+  pub asked-comes : (n : ℕ) (q : Option Question) → Comes (entry_of mode n q)
   unfolding entry_of
-  asked-comes n (Pm u row column) = if-sent (ltb u n) (pm_entry u row column (found row column)) (pm-found u row column (found row column) refl)
-  asked-comes n (Px u c pair row column) = if-sent (ltb u n) (px_entry mode c u pair row column (found_px (state_at mode 0 u) c pair row column)) (px-found u c pair row column)
-  asked-comes n (Bit u c frame bit) = if-sent (ltb u n) (bit_entry mode c u frame bit) (bit-comes c u frame bit)
-  asked-comes n Wrong = tt
+  asked-comes n (Some (Pm u row column)) = if-sent (ltb u n) (pm_entry u row column (found row column)) (pm-found u row column (found row column) refl)
+  asked-comes n (Some (Px u c pair row column)) = if-sent (ltb u n) (px_entry mode c u pair row column (found_px (state_at mode 0 u) c pair row column)) (px-found u c pair row column)
+  asked-comes n (Some (Bit u c frame bit)) = if-sent (ltb u n) (bit_entry mode c u frame bit) (bit-comes c u frame bit)
+  asked-comes n None = tt

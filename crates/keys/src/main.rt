@@ -75,7 +75,7 @@ fn main(rt: HostRuntime) {
         return;
     }
     match argument_words::summing(&words[..n]) {
-        Summed::Run { mode, count, runs } => run(&rt, mode, count, runs),
-        Summed::Wrong => programs::usage(&rt, line),
+        Some(Summed { mode, count, runs }) => run(&rt, mode, count, runs),
+        None => programs::usage(&rt, line),
     }
 }

@@ -1,7 +1,6 @@
 // nearest BUDGET: reads lines of 200 cells, and prints for each the nearest PIDS frame in hexadecimal, its distance and its margin (document 02, S-12).
 #![tactic(auto)]
 
-use operands::Operand;
 use programs::Streams;
 
 // Reads a line and writes what is printed for it. Answers whether to go on.
@@ -51,7 +50,7 @@ fn main(rt: HostRuntime) {
         return;
     }
     match argument_words::number(&words[..n]) {
-        Operand::Number(budget) => run(&rt, budget as usize),
-        Operand::NotDecimal => programs::usage(&rt, line),
+        Some(budget) => run(&rt, budget as usize),
+        None => programs::usage(&rt, line),
     }
 }
