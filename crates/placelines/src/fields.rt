@@ -31,18 +31,19 @@ fn past_spaces(line: &[u8], k: usize) -> usize
     at
 }
 
-// The number of a word, 256 where it is greater or no number.
-fn value(word: &[u8]) -> usize
+// The number of a word, if it is one that a byte holds.
+fn value(word: &[u8]) -> Option<u8>
     ensures { result ≡ value_of (operand_of word.now) }
 {
-    match decimal(word) {
-        Some(n) => n.min(256) as usize,
-        None => 256,
+    let n = decimal(word)?;
+    if n < 256 {
+        return Some(n as u8);
     }
+    None
 }
 
 // Number k of a line.
-fn number_at(line: &[u8], k: usize) -> usize
+fn number_at(line: &[u8], k: usize) -> Option<u8>
     ensures { result ≡ number_at k line.now }
 {
     let at = past_spaces(line, k);
@@ -56,12 +57,10 @@ fn number_at(line: &[u8], k: usize) -> usize
 pub fn is_read(line: &[u8]) -> bool
     ensures { result ≡ is_read 16 line.now }
 {
-    let mut k: usize = 0;
-    while k < 16 {
-        if number_at(line, k) >= 256 {
+    for k in 0..16 {
+        if number_at(line, k).is_none() {
             return false;
         }
-        k += 1;
     }
     true
 }
@@ -72,10 +71,8 @@ pub fn eight_at(line: &[u8], k: usize) -> [u8; 8]
     ensures { result ≡ eight_at k line.now }
 {
     let mut numbers = [0u8; 8];
-    let mut d: usize = 0;
-    while d < 8 {
-        numbers[d] = number_at(line, k + d) as u8;
-        d += 1;
+    for d in 0..8 {
+        numbers[d] = number_at(line, k + d).unwrap_or(0);
     }
     numbers
 }
