@@ -1,9 +1,8 @@
-use mathlib.Core.Path.{◌≡◌, refl, ap, ◌∙◌}
-use Prim.Native.Nat.{ℕ, ◌-◌, ◌/◌, ◌^◌}
+use mathlib.Core.Path.{refl}
+use Prim.Native.Nat.{◌-◌, ◌/◌, ◌^◌}
 use native.Mathlib.Omega.{arith}
 use lib.Bits.{bit_xor, and_le_r}
 use Rattle.bits.specs.Bits.{number}
-use Rattle.control.specs.Control.{encoded}
 use Rattle.control.proofs.Packing.{encoded-turn, encoded-rows-lt}
 use Rattle.control.proofs.column_of.Goals as goal
 
@@ -33,10 +32,3 @@ loop-row-preserved c =
     let s = c.sequence_of-x in
     let loop = c.loop-row in
     encoded-turn a.mode a.count a.reserved a.column loop.row s.result loop.y (omega arith) s.ensures loop.invariant
-
-pub returns : goal.returns
-returns c =
-    let a = c.args in
-    let e : c.loop-row.row ≡ 32 = omega arith in
-    c.loop-row.invariant
-    ∙ ap (λ (n : ℕ). number n (encoded a.mode a.count a.reserved a.column)) e

@@ -1,5 +1,4 @@
-use mathlib.Core.Path.{◌≡◌, refl, ap, ◌∙◌}
-use Prim.Native.Nat.{ℕ, ◌+◌}
+use mathlib.Core.Path.{refl}
 use native.Mathlib.Omega.{arith}
 use Rattle.bits.specs.Bits.{number}
 use Rattle.bits.proofs.Stores.{number-turn}
@@ -16,9 +15,3 @@ loop-i-preserved c =
     let a = c.args in
     let loop = c.loop-i in
     number-turn (decoded a.block.now) (decoded-lt a.block.now) a.row loop.i loop.x _ (omega arith) loop.invariant c.decoded_at.ensures
-
-pub returns : goal.returns
-returns c =
-    let a = c.args in
-    let e : c.loop-i.i ≡ a.k = omega arith in
-    c.loop-i.invariant ∙ ap (λ (n : ℕ). number n (λ i. decoded a.block.now (a.row + i))) e

@@ -1,18 +1,12 @@
 use mathlib.Core.Path.{refl}
 use native.Mathlib.Omega.{arith}
-use borrow.Author.Rules.{rules}
 use Rattle.bits.specs.Bits.{packed}
-use Rattle.control.proofs.Lent.{part_length, control-more, control-all}
+use Rattle.control.proofs.Lent.{control-more, control-all}
 use Rattle.control.proofs.fill_control.Goals as goal
 
 pub loop-count-init : goal.loop-count-init
 unfolding packed
 loop-count-init c = refl
-
-pub fill_block-requires : goal.fill_block-requires
-fill_block-requires c =
-    let loop = c.loop-count in
-    (search rules, search rules, search rules, part_length loop.count loop.out (omega arith) (omega arith))
 
 pub loop-count-preserved : goal.loop-count-preserved
 loop-count-preserved c =
