@@ -18,12 +18,12 @@ count_of n = n / 8 % 16
 unfoldable pub reserved_of : ℕ → ℕ
 reserved_of n = n % 8
 
--- What a block of these says.
-abbrev pub numbers : ℕ → ℕ → ℕ → BlockNumbers
-numbers mode count reserved = record { mode = mode; count = count; reserved = reserved }
+-- The three numbers that a block says.
+abbrev pub block_numbers : ℕ → ℕ → ℕ → BlockNumbers
+block_numbers mode count reserved = record { mode = mode; count = count; reserved = reserved }
 
 -- The first triple whose block this is.
 unfoldable pub looked_up : List ℕ → Option BlockNumbers
 looked_up block =
     let n : ℕ = lowest triples (λ n. same block (block_of (mode_of n) (count_of n) (reserved_of n))) in
-    cond (ltb n triples) (Some (numbers (mode_of n) (count_of n) (reserved_of n))) None
+    cond (ltb n triples) (Some (block_numbers (mode_of n) (count_of n) (reserved_of n))) None

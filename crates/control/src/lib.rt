@@ -228,25 +228,11 @@ pub fn first_departing(mode: u8, control: &[u8]) -> Option<u8>
 }
 
 // Whether the mode is MP1, MP2, MP3, MP11, MP5 or MP6.
+#[tactic(auto, unfolding(crate::specs::Modes::covered, crate::specs::Modes::one_of, crate::specs::Modes::modes))]
 pub fn is_covered(mode: u8) -> bool
     ensures { result ≡ covered mode }
 {
-    if mode == 1 {
-        return true;
-    }
-    if mode == 2 {
-        return true;
-    }
-    if mode == 3 {
-        return true;
-    }
-    if mode == 11 {
-        return true;
-    }
-    if mode == 5 {
-        return true;
-    }
-    mode == 6
+    matches!(mode, 1 | 2 | 3 | 11 | 5 | 6)
 }
 
 // The mode, count and number of a block, by the fields of its column 0 and one comparison.
