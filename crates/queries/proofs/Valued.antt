@@ -5,7 +5,7 @@ use mathlib.Core.List.{List}
 use Prim.Native.Nat.{ℕ, ◌<◌, ◌≤◌}
 use borrow.Author.Tests.{eq-eqb, ne_eqb}
 use lib.ListN.{length}
-use Rattle.control.specs.declared.Looked.TheVariants.{NotABlock}
+use Rattle.std.specs.Prelude.{None}
 use Rattle.control.specs.Lookup.{looked_up}
 use Rattle.runs.specs.declared.Kind.{Kind}
 use Rattle.runs.specs.declared.State.{State}
@@ -79,6 +79,6 @@ pub of-another-length : (block : List ℕ) → (length block ≡ 256 → ⊥) �
 unfolding lookup_of
 of-another-length block h = rw (ne_eqb (length block) 256 h)
 
-pub of-no-mode-and-count : (block : List ℕ) → length block ≡ 256 → looked_up block ≡ NotABlock → lookup.values (lookup_of block) ≡ no_block 4 0
+pub of-no-mode-and-count : (block : List ℕ) → length block ≡ 256 → looked_up block ≡ None → lookup.values (lookup_of block) ≡ no_block 4 0
 unfolding lookup_of
 of-no-mode-and-count block l e = rw (eq-eqb (length block) 256 l, e)

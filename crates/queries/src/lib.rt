@@ -6,7 +6,7 @@ mod finder;
 mod finder_px;
 mod places;
 
-pub use blocks::{LookedUp, LookedUpFrame, lookup, lookup_frame};
+pub use blocks::{BlockNumbers, FrameNumbers, lookup, lookup_frame};
 pub use finder::{Found, find, find_by};
 pub use finder_px::{FoundPx, columns, find_px, kind_of_number};
 pub use places::{Placed, place_of};
