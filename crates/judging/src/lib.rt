@@ -209,8 +209,7 @@ pub fn judge_signal(
     ensures scrambled_after { number_of result ≡ 0 → (scrambled.new ≡ p1_of (main_of state.mode) pm.now) × (p2.new ≡ p2_of (main_of state.mode) pm.now) × (pids.new ≡ pids_of pm.now) }
     ensures recovered { number_of result ≡ 0 → 2 ≤ state.age → Recovered state (after state memory3.now memory4.now px1.now px2.now) p3.new p4.new }
 {
-    let block = control::first_departing(state.mode, control);
-    if block < 16 {
+    if let Some(block) = control::first_departing(state.mode, control) {
         return Answer::WrongControl(block as usize);
     }
     let answer = judge_pm(state, pm, px2, delay, scrambled, p2, pids);
