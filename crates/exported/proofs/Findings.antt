@@ -11,10 +11,10 @@ use Rattle.interleaving.specs.FinderPM.{source}
 use Rattle.interleaving.specs.Source.{Source, Either, first, second}
 use Rattle.interleaving.specs.Matrix.{Inside, position_at}
 use Rattle.interleaving.proofs.PositionsPM.{positions-pm}
-use Rattle.control.specs.declared.Looked.{Looked}
-use Rattle.control.specs.declared.Looked.TheVariants.{Found, NotABlock}
+use Rattle.std.specs.Prelude.{Option, Some, None, Err}
+use Rattle.control.specs.declared.BlockNumbers.{BlockNumbers}
 use Rattle.control.specs.Lookup.{looked_up}
-use Rattle.blockset.specs.declared.LookedFrame.TheVariants.{Faulty, Unfit}
+use Rattle.blockset.specs.declared.SetFault.TheVariants.{Faulty, Unfit}
 use Rattle.blockset.specs.LookupFrame.{says, named, faulty, unfit, looked_up_frame}
 use Rattle.bits.specs.Tests.{lowest}
 use Rattle.bits.proofs.Tests.{lowest-up-to}
@@ -31,8 +31,6 @@ use Rattle.queries.specs.declared.finder_px.FoundPx.TheVariants.{Coded, Fill, Re
 use Rattle.queries.specs.FinderPX.{columns_of, cell_of, frame_coded, kind_of_number, found_px, told as told_px, values as values_px}
 use Rattle.interleaving.specs.PX.{coded_bits, coded_bytes}
 use native.Mathlib.Nat.{div-lt_iff_lt-mul, mod-lt}
-use Rattle.queries.specs.declared.blocks.LookedUp.TheVariants.{Refused as not_looked_up}
-use Rattle.queries.specs.declared.blocks.LookedUpFrame.TheVariants.{Refused as no_frame}
 use Rattle.queries.specs.Finder.{found, told, values}
 use Rattle.queries.specs.Lookup.{lookup_of, values as values_of_block, told as told_of_block}
 use Rattle.queries.specs.LookupFrame.{lookup_frame_of, values as values_of_frame, told as told_of_frame}
@@ -125,21 +123,21 @@ found_px-small s channel pair row column =
 
 -- ---- control blocks
 
-told-place : (looked : Looked) → (values_of_block (told_of_block looked)).place ≡ 0
-told-place (Found mode count reserved) = refl
-told-place NotABlock = refl
+told-place : (looked : Option BlockNumbers) → (values_of_block (told_of_block looked)).place ≡ 0
+told-place (Some block) = refl
+told-place None = refl
 
 pub lookup-place : (block : List ℕ) → (values_of_block (lookup_of block)).place < 2 ^ 8
 unfolding lookup_of
 lookup-place block = go (eqb (length block) 256)
   where
-    go : (t : Bool) → (values_of_block (cond t (told_of_block (looked_up block)) (not_looked_up (WrongLength 0)))).place < 2 ^ 8
+    go : (t : Bool) → (values_of_block (cond t (told_of_block (looked_up block)) (Err (WrongLength 0)))).place < 2 ^ 8
     go true = omega (arith, told-place (looked_up block))
     go false = omega arith
 
-named-place : (looked : Looked) → (values_of_frame (told_of_frame (named looked))).place ≡ 0
-named-place (Found mode count reserved) = refl
-named-place NotABlock = refl
+named-place : (looked : Option BlockNumbers) → (values_of_frame (told_of_frame (named looked))).place ≡ 0
+named-place (Some block) = refl
+named-place None = refl
 
 pub lookup-frame-place : (control : List ℕ) → (values_of_frame (lookup_frame_of control)).place < 2 ^ 8
 unfolding lookup_frame_of looked_up_frame
@@ -152,7 +150,7 @@ lookup-frame-place control = go (eqb (length control) 4096) (ltb bad 16) (ltb od
     odd = lowest 16 (unfit control)
 
     go : (t b o : Bool)
-        → (values_of_frame (cond t (told_of_frame (cond b (Faulty bad) (cond o (Unfit odd) (named (says control 0))))) (no_frame (WrongLength 0)))).place < 2 ^ 8
+        → (values_of_frame (cond t (told_of_frame (cond b (Err (Faulty bad)) (cond o (Err (Unfit odd)) (named (says control 0))))) (Err (WrongLength 0)))).place < 2 ^ 8
     go false b o = omega arith
     go true true o = omega (arith, lowest-up-to 16 (faulty control))
     go true false true = omega (arith, lowest-up-to 16 (unfit control))

@@ -17,7 +17,7 @@ use causes::{number, place};
 use decoding::Decoded;
 use dumps::Verdict;
 use locating::{Located, LocatedPx};
-use queries::{Found, FoundPx, LookedUp, LookedUpFrame, Placed};
+use queries::{BlockNumbers, Found, FoundPx, FrameNumbers, Placed};
 use runs::{Answer, State};
 
 // The word of an answer alone, and so of any refusal.
@@ -125,30 +125,28 @@ pub fn located_px_word(cell: LocatedPx) -> u64
 }
 
 // The word of a lookup.
-pub fn looked_up_word(said: LookedUp) -> u64
+pub fn looked_up_word(said: Result<BlockNumbers, Answer>) -> u64
     requires { (values_of_block said).place < 2 ^ 8 }
     ensures { result ≡ looked_up_word (values_of_block said) }
 {
     match said {
-        LookedUp::Found {
-            mode,
-            count,
-            reserved,
-        } => { 256 * (mode as u64) + 65536 * (count as u64) + 16777216 * (reserved as u64) }
-        LookedUp::Refused { answer } => answer_word(answer),
+        Ok(block) => {
+            256 * (block.mode as u64)
+                + 65536 * (block.count as u64)
+                + 16777216 * (block.reserved as u64)
+        }
+        Err(answer) => answer_word(answer),
     }
 }
 
 // The word of a lookup of an L1 frame's control.
-pub fn looked_up_frame_word(said: LookedUpFrame) -> u64
+pub fn looked_up_frame_word(said: Result<FrameNumbers, Answer>) -> u64
     requires { (values_of_frame said).place < 2 ^ 8 }
     ensures { result ≡ looked_up_frame_word (values_of_frame said) }
 {
     match said {
-        LookedUpFrame::Found { mode, reserved } => {
-            256 * (mode as u64) + 16777216 * (reserved as u64)
-        }
-        LookedUpFrame::Refused { answer } => answer_word(answer),
+        Ok(frame) => { 256 * (frame.mode as u64) + 16777216 * (frame.reserved as u64) }
+        Err(answer) => answer_word(answer),
     }
 }
 
