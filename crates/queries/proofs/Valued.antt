@@ -5,6 +5,7 @@ use mathlib.Core.List.{List}
 use Prim.Native.Nat.{ℕ, ◌<◌, ◌≤◌}
 use borrow.Author.Tests.{eq-eqb, ne_eqb}
 use lib.ListN.{length}
+use Rattle.std.specs.Prelude.{Result, Ok}
 use Rattle.control.specs.declared.Looked.TheVariants.{NotABlock}
 use Rattle.control.specs.Lookup.{looked_up}
 use Rattle.runs.specs.declared.Kind.{Kind}
@@ -24,6 +25,10 @@ use Rattle.queries.proofs.CasesPX.{state-refused, channel-refused, pair-refused,
 -- equal answers have equal values
 pub valued : {A B : Type 0} (values : A → B) {a b : A} → a ≡ b → (a ≡ b) × (values a ≡ values b)
 valued values e = (e, ap values e)
+
+-- what two equal successes hold is equal
+pub ok-is : {T E : Type 0} {a b : T} → ◌≡◌ {A = Result T E} (Ok a) (Ok b) → a ≡ b
+ok-is e = cc
 
 -- refused with this number and place, the finder gives no channel and zeros
 abbrev no_cell : (number place : ℕ) → finder.Values
