@@ -7,6 +7,7 @@ use native.Mathlib.Decide.{dec_lt}
 use native.Mathlib.Omega.{arith}
 use lib.Dec.{eqb, ltb}
 use lib.ListN.{length}
+use Rattle.std.specs.Prelude.{Ok, Err}
 use Rattle.interleaving.specs.FinderPM.{source}
 use Rattle.interleaving.specs.Source.{Source, Either, first, second}
 use Rattle.interleaving.specs.Matrix.{Inside, position_at}
@@ -27,7 +28,7 @@ use Rattle.runs.specs.declared.State.{State}
 use Rattle.runs.specs.Answers.{place_of}
 use Rattle.runs.specs.Lengths.{table_row}
 use Rattle.runs.specs.Starting.{valid}
-use Rattle.queries.specs.declared.finder_px.FoundPx.TheVariants.{Coded, Fill, Refused as RefusedPX}
+use Rattle.queries.specs.declared.finder_px.FoundPx.TheVariants.{Coded, Fill}
 use Rattle.queries.specs.FinderPX.{columns_of, cell_of, frame_coded, kind_of_number, found_px, told as told_px, values as values_px}
 use Rattle.interleaving.specs.PX.{coded_bits, coded_bytes}
 use native.Mathlib.Nat.{div-lt_iff_lt-mul, mod-lt}
@@ -41,7 +42,7 @@ use Rattle.queries.specs.Places as Places
 use Rattle.words.proofs.Fields.{Small, SmallPlace, SmallPX}
 use Rattle.queries.proofs.Placing.{row_out, column-out, within, found-row-out, found-column-out, found_within}
 
-told-small : (s : Source) → Either 365440 3200 s → Small (values (told s))
+told-small : (s : Source) → Either 365440 3200 s → Small (values (Ok (told s)))
 told-small (first i) h = (omega arith, omega arith, omega arith)
 told-small (second i) h = (omega arith, omega arith, omega arith)
 
@@ -76,10 +77,10 @@ placed-small row column =
 
 -- ---- PX1 and PX2
 
-refused-small : (a : Answer) → place_of a < 2 ^ 8 → SmallPX (values_px (RefusedPX a))
+refused-small : (a : Answer) → place_of a < 2 ^ 8 → SmallPX (values_px (Err a))
 refused-small a h = (h, omega arith, omega arith, omega arith)
 
-coded-small : (t : Bool) (n f b : ℕ) → n ≤ 2 → f < 8 → b < 9216 → SmallPX (values_px (cond t Fill (Coded n f b)))
+coded-small : (t : Bool) (n f b : ℕ) → n ≤ 2 → f < 8 → b < 9216 → SmallPX (values_px (Ok (cond t Fill (Coded n f b))))
 coded-small true n f b ln lf lb = (omega arith, omega arith, omega arith, omega arith)
 coded-small false n f b ln lf lb = (omega arith, omega arith, omega arith, omega arith)
 
@@ -90,7 +91,7 @@ eight Unused e = absurd (true≢false e)
 eight Narrow e = (refl, omega arith, omega arith)
 eight Wide e = (refl, omega arith, omega arith)
 
-told_px-small : (k : Kind) (half age cell : ℕ) → eqb (columns_of k) 0 ≡ false → SmallPX (values_px (told_px k half age cell))
+told_px-small : (k : Kind) (half age cell : ℕ) → eqb (columns_of k) 0 ≡ false → SmallPX (values_px (Ok (told_px k half age cell)))
 unfolding told_px
 told_px-small k half age cell e =
     let (all, some, most) = eight k e in
@@ -109,13 +110,13 @@ found_px-small s channel pair row column =
     go : (k : Kind) (v z : Bool) → eqb (columns_of k) 0 ≡ z → (p r c : Bool)
         → SmallPX (values_px (
         cond v
-        (cond z (RefusedPX (WrongLength 0))
+        (cond z (Err (WrongLength 0))
         (cond p
         (cond r
-        (cond c (told_px k s.half s.age (cell_of k pair row column)) (RefusedPX (WrongLength 3)))
-        (RefusedPX (WrongLength 2)))
-        (RefusedPX (WrongLength 1))))
-        (RefusedPX StateNotValid)))
+        (cond c (Ok (told_px k s.half s.age (cell_of k pair row column))) (Err (WrongLength 3)))
+        (Err (WrongLength 2)))
+        (Err (WrongLength 1))))
+        (Err StateNotValid)))
     go k false z e p r c = refused-small StateNotValid (omega arith)
     go k true true e p r c = refused-small (WrongLength 0) (omega arith)
     go k true false e false r c = refused-small (WrongLength 1) (omega arith)
