@@ -31,11 +31,13 @@ fn found_px_in_word(cell: Result<FoundPxIn, Answer>) -> u64
     ensures { result ≡ found_px_in_word (values_px cell) }
 {
     match cell {
-        Ok(FoundPxIn::Coded {
-            earlier,
-            frame,
-            bit,
-        }) => {
+        Ok(
+            FoundPxIn::Coded {
+                earlier,
+                frame,
+                bit,
+            },
+        ) => {
             let low = 256 + 65536 * (frame as u64) + 16777216 * (earlier as u64);
             low + 1099511627776 * (bit as u64)
         }

@@ -6,7 +6,7 @@ use native.Mathlib.Omega.{arith}
 use borrow.Author.Tests.{eq-eqb, ne_eqb, lt-ltb, le-ltb}
 use Rattle.std.specs.Prelude.{Ok, Err}
 use Rattle.interleaving.specs.declared.Position.{Position}
-use Rattle.interleaving.specs.Matrix.{matrix_row, matrix_column, cell_of}
+use Rattle.interleaving.specs.Matrix.{cell_of}
 use Rattle.interleaving.specs.PM.{p1_position, pids_position, p1_place, pids_place}
 use Rattle.runs.specs.declared.Answer.TheVariants.{WrongLength}
 use Rattle.queries.proofs.Valued.{ok-is}

@@ -10,17 +10,17 @@ fn find(rt: &impl Streams, row: usize, column: usize) {
     text(rt, b" ");
     count(rt, column);
     match layer1::find(row, column) {
-        Found::P1 { bit } => {
+        Ok(Found::P1 { bit }) => {
             text(rt, b": P1 0 ");
             count(rt, bit);
         }
-        Found::Pids { frame, bit } => {
+        Ok(Found::Pids { frame, bit }) => {
             text(rt, b": PIDS ");
             count(rt, frame);
             text(rt, b" ");
             count(rt, bit);
         }
-        Found::Refused { answer } => told(rt, answer),
+        Err(answer) => told(rt, answer),
     }
     text(rt, b"\n");
 }

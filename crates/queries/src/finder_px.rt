@@ -83,7 +83,13 @@ fn content(kind: Kind, half: usize, age: usize, y: usize, column: usize) -> Foun
 }
 
 // Finds how many L1 frames earlier the coded bit was sent that stands in a cell of PX1 (channel 3) or PX2 (channel 4) of the L1 frame that comes next, and its transfer frame and coded bit in it.
-pub fn find_px(state: State, channel: u8, pair: usize, row: usize, column: usize) -> Result<FoundPx, Answer>
+pub fn find_px(
+    state: State,
+    channel: u8,
+    pair: usize,
+    row: usize,
+    column: usize,
+) -> Result<FoundPx, Answer>
     ensures { (result ≡ found_px state channel pair row column) × (values result ≡ values (found_px state channel pair row column)) }
 {
     if !calls::is_valid(state) {

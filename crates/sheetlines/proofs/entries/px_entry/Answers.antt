@@ -1,5 +1,5 @@
 -- `px_entry` meets its contract: the match is the definition's, and a cell in which a bit is found is one of the matrix. Assumes nothing.
-use mathlib.Core.Path.{ap, sym, ◌∙◌}
+use mathlib.Core.Path.{ap, ◌∙◌}
 use native.Mathlib.Omega.{arith}
 use Rattle.std.specs.Prelude.{Ok}
 use Rattle.sheetlines.proofs.Ranges.{found_as, px-in-range}
