@@ -1,6 +1,6 @@
 -- `trellis::store` meets its contract. The loop's invariant: r scores are stored, and those after later steps stand. Assumes nothing.
 use mathlib.Core.Path.{◌≡◌}
-use Prim.Native.Nat.{ℕ, ◌+◌, ◌<◌, ◌≤◌, ◌-◌}
+use Prim.Native.Nat.{ℕ, ◌+◌, ◌<◌, ◌≤◌}
 use lib.ListN.{length, get_or}
 use Rattle.trellis.proofs.store.Given as goal
 
