@@ -1,7 +1,7 @@
 // Document 02, S-4: eight sources share the sixteen PIDS places of an L1 frame.
 #![tactic(auto)]
 
-ghost use Rattle.std.specs.Prelude.{◌≡◌, List, ℕ, ◌+◌, ◌<◌, ◌≤◌, min, length};
+ghost use Rattle.std.specs.Prelude.{◌≡◌, List, ℕ, ◌+◌, ◌<◌, ◌≤◌, length};
 ghost use Rattle.allocation.specs.Allocation.{granted, first, outcome, shared, smaller, total, turn};
 ghost use Rattle.allocation.specs.Owners.{owner_of};
 ghost use Rattle.bits.specs.Listed.{listed};

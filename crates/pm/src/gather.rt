@@ -94,7 +94,7 @@ fn column_words(spreads: &[u64; 16], nibbles: &[u8; 2880], x: usize, words: &mut
     }
 }
 
-// The byte i of a word of four.
+// The byte i of a word of four. `transposing::byte_of` is of a word of eight: one for both would take the width, and say no less in its place.
 fn byte_in(w: u32, i: usize) -> u8
     requires { i < 4 }
     ensures { (f : ℕ → ℕ) → ((u : ℕ) → u < 4 → f u < 256) → w ≡ quad f → result ≡ f i }
