@@ -23,11 +23,11 @@ fn is_short(text: &[u8], most: usize) -> bool
     if text.len() > most {
         return false;
     }
-    for i in 0..text.len() {
-        if text[i] < b'0' {
+    for b in text {
+        if *b < b'0' {
             return false;
         }
-        if text[i] > b'9' {
+        if *b > b'9' {
             return false;
         }
     }
@@ -40,8 +40,8 @@ fn worth(text: &[u8]) -> u64
     ensures { result ≡ value text.now }
 {
     let mut n: u64 = 0;
-    for i in 0..text.len() {
-        n = 10 * n + (text[i] - 48) as u64;
+    for b in text {
+        n = 10 * n + (*b - b'0') as u64;
     }
     n
 }
