@@ -170,9 +170,7 @@ fn store(scores: &[u16; 64], j: usize, kept: &mut [u16])
     ensures { Stored scores.now kept.old kept.new j }
 {
     let at = 64 * j;
-    for r in 0..64 {
-        kept[at + r] = scores[r];
-    }
+    kept[at..at + 64].copy_from_slice(scores);
 }
 
 // The scores before the first step, from those after the last; those after each step are kept. `scored` keeps none, and so takes no room for 5120 of them.
