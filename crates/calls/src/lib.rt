@@ -2,9 +2,11 @@
 #![tactic(auto)]
 
 mod admission;
+mod buffers;
 mod starting;
 mod states;
 
 pub use admission::admit;
+pub use buffers::{Frames, FramesMut, Memory, Signal, SignalMut};
 pub use starting::{start_reader, start_sender};
 pub use states::{Outcome, ReadOutcome, is_valid, next_of};
