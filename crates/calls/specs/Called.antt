@@ -1,5 +1,6 @@
 -- What the contracts of the calls of a run compare: the definitions' records from the arguments of a call.
-use Rattle.std.specs.Prelude.{List, ℕ, ◌≡◌}
+use Rattle.std.specs.Prelude.{List, ℕ, ◌≡◌, length}
+use Rattle.std.specs.Borrow.{MutBor}
 use Rattle.runs.specs.Lent.{Frames, Lent, Matrices, Memory, Result, Signal}
 use Rattle.runs.specs.Starting.{Started}
 use Rattle.calls.specs.declared.buffers.Frames.{Frames as FramesRefs}
@@ -57,21 +58,34 @@ signal_behind_mut g = signal g.pm.now g.px1.now g.px2.now g.control.now
 abbrev pub memory_behind : MemoryMut → Memory
 memory_behind m = memory m.for3.now m.for4.now m.delayed.now
 
--- the references of two such structs are the same ones: so a caller knows that what was written through them is in its own buffers
+-- what is lent to a sending, and to a reading
+abbrev pub lent_to_send : ℕ → FramesRefs → SignalMut → Lent
+lent_to_send reserved f g = record { frames = frames_behind reserved f; signal = signal_behind_mut g }
+
+abbrev pub lent_to_read : ℕ → FramesMut → SignalRefs → Lent
+lent_to_read reserved f g = record { frames = frames_behind_mut reserved f; signal = signal_behind g }
+
+-- ---- a struct of references keeps them: so a caller knows that what was written through them is in its own buffers
+
+-- a reference to the same buffer as before, which is as long as it was
+pub record SameBuffer (before after : MutBor Buffer) : Type 0 where
+  pub name : after.ghost_name ≡ before.ghost_name
+  pub len : length after.now ≡ length before.now
+
 pub record SameFrames (a b : FramesMut) : Type 0 where
-  pub p1 : a.p1.ghost_name ≡ b.p1.ghost_name
-  pub pids : a.pids.ghost_name ≡ b.pids.ghost_name
-  pub p2 : a.p2.ghost_name ≡ b.p2.ghost_name
-  pub p3 : a.p3.ghost_name ≡ b.p3.ghost_name
-  pub p4 : a.p4.ghost_name ≡ b.p4.ghost_name
+  pub p1 : SameBuffer a.p1 b.p1
+  pub pids : SameBuffer a.pids b.pids
+  pub p2 : SameBuffer a.p2 b.p2
+  pub p3 : SameBuffer a.p3 b.p3
+  pub p4 : SameBuffer a.p4 b.p4
 
 pub record SameSignal (a b : SignalMut) : Type 0 where
-  pub pm : a.pm.ghost_name ≡ b.pm.ghost_name
-  pub px1 : a.px1.ghost_name ≡ b.px1.ghost_name
-  pub px2 : a.px2.ghost_name ≡ b.px2.ghost_name
-  pub control : a.control.ghost_name ≡ b.control.ghost_name
+  pub pm : SameBuffer a.pm b.pm
+  pub px1 : SameBuffer a.px1 b.px1
+  pub px2 : SameBuffer a.px2 b.px2
+  pub control : SameBuffer a.control b.control
 
 pub record SameMemory (a b : MemoryMut) : Type 0 where
-  pub for3 : a.for3.ghost_name ≡ b.for3.ghost_name
-  pub for4 : a.for4.ghost_name ≡ b.for4.ghost_name
-  pub delayed : a.delayed.ghost_name ≡ b.delayed.ghost_name
+  pub for3 : SameBuffer a.for3 b.for3
+  pub for4 : SameBuffer a.for4 b.for4
+  pub delayed : SameBuffer a.delayed b.delayed
