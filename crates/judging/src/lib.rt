@@ -133,7 +133,7 @@ fn judge_frames(state: State, signal: &Signal, memory: &Memory, own: &mut Frames
     ensures value { result ≡ frames_answer state (after state (memory_behind memory.now) (signal_behind signal.now).matrices) }
     ensures recovered { number_of result ≡ 0 → Recovered state (after state (memory_behind memory.now) (signal_behind signal.now).matrices) (frames_behind_mut 0 own.new) }
     ensures same { SameFrames own.old own.new }
-    ensures others { (own.new.p1 ≡ own.old.p1) × (own.new.pids ≡ own.old.pids) × (own.new.p2 ≡ own.old.p2) }
+    ensures others { (own.new.p1.now ≡ own.old.p1.now) × (own.new.pids.now ≡ own.old.pids.now) × (own.new.p2.now ≡ own.old.p2.now) }
 {
     let half = state.half;
     let kind3 = kind_of(state.mode, Extended::P3);
@@ -154,7 +154,7 @@ fn judge_px(state: State, signal: &Signal, memory: &Memory, own: &mut FramesMut)
     ensures value { result ≡ px_answer state (memory_behind memory.now) (signal_behind signal.now).matrices }
     ensures recovered { number_of result ≡ 0 → 2 ≤ state.age → Recovered state (after state (memory_behind memory.now) (signal_behind signal.now).matrices) (frames_behind_mut 0 own.new) }
     ensures same { SameFrames own.old own.new }
-    ensures others { (own.new.p1 ≡ own.old.p1) × (own.new.pids ≡ own.old.pids) × (own.new.p2 ≡ own.old.p2) }
+    ensures others { (own.new.p1.now ≡ own.old.p1.now) × (own.new.pids.now ≡ own.old.pids.now) × (own.new.p2.now ≡ own.old.p2.now) }
 {
     let answer = judge_fill(state, signal);
     if number(answer) != 0 {

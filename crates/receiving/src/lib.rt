@@ -36,7 +36,7 @@ fn return_p1(main: Main, age: u8, memory: &Memory, own: &FramesMut, p1: &mut [u8
 // Hands out the other frames that were judged: PIDS and P2, and P3 and P4, which the first two L1 frames do not give.
 fn hand_out(age: u8, own: &FramesMut, frames: &mut FramesMut)
     requires { SameLengths (frames_behind_mut 0 own.now) (frames_behind_mut 0 frames.old) }
-    ensures p1_after { frames.new.p1 ≡ frames.old.p1 }
+    ensures p1_after { frames.new.p1.now ≡ frames.old.p1.now }
     ensures pids_after { (frames.new.pids.now ≡ own.now.pids.now) × (frames.new.p2.now ≡ own.now.p2.now) }
     ensures p3_after { (frames.new.p3.now ≡ cond (ltb age 2) frames.old.p3.now own.now.p3.now) × (frames.new.p4.now ≡ cond (ltb age 2) frames.old.p4.now own.now.p4.now) }
     ensures same { SameFrames frames.old frames.new }

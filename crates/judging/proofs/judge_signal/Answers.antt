@@ -1,9 +1,8 @@
 -- `judge_signal` meets its contract: one stage after the other. Assumes nothing.
-use mathlib.Core.Path.{◌≡◌, sym, ap, ◌∙◌}
+use mathlib.Core.Path.{◌≡◌, sym, ◌∙◌}
 use native.Mathlib.Omega.{arith}
-use Rattle.std.specs.Borrow.{MutBor}
 use Rattle.runs.specs.Answers.{number_of}
-use Rattle.calls.specs.Called.{Buffer, memory_behind, signal_behind}
+use Rattle.calls.specs.Called.{memory_behind, signal_behind}
 use Rattle.judging.proofs.Staged.{control-refused, control-right, at-control, at-pm, at-px}
 use Rattle.judging.proofs.judge_signal.Goals as goal
 
@@ -28,9 +27,6 @@ returns-then-number-ne0 c =
       same = c.judge_pm-answer.ensures.same;
     }
 
-abbrev now : MutBor Buffer → Buffer
-now r = r.now
-
 pub returns : goal.returns
 returns c =
     let a = c.args in
@@ -40,7 +36,7 @@ returns c =
       brought = λ z.
           let o = c.judge_px.ensures.others in
           let b = c.judge_pm-answer.ensures.brought zero in
-          record { p1-is = ap now o.0 ∙ b.p1-is; pids-is = ap now o.1 ∙ b.pids-is; p2-is = ap now o.2 ∙ b.p2-is };
+          record { p1-is = o.0 ∙ b.p1-is; pids-is = o.1 ∙ b.pids-is; p2-is = o.2 ∙ b.p2-is };
       recovered = c.judge_px.ensures.recovered;
       same = search;
     }

@@ -1,10 +1,9 @@
 -- `receive` meets its contract: a refusal leaves everything, and a success leaves what the parts of the work ensure. Assumes nothing.
 use mathlib.Core.Path.{sym, ap, ◌∙◌}
 use native.Mathlib.Omega.{arith}
-use Rattle.std.specs.Borrow.{MutBor}
 use Rattle.runs.specs.MainChannels.{delay_len, p1_len}
 use Rattle.runs.specs.Lent.{Lent, Memory}
-use Rattle.calls.specs.Called.{Buffer, frames_behind_mut, lent_to_read, memory_behind}
+use Rattle.calls.specs.Called.{frames_behind_mut, lent_to_read, memory_behind}
 use Rattle.receiving.proofs.Leaves.{handed_out, kept}
 use Rattle.receiving.proofs.receive.Goals as goal
 use Rattle.receiving.proofs.receive.Goals.{Start}
@@ -15,9 +14,6 @@ lent_at s = lent_to_read 0 s.args.frames.now s.args.signal.now
 
 abbrev memory_at : Start → Memory
 memory_at s = memory_behind s.args.memory.now
-
-abbrev now : MutBor Buffer → Buffer
-now r = r.now
 
 pub number_in-reserved-requires : goal.number_in-reserved-requires
 number_in-reserved-requires c = let f = c.requires.0 in (f.mode-lt, f.control)
@@ -60,6 +56,6 @@ returns c =
     record {
       received = handed_out c.args.state (memory_at (goal.at.returns c).Start) (lent_at (goal.at.returns c).Start) _ c.judge_signal-answer.ensures.value zero _ _ _
           (frames_behind_mut 0 c.judge_signal-answer.new.own) (frames_behind_mut 0 c.hand_out.new.frames) (memory_behind c.keep.new.memory) c.next_of-next.ensures c.number_in-reserved.ensures.0 c.main_of.ensures (c.judge_signal-answer.ensures.brought zero)
-          (ap now h.p1_after ∙ c.return_p1.ensures) h.pids_after (c.judge_signal-answer.ensures.recovered zero) h.p3_after c.keep.ensures.kept;
+          (h.p1_after ∙ c.return_p1.ensures) h.pids_after (c.judge_signal-answer.ensures.recovered zero) h.p3_after c.keep.ensures.kept;
       same = (record { p1 = record { name = h.same.p1.name; len = h.same.p1.len ∙ c.return_p1.auto.p1 }; pids = h.same.pids; p2 = h.same.p2; p3 = h.same.p3; p4 = h.same.p4 }, c.keep.ensures.same, c.judge_signal-answer.ensures.same);
     }
