@@ -1,12 +1,12 @@
 // Documents 01 and 02, causes 4 to 8 of a reading: an L1 frame is judged, and its transfer frames are recovered.
 #![tactic(auto)]
 
-ghost use Rattle.std.specs.Prelude.{◌≡◌, ◌+◌, ◌≤◌, ◌<◌, length, drop};
+ghost use Rattle.std.specs.Prelude.{◌≡◌, ◌+◌, ◌≤◌, ◌<◌, length};
 ghost use Rattle.bits.specs.Tests.{lowest};
 ghost use Rattle.runs.specs.declared.Extended.TheVariants.{P3, P4};
 ghost use Rattle.runs.specs.Answers.{number_of};
-ghost use Rattle.runs.specs.MainChannels.{main_of, delay_len, p1_frames, p1_len, p2_len};
-ghost use Rattle.runs.specs.Chain.{Buffer, frame_bad, frames_of, p1_of, p2_of, pids_of};
+ghost use Rattle.runs.specs.MainChannels.{main_of, delay_len, p1_frames};
+ghost use Rattle.runs.specs.Chain.{Buffer, frame_bad, frames_of, p1_of, p2_of};
 ghost use Rattle.runs.specs.Paths.{oldest};
 ghost use Rattle.runs.specs.Lengths.{kind_of, frame_len, matrix_len, px2_len, reader_len};
 ghost use Rattle.runs.specs.Judged.{counted_first, main_bad};
