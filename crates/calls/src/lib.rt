@@ -1,4 +1,4 @@
-// Document 01, "Operations of a run": states, what every call looks at first, and the starts.
+// Document 01, "Operations of a run": states, what every call looks at first, the buffers that it is lent, and the starts.
 #![tactic(auto)]
 
 mod admission;

@@ -1,7 +1,5 @@
 -- `receive` meets its contract: a refusal leaves everything, and a success leaves what the parts of the work ensure. Assumes nothing.
-use mathlib.Core.Path.{sym, ap, ◌∙◌}
-use native.Mathlib.Omega.{arith}
-use Rattle.runs.specs.MainChannels.{delay_len, p1_len}
+use mathlib.Core.Path.{sym, ◌∙◌}
 use Rattle.runs.specs.Lent.{Lent, Memory}
 use Rattle.calls.specs.Called.{frames_behind_mut, lent_to_read, memory_behind}
 use Rattle.receiving.proofs.Leaves.{handed_out, kept}
@@ -15,39 +13,12 @@ lent_at s = lent_to_read 0 s.args.frames.now s.args.signal.now
 abbrev memory_at : Start → Memory
 memory_at s = memory_behind s.args.memory.now
 
-pub number_in-reserved-requires : goal.number_in-reserved-requires
-number_in-reserved-requires c = let f = c.requires.0 in (f.mode-lt, f.control)
-
 pub returns-then-number-ne0 : goal.returns-then-number-ne0
 returns-then-number-ne0 c =
     record {
       received = kept c.args.state (memory_at (goal.at.returns-then-number-ne0 c).Start) (lent_at (goal.at.returns-then-number-ne0 c).Start) _ c.judge_signal-answer.ensures.value (λ z. c.if-number-ne0.true (c.number.ensures ∙ z));
       same = search;
     }
-
-pub return_p1-requires : goal.return_p1-requires
-return_p1-requires c =
-    let k = sym c.main_of.ensures in
-    let f = c.requires.0 in
-    let g = c.requires.1 in
-    (f.delay ∙ ap delay_len k, c.judge_signal-answer.ensures.same.p1.len ∙ g.p1 ∙ ap p1_len k, f.p1 ∙ ap p1_len k)
-
-pub hand_out-requires : goal.hand_out-requires
-hand_out-requires c =
-    let f = c.requires.0 in
-    let g = c.requires.1 in
-    let o = c.judge_signal-answer.ensures.same in
-    record {
-      pids = o.pids.len ∙ g.pids ∙ sym f.pids;
-      p2 = o.p2.len ∙ g.p2 ∙ sym f.p2;
-      p3 = o.p3.len ∙ g.p3 ∙ sym f.p3;
-      p4 = o.p4.len ∙ g.p4 ∙ sym f.p4;
-    }
-
-pub keep-requires : goal.keep-requires
-keep-requires c =
-    let f = c.requires.0 in
-    (omega (arith, f.px1, f.memory3), f.px2, omega (arith, f.memory4), c.judge_signal-answer.ensures.same.p1.len ∙ c.requires.1.p1, f.delay)
 
 pub returns : goal.returns
 returns c =
