@@ -1,5 +1,5 @@
 -- `fill_cell` meets its contract: PX1, the cells of P4 in PX2, and those of P1'. Assumes nothing.
-use mathlib.Core.Path.{◌≡◌, sym, ap, ◌∙◌}
+use mathlib.Core.Path.{◌≡◌, ap, ◌∙◌}
 use Prim.Native.Nat.{ℕ, ◌*◌, ◌≤◌}
 use native.Mathlib.Omega.{arith}
 use lib.ListN.{length}
@@ -9,35 +9,12 @@ use Rattle.recover.specs.Rooms.{past}
 use Rattle.runs.proofs.Bounds.{matrix-le, second-le}
 use Rattle.recover.proofs.Mains.{lowest-is-le}
 use Rattle.calls.specs.Called.{signal_behind}
-use Rattle.judging.proofs.Staged.{cut-le, filled, fourth-long, past-le, second_is, second-long}
+use Rattle.judging.proofs.Staged.{filled, past-le, second_is, second-long}
 use Rattle.judging.proofs.fill_cell.Goals as goal
-
-pub first_fill-cell3-requires : goal.first_fill-cell3-requires
-first_fill-cell3-requires c = c.requires.0 ∙ ap matrix_len (sym c.kind_of-kind3.ensures)
-
-pub slice_bounds-first_fill-end : goal.slice_bounds-first_fill-end
-slice_bounds-first_fill-end c =
-    sym (fourth-long c.args.state c.args.signal.now.px2.now c.requires.1 c.kind_of-kind4.ensures c.matrix_len-n.ensures.0)
-
-pub first_fill-cell4-requires : goal.first_fill-cell4-requires
-first_fill-cell4-requires c =
-    fourth-long c.args.state c.args.signal.now.px2.now c.requires.1 c.kind_of-kind4.ensures c.matrix_len-n.ensures.0 ∙ c.matrix_len-n.ensures.0
-
-pub slice_bounds-first_delayed-count : goal.slice_bounds-first_delayed-count
-slice_bounds-first_delayed-count c =
-    cut-le c.args.state c.args.signal.now.px2.now c.requires.1 c.kind_of-kind4.ensures c.matrix_len-n.ensures.0
-
-pub slice_bounds-first_delayed-start : goal.slice_bounds-first_delayed-start
-slice_bounds-first_delayed-start c =
-    cut-le c.args.state c.args.signal.now.px2.now c.requires.1 c.kind_of-kind4.ensures c.matrix_len-n.ensures.0
 
 pub first_delayed-cell-requires : goal.first_delayed-cell-requires
 first_delayed-cell-requires c =
     second-long c.args.state c.args.signal.now.px2.now c.requires.1 c.kind_of-kind4.ensures c.matrix_len-n.ensures.0 c.main_of.ensures
-
-pub overflow_mul-signal : goal.overflow_mul-signal
-overflow_mul-signal c =
-    record { fits = omega (arith, c.requires.0, matrix-le (kind_of c.args.state.mode P3)) }
 
 pub past-requires : goal.past-requires
 past-requires c =

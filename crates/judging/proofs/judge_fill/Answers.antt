@@ -1,16 +1,7 @@
 -- `judge_fill` meets its contract: the case that the test chose. Assumes nothing.
-use native.Mathlib.Omega.{arith}
 use Rattle.calls.specs.Called.{signal_behind}
-use Rattle.judging.proofs.Staged.{cells_are, cells-le, fill-refused, fill-right}
+use Rattle.judging.proofs.Staged.{cells_are, fill-refused, fill-right}
 use Rattle.judging.proofs.judge_fill.Goals as goal
-
-pub overflow_mul-signal : goal.overflow_mul-signal
-overflow_mul-signal c =
-    record { fits = omega (arith, cells_are c.args.state c.args.signal.now.px1.now c.args.signal.now.px2.now c.requires.0 c.requires.1, cells-le c.args.state) }
-
-pub overflow_add-result : goal.overflow_add-result
-overflow_add-result c =
-    record { fits = omega (arith, c.counted_first-before.ensures.1, c.if-cell-signal.true, cells_are c.args.state c.args.signal.now.px1.now c.args.signal.now.px2.now c.requires.0 c.requires.1, cells-le c.args.state) }
 
 pub returns-then-cell-signal : goal.returns-then-cell-signal
 returns-then-cell-signal c =

@@ -1,17 +1,9 @@
 -- `judge_frames` meets its contract: the case that the tests chose. Assumes nothing.
-use mathlib.Core.Path.{sym, ap, ◌∙◌}
 use native.Mathlib.Omega.{arith}
-use Rattle.runs.specs.Lengths.{frame_len, matrix_len, reader_len}
 use Rattle.calls.specs.Called.{memory_behind, signal_behind}
 use Rattle.judging.specs.Stages.{after}
 use Rattle.judging.proofs.Staged.{frame3-refused, frame4-refused, frames-right, recovered}
 use Rattle.judging.proofs.judge_frames.Goals as goal
-
-pub recover_px-frame-requires : goal.recover_px-frame-requires
-recover_px-frame-requires c =
-    let p = c.requires in
-    let k = sym c.kind_of-kind3.ensures in
-    (p.half_lt, p.memory3-long ∙ ap reader_len k, p.px1-long ∙ ap matrix_len k, p.p3-long ∙ ap frame_len k)
 
 pub returns-then-frame-lt8 : goal.returns-then-frame-lt8
 returns-then-frame-lt8 c =

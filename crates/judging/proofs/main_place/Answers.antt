@@ -1,16 +1,10 @@
 -- `main_place` meets its contract: the lower of what PM shows and what the second path shows. Assumes nothing.
-use mathlib.Core.Path.{sym, ap, ◌∙◌}
+use mathlib.Core.Path.{ap, ◌∙◌}
 use Rattle.runs.specs.declared.Main.{Main}
-use Rattle.runs.specs.MainChannels.{p1_len, p2_len}
 use Rattle.runs.specs.Chain.{p1_of, p2_of}
 use Rattle.calls.specs.Called.{memory_behind, signal_behind}
 use Rattle.judging.proofs.Staged.{main-judged}
 use Rattle.judging.proofs.main_place.Goals as goal
-
-pub recover_main-place-requires : goal.recover_main-place-requires
-recover_main-place-requires c =
-    let k = sym c.main_of.ensures in
-    (c.requires.pm, c.requires.p1 ∙ ap p1_len k, c.requires.p2 ∙ ap p2_len k)
 
 pub returns : goal.returns
 returns c =
