@@ -34,7 +34,7 @@ use Rattle.runs.specs.Reading.{push, pushed}
 use Rattle.runs.proofs.Answered.{not-success, success-is}
 use Rattle.runs.proofs.Beside.{first-beside-first, first-beside-second, first-beside-none}
 use Rattle.recover.specs.Rooms.{late_bad, past, pm_bad}
-use Rattle.runs.proofs.Bounds.{matrix-le, p1-frames-le, second-le}
+use Rattle.runs.proofs.Bounds.{p1-frames-le}
 use Rattle.recover.proofs.Mains.{late-none, lowest-beside, lowest-is-le}
 use Rattle.judging.specs.Stages.{Recovered, after, and_then, control_answer, fill_answer, fill_cells, fill_row, fourth, frames_answer, lower, pm_answer, px_answer, signal_answer}
 
@@ -174,9 +174,6 @@ p4-judged s m hk hx (er, ep) = (
 )
 
 -- the bounds
-pub cells-le : (s : State) → fill_cells s ≤ 300000
-cells-le s = omega (arith, matrix-le (kind_of s.mode P3), matrix-le (kind_of s.mode P4), second-le (main_of s.mode))
-
 pub cells_are : (s : State) (px1 px2 : Buffer) → length px1 ≡ matrix_len (kind_of s.mode P3) → length px2 ≡ px2_len s.mode → (length px1 + length px2) * 8 ≡ fill_cells s
 cells_are s px1 px2 h1 h2 = omega (arith, h1, h2)
 
