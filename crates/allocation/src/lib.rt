@@ -1,7 +1,7 @@
 // Document 02, S-4: eight sources share the sixteen PIDS places of an L1 frame.
 #![tactic(auto)]
 
-ghost use Rattle.std.specs.Prelude.{◌≡◌, List, ℕ, ◌+◌, ◌<◌, ◌≤◌, min, length};
+ghost use Rattle.std.specs.Prelude.{◌≡◌, List, ℕ, ◌+◌, ◌<◌, ◌≤◌, length};
 ghost use Rattle.allocation.specs.Allocation.{granted, first, outcome, shared, smaller, total, turn};
 ghost use Rattle.allocation.specs.Owners.{owner_of};
 ghost use Rattle.bits.specs.Listed.{listed};
@@ -13,13 +13,6 @@ use runs::Answer;
 pub struct Grants {
     pub given: [u8; 8],
     pub left: u8,
-}
-
-// A byte for sums.
-fn wide(x: u8) -> usize
-    ensures { (result ≡ x) × (result < 256) }
-{
-    x as usize
 }
 
 // One place more for a source that has messages.
@@ -35,20 +28,10 @@ fn sum(numbers: [u8; 8]) -> usize
     ensures { result ≡ total 8 numbers }
 {
     let mut s: usize = 0;
-    for d in 0..8 {
-        s += wide(numbers[d]);
+    for n in &numbers {
+        s += usize::from(*n);
     }
     s
-}
-
-// The smaller of two numbers.
-fn smaller_of(a: u8, b: u8) -> u8
-    ensures { result ≡ min a b }
-{
-    if a < b {
-        return a;
-    }
-    b
 }
 
 // Each source gets the smaller of its share and its count.
@@ -57,7 +40,7 @@ fn smaller_each(shares: [u8; 8], waiting: [u8; 8]) -> [u8; 8]
 {
     let mut given = [0u8; 8];
     for d in 0..8 {
-        given[d] = smaller_of(shares[d], waiting[d]);
+        given[d] = shares[d].min(waiting[d]);
     }
     given
 }
@@ -112,7 +95,7 @@ fn owner(given: [u8; 8], q: usize) -> u8
 {
     let mut rest = q;
     for d in 0..8 {
-        let n = wide(given[d]);
+        let n = usize::from(given[d]);
         if rest < n {
             return d as u8;
         }

@@ -106,7 +106,7 @@ fn fill_words(rate: Rate, inverse: bool, words: &mut [u64; 256])
     }
 }
 
-// Byte k of a word, from the last one on.
+// Byte k of a word, from the last one on, as an index. `scrambling::byte_of` counts from the first, of a word of four: one for both would be no plainer.
 fn byte_of(x: u64, k: usize) -> usize
     requires { k < 8 }
     ensures { (result ≡ x / 2 ^ (8 * k) % 256) × (result < 256) }

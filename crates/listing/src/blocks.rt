@@ -70,8 +70,8 @@ pub fn list(p: Progress, block: &[u8], out: &mut [u8]) -> Progress
         number: p.number,
         end: 0,
     };
-    for i in 0..block.len() {
-        q = take_byte(&table, q, block[i], out);
+    for b in block {
+        q = take_byte(&table, q, *b, out);
     }
     q
 }

@@ -109,8 +109,8 @@ pub fn answer(mode: u8, p: Progress, block: &[u8], line: &mut [u8], out: &mut [u
         number: p.number,
         end: 0,
     };
-    for i in 0..block.len() {
-        q = take_byte(&table, mode, q, block[i], line, out);
+    for b in block {
+        q = take_byte(&table, mode, q, *b, line, out);
     }
     q
 }

@@ -3,7 +3,6 @@
 
 ghost use Rattle.std.specs.Prelude.{◌≡◌, ◌+◌, ◌^◌, ◌≤◌, ◌<◌, length};
 
-use operands::Operand;
 use ownerlines::Progress;
 use programs::Streams;
 
@@ -109,7 +108,7 @@ fn main(rt: HostRuntime) {
         return;
     }
     match argument_words::number(&words[..n]) {
-        Operand::Number(mode) => run_in(&rt, mode, line),
-        Operand::NotDecimal => programs::usage(&rt, line),
+        Some(mode) => run_in(&rt, mode, line),
+        None => programs::usage(&rt, line),
     }
 }

@@ -4,7 +4,7 @@ ghost use Rattle.bits.specs.Bits.{bit_at, number, packed};
 ghost use Rattle.interleaving.specs.TableI.{ks};
 ghost use Rattle.interleaving.specs.PM.{p1_place};
 ghost use Rattle.pm.specs.FirstCells.{FirstCells};
-ghost use Rattle.transposing.specs.Words.{Begins, quad, NibbleSpreads};
+ghost use Rattle.transposing.specs.Words.{Begins, quad, Spreads};
 ghost use Rattle.pm.specs.Rows.{Changed, nibble_in, word_in, ColumnsDone};
 
 use crate::first_cells;
@@ -44,41 +44,29 @@ fn read_columns(pm: &[u8], c: usize, t: usize, out: &mut [u8; 2880])
     nine_nibbles(pm, c / 8, 1, t, out);
 }
 
-fn wide_cell(x: u32) -> usize
-    ensures { result ≡ x }
-{
-    x as usize
-}
-
 // Reads the row r of every block and partition, in the order of the numbers modulo 320 that these have.
 fn read_row(pm: &[u8], cells: &[u32; 320], r: usize, out: &mut [u8; 2880])
     requires { (length pm.now ≡ 46080) × FirstCells cells.now × (r < 32) × (length out.old ≡ 2880) }
     ensures { (length out.new ≡ 2880) × Begins (nibble_in (bit_at pm.now) r) 2880 out.new }
 {
     for t in 0..320 {
-        let c = wide_cell(cells[t]);
+        let c = cells[t] as usize;
         read_columns(pm, c + 720 * r, t, out);
     }
 }
 
-fn wide(x: u8) -> usize
-    ensures { result ≡ x }
-{
-    x as usize
-}
-
 // The four bits of the nibble n, spread.
 fn spread_at(spreads: &[u64; 16], nibbles: &[u8; 2880], n: usize) -> u64
-    requires { NibbleSpreads spreads.now × (n < 2880) × ((q : ℕ) → get_or nibbles.now q 0 < 16) }
+    requires { Spreads 16 spreads.now × (n < 2880) × ((q : ℕ) → get_or nibbles.now q 0 < 16) }
     ensures { (result ≤ 16843009) × ((f : ℕ → ℕ) → ((i : ℕ) → f i < 2) → get_or nibbles.now n 0 ≡ number 4 f → result ≡ quad f) }
 {
     let x = nibbles[n];
-    spreads[wide(x)]
+    spreads[usize::from(x)]
 }
 
 // Four bits of each of four columns: of the nibble n and of each ninth after it.
 fn turned_four(spreads: &[u64; 16], nibbles: &[u8; 2880], n: usize) -> u64
-    requires { NibbleSpreads spreads.now × (n + 27 < 2880) × ((q : ℕ) → get_or nibbles.now q 0 < 16) }
+    requires { Spreads 16 spreads.now × (n + 27 < 2880) × ((q : ℕ) → get_or nibbles.now q 0 < 16) }
     ensures { (result ≤ 252645135) × ((f : ℕ → ℕ → ℕ) → ((u i : ℕ) → f u i < 2) → ((u : ℕ) → u < 4 → get_or nibbles.now (n + 9 * u) 0 ≡ number 4 (f u)) → result ≡ quad (λ i. number 4 (λ u. f u i))) }
 {
     let first = spread_at(spreads, nibbles, n);
@@ -90,7 +78,7 @@ fn turned_four(spreads: &[u64; 16], nibbles: &[u8; 2880], n: usize) -> u64
 
 // Eight bits of each.
 fn turned(spreads: &[u64; 16], nibbles: &[u8; 2880], n: usize) -> u64
-    requires { NibbleSpreads spreads.now × (n + 63 < 2880) × ((q : ℕ) → get_or nibbles.now q 0 < 16) }
+    requires { Spreads 16 spreads.now × (n + 63 < 2880) × ((q : ℕ) → get_or nibbles.now q 0 < 16) }
     ensures { (result < 4294967296) × ((f : ℕ → ℕ → ℕ) → ((u i : ℕ) → f u i < 2) → ((u : ℕ) → u < 8 → get_or nibbles.now (n + 9 * u) 0 ≡ number 4 (f u)) → result ≡ quad (λ i. number 8 (λ u. f u i))) }
 {
     16 * turned_four(spreads, nibbles, n) + turned_four(spreads, nibbles, n + 36)
@@ -98,7 +86,7 @@ fn turned(spreads: &[u64; 16], nibbles: &[u8; 2880], n: usize) -> u64
 
 // A byte of each of the four columns from 4 x on of the row, forty times: the four to a word.
 fn column_words(spreads: &[u64; 16], nibbles: &[u8; 2880], x: usize, words: &mut [u32; 40])
-    requires { NibbleSpreads spreads.now × ((q : ℕ) → get_or nibbles.now q 0 < 16) × (x < 9) × (length words.old ≡ 40) }
+    requires { Spreads 16 spreads.now × ((q : ℕ) → get_or nibbles.now q 0 < 16) × (x < 9) × (length words.old ≡ 40) }
     ensures { (length words.new ≡ 40) × ((f : ℕ → ℕ) (r : ℕ) → ((c : ℕ) → f c < 2) → Begins (nibble_in f r) 2880 nibbles.now → Begins (word_in f r x) 40 words.new) }
 {
     for j in 0..40 {
@@ -106,7 +94,7 @@ fn column_words(spreads: &[u64; 16], nibbles: &[u8; 2880], x: usize, words: &mut
     }
 }
 
-// The byte i of a word of four.
+// The byte i of a word of four. `transposing::byte_of` is of a word of eight: one for both would take the width, and say no less in its place.
 fn byte_in(w: u32, i: usize) -> u8
     requires { i < 4 }
     ensures { (f : ℕ → ℕ) → ((u : ℕ) → u < 4 → f u < 256) → w ≡ quad f → result ≡ f i }
@@ -162,7 +150,7 @@ fn put_columns(
     r: usize,
     coded: &mut [u8],
 )
-    requires { NibbleSpreads spreads.now × (table.now ≡ ks) × ((q : ℕ) → get_or nibbles.now q 0 < 16) × (length coded.old ≡ 45680) × (r < 32) }
+    requires { Spreads 16 spreads.now × (table.now ≡ ks) × ((q : ℕ) → get_or nibbles.now q 0 < 16) × (length coded.old ≡ 45680) × (r < 32) }
     ensures { (f : ℕ → ℕ) → ((q : ℕ) → f q < 2) → Begins (nibble_in f r) 2880 nibbles.now → ColumnsDone f (36 * r) coded.old → ColumnsDone f (36 * (r + 1)) coded.new }
 {
     let mut words = [0u32; 40];
@@ -177,7 +165,7 @@ pub fn gather_p1(pm: &[u8], coded: &mut [u8])
     requires { (length pm.now ≡ 46080) × (length coded.old ≡ 45680) }
     ensures { coded.new ≡ packed 45680 (λ i. bit_at pm.now (p1_place i)) }
 {
-    let spreads = transposing::nibble_spreads();
+    let spreads = transposing::spreads();
     let table = index_table();
     let cells = first_cells();
     let mut nibbles = [0u8; 2880];

@@ -204,6 +204,7 @@ pub fn interleave(p1: &[u8], pids: &[u8], pm: &mut [u8])
 }
 
 // Reads the 20 bits from 20 m on of the coded PIDS bits, those of one block and one k; start is the cell of the first partition.
+// The loop of `scatter_pids_k` the other way: one for both would take the places by closures, and read no plainer.
 fn gather_pids_k(pm: &[u8], order: &[usize; 20], m: usize, start: usize, coded: &mut [u8])
     requires { (length pm.now ≡ 46080) × (length coded.old ≡ 400) × (m < 160) × (start ≡ pids_start m) × (order.now ≡ v) }
     ensures { (f : ℕ → ℕ) → bit_at coded.old ≡ written (λ i. i) (λ i. bit_at pm.now (pids_place i)) (20 * m) f → bit_at coded.new ≡ written (λ i. i) (λ i. bit_at pm.now (pids_place i)) (20 * m + 20) f }

@@ -23,7 +23,7 @@ fn start_of(table: &[u16; 1152], r: usize, c: usize) -> usize
 
 // The nibbles of the row r of every block: of the 36 columns four at a time, of the 320 bits of their k in order.
 fn row_nibbles(spreads: &[u64; 256], table: &[u16; 1152], coded: &[u8], r: usize, out: &mut [u8])
-    requires { (length coded.now ≡ 45680) × Spreads spreads.now × (table.now ≡ ks) × (r < 32) × (length out.old ≡ 2880) }
+    requires { (length coded.now ≡ 45680) × Spreads 256 spreads.now × (table.now ≡ ks) × (r < 32) × (length out.old ≡ 2880) }
     ensures { Begins (nibble_for (bit_at coded.now) r) 2880 out.new }
 {
     for x in 0..9 {
@@ -46,12 +46,6 @@ fn shown_bits() -> [u16; 320]
     found
 }
 
-fn wide(x: u16) -> usize
-    ensures { result ≡ x }
-{
-    x as usize
-}
-
 // The place of the nibble z of two partitions side by side, which show the bits t and u of a k.
 fn seat(t: usize, u: usize, z: usize) -> usize
     requires { (t < 320) × (u < 320) × (z < 18) }
@@ -63,14 +57,6 @@ fn seat(t: usize, u: usize, z: usize) -> usize
     320 * (z - 9) + u
 }
 
-// Two nibbles as a byte.
-fn joined(high: u8, low: u8) -> u8
-    requires { (high < 16) × (low < 16) }
-    ensures { result ≡ 16 * high + low }
-{
-    16 * high + low
-}
-
 // Writes a row of two partitions side by side, which show the bits t and u of a k: nine bytes from place n on.
 fn write_pair(nibbles: &[u8; 2880], t: usize, u: usize, n: usize, pm: &mut [u8])
     requires { (t < 320) × (u < 320) × (n + 9 ≤ length pm.old) × ((q : ℕ) → get_or nibbles.now q 0 < 16) }
@@ -79,7 +65,7 @@ fn write_pair(nibbles: &[u8; 2880], t: usize, u: usize, n: usize, pm: &mut [u8])
     for y in 0..9 {
         let a = seat(t, u, 2 * y);
         let b = seat(t, u, 2 * y + 1);
-        pm[n + y] = joined(nibbles[a], nibbles[b]);
+        pm[n + y] = 16 * nibbles[a] + nibbles[b];
     }
 }
 
@@ -91,8 +77,8 @@ fn write_row(nibbles: &[u8; 2880], shown: &[u16; 320], r: usize, pm: &mut [u8])
     for i in 0..160 {
         write_pair(
             nibbles,
-            wide(shown[2 * i]),
-            wide(shown[2 * i + 1]),
+            usize::from(shown[2 * i]),
+            usize::from(shown[2 * i + 1]),
             i / 10 * 2880 + 90 * r + i % 10 * 9,
             pm,
         );

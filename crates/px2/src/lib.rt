@@ -90,18 +90,12 @@ fn starts(m: usize) -> [u16; 1152]
     starts
 }
 
-fn wide(x: u16) -> usize
-    ensures { result ≡ x }
-{
-    x as usize
-}
-
 // Where the group at the place n begins.
 fn start(m: usize, starts: &[u16; 1152], n: usize) -> usize
     requires { (n < 1152) × Starts m starts.now }
     ensures { (result ≡ get_or starts.now n 0) × (result + m ≤ 1152 * m) }
 {
-    wide(starts[n])
+    usize::from(starts[n])
 }
 
 // The nibbles of the row of a block whose places are those from a on.
@@ -113,7 +107,7 @@ fn row_nibbles(
     a: usize,
     out: &mut [u8],
 )
-    requires { (a + 36 ≤ 1152) × (m ≤ 2) × (length coded.now ≡ 1152 * m) × Spreads spreads.now × Starts m starts.now × (length out.old ≡ 144) }
+    requires { (a + 36 ≤ 1152) × (m ≤ 2) × (length coded.now ≡ 1152 * m) × Spreads 256 spreads.now × Starts m starts.now × (length out.old ≡ 144) }
     ensures { Begins (row_of m (bit_at coded.now) starts.now a) (72 * m) out.new }
 {
     for x in 0..9 {
@@ -147,13 +141,6 @@ fn nibble(m: usize, nibbles: &[u8; 144], s: usize, t: usize, z: usize) -> u8
     nibbles[8 * (m * (z - 9)) + t]
 }
 
-// Two nibbles as a byte.
-fn joined(high: u8, low: u8) -> u8
-    ensures { high < 16 → low < 16 → result ≡ 16 * high + low }
-{
-    (high % 16) * 16 + low % 16
-}
-
 // Writes these nibbles, nine bytes, from the byte n of the matrix on, which begins at the byte first.
 fn write_pair(
     m: usize,
@@ -168,9 +155,9 @@ fn write_pair(
     ensures { (f g : ℕ → ℕ) (starts l : List ℕ) (a : ℕ) → ((i : ℕ) → f i < 2) → Begins (row_of m f starts a) (72 * m) nibbles.now → ((e : ℕ) → e < 9 → g (n + e) ≡ 16 * pair_of f starts a s t (2 * e) + pair_of f starts a s t (2 * e + 1)) → Changed first n g l px2.old → Changed first (n + 9) g l px2.new }
 {
     for e in 0..9 {
-        let x = nibble(m, nibbles, s, t, 2 * e);
-        let y = nibble(m, nibbles, s, t, 2 * e + 1);
-        px2[first + n + e] = joined(x, y);
+        let high = nibble(m, nibbles, s, t, 2 * e);
+        let low = nibble(m, nibbles, s, t, 2 * e + 1);
+        px2[first + n + e] = 16 * (high % 16) + low % 16;
     }
 }
 
@@ -184,7 +171,7 @@ fn write_row(
     y: usize,
     px2: &mut [u8],
 )
-    requires { (row < 2) × Spreads spreads.now × Starts (row + 1) starts.now × (length coded.now ≡ 1152 * (row + 1)) × (y < 64) × (first + 1152 * (row + 1) ≤ length px2.old) × (first + 1152 * (row + 1) ≤ 18432) }
+    requires { (row < 2) × Spreads 256 spreads.now × Starts (row + 1) starts.now × (length coded.now ≡ 1152 * (row + 1)) × (y < 64) × (first + 1152 * (row + 1) ≤ length px2.old) × (first + 1152 * (row + 1) ≤ 18432) }
     ensures { (l : List ℕ) → Changed first (18 * ((row + 1) * y)) (byte_in row (bit_at coded.now)) l px2.old → Changed first (18 * ((row + 1) * (y + 1))) (byte_in row (bit_at coded.now)) l px2.new }
 {
     let m = row + 1;

@@ -119,8 +119,8 @@ fn gather_byte(
 {
     let i = px_steps::block(kind) * t;
     let mut a: u8 = 0;
-    for u in 0..8 {
-        a = (a << 1) | bits::get(three, i + delays[u]);
+    for delay in delays {
+        a = (a << 1) | bits::get(three, i + *delay);
     }
     a
 }

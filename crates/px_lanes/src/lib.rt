@@ -41,13 +41,6 @@ fn fill_lanes(kind: usize, lanes: &mut [u16; 1024])
     }
 }
 
-// A byte as an index.
-fn wide(x: u8) -> usize
-    ensures { result ≡ x }
-{
-    x as usize
-}
-
 // The entry of a turn that stands at the place n of a partition's block, counted across its rows.
 fn entry_in(n: usize) -> usize
     requires { n < 1152 }
@@ -64,7 +57,7 @@ fn lane_of(kind: usize, lanes: &[u16; 1024], n: usize, d: usize, coded: &[u8]) -
     let t = (d + (1152 - n)) % 16;
     let j = px_steps::block(kind) / 8 * t + (n >> (2 - kind));
     let e = n & (px_steps::runs(kind) - 1);
-    lanes[256 * e + wide(coded[j])]
+    lanes[256 * e + usize::from(coded[j])]
 }
 
 // The columns from 4 z on of the row r, for each of sixteen blocks.

@@ -11,12 +11,6 @@ ghost use Rattle.restoring.specs.Restored.{Settled, Restored};
 
 use runs::Answer;
 
-fn wide(x: u8) -> usize
-    ensures { result ≡ x }
-{
-    x as usize
-}
-
 // Whether the register e is in a set.
 fn holds(set: u64, e: usize) -> bool
     requires { e < 64 }
@@ -30,7 +24,7 @@ fn beyond(costs: &[u16; 8], all: &[u8; 128], kept: &[u64], j: usize, w: usize) -
     requires { (j < 80) × (w < 128) × Outputs all.now × (length kept.now ≡ 5184) }
     ensures { (cells : List ℕ) → Eight cells j costs.now → Reached cells (suc j) kept.now → result ≡ through cells j w }
 {
-    let y = wide(all[w]);
+    let y = usize::from(all[w]);
     if costs[y] != 0 {
         return 0;
     }
@@ -68,9 +62,7 @@ fn reach(cells: &[u8], all: &[u8; 128], kept: &mut [u64])
     ensures { Reached cells.now 0 kept.new }
 {
     reach_last(kept);
-    let mut j: usize = 80;
-    while 0 < j {
-        j -= 1;
+    for j in (0..80usize).rev() {
         reach_step(cells, all, j, kept);
     }
 }

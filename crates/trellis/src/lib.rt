@@ -2,7 +2,7 @@
 // the frame is then read off forwards.
 #![tactic(auto)]
 
-ghost use Rattle.std.specs.Prelude.{◌≡◌, ℕ, ◌+◌, ◌-◌, ◌*◌, ◌/◌, ◌%◌, ◌<◌, ◌≤◌, min, length, get_or};
+ghost use Rattle.std.specs.Prelude.{◌≡◌, ℕ, ◌+◌, ◌-◌, ◌*◌, ◌/◌, ◌%◌, ◌<◌, ◌≤◌, length, get_or};
 ghost use Rattle.bits.specs.Bits.{packed};
 ghost use Rattle.coding.specs.Coder.{generators};
 ghost use Rattle.trellis.specs.Cells.{differs as «differs-of»};
@@ -83,12 +83,6 @@ pub fn eight(cells: &[u8], j: usize) -> [u16; 8]
     costs
 }
 
-fn wide(x: u8) -> usize
-    ensures { result ≡ x }
-{
-    x as usize
-}
-
 // Writes the costs of all windows at step j.
 fn fill(costs: &[u16; 8], all: &[u8; 128], j: usize, table: &mut [u16])
     requires { (j < 80) × Outputs all.now × (length table.old ≡ 10240) }
@@ -96,7 +90,7 @@ fn fill(costs: &[u16; 8], all: &[u8; 128], j: usize, table: &mut [u16])
 {
     let at = 128 * j;
     for w in 0..128 {
-        let y = wide(all[w]);
+        let y = usize::from(all[w]);
         table[at + w] = costs[y];
     }
 }
@@ -125,25 +119,12 @@ fn through(costs: &[u16; 10240], j: usize, w: usize, late: &[u16; 64]) -> u16
     costs[at] + late[r]
 }
 
-// The lesser of two scores.
-fn lesser(a: u16, b: u16) -> u16
-    ensures { result ≡ min a b }
-{
-    if a <= b {
-        return a;
-    }
-    b
-}
-
 // The score of the register r before step j, from those after it.
 fn better(costs: &[u16; 10240], j: usize, r: usize, late: &[u16; 64]) -> u16
     requires { (j < 80) × (r < 64) × Cheap costs.now × Low late.now }
     ensures { result ≡ score_before costs.now j late.now r }
 {
-    lesser(
-        through(costs, j, 2 * r, late),
-        through(costs, j, 2 * r + 1, late),
-    )
+    through(costs, j, 2 * r, late).min(through(costs, j, 2 * r + 1, late))
 }
 
 // One step of the trellis, backwards: the scores before it from those after it. The registers r and r + 32 are followed by the same two.
@@ -177,9 +158,7 @@ fn scored(costs: &[u16; 10240], last: Scores) -> Scores
     ensures { (final : ℕ → ℕ) → ((q : ℕ) → q < 64 → get_or last.scores q 0 ≡ final q) → Scored (tabled costs.now) final 80 result }
 {
     let mut s = last;
-    let mut k: usize = 80;
-    while 0 < k {
-        k -= 1;
+    for k in (0..80usize).rev() {
         s = step(costs, s);
     }
     s
@@ -191,21 +170,17 @@ fn store(scores: &[u16; 64], j: usize, kept: &mut [u16])
     ensures { Stored scores.now kept.old kept.new j }
 {
     let at = 64 * j;
-    for r in 0..64 {
-        kept[at + r] = scores[r];
-    }
+    kept[at..at + 64].copy_from_slice(scores);
 }
 
-// The scores before the first step, from those after the last; those after each step are kept.
+// The scores before the first step, from those after the last; those after each step are kept. `scored` keeps none, and so takes no room for 5120 of them.
 fn back(costs: &[u16; 10240], last: Scores, kept: &mut [u16]) -> Scores
     requires { (last.step ≡ 80) × Cheap costs.now × ((q : ℕ) → q < 64 → get_or last.scores q 0 ≤ 201) × (length kept.old ≡ 5120) }
     ensures { (final : ℕ → ℕ) → ((q : ℕ) → q < 64 → get_or last.scores q 0 ≡ final q)
         → Scored (tabled costs.now) final 80 result × Kept (tabled costs.now) final 0 kept.new }
 {
     let mut s = last;
-    let mut k: usize = 80;
-    while 0 < k {
-        k -= 1;
+    for k in (0..80usize).rev() {
         let late = s.scores;
         store(&late, k, kept);
         s = step(costs, s);
@@ -276,7 +251,7 @@ fn lowest(scores: &[u16; 64]) -> u16
 {
     let mut m = scores[0];
     for r in 1..64 {
-        m = lesser(m, scores[r]);
+        m = m.min(scores[r]);
     }
     m
 }

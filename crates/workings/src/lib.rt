@@ -57,19 +57,11 @@ pub fn refused(answer: Answer) -> Worked
 }
 
 // Whether the mode is MP1, MP2, MP3 or MP11.
+#[tactic(auto, unfolding(crate::specs::Shown::older, control::specs::Modes::one_of))]
 fn is_older(mode: u8) -> bool
     ensures { result ≡ older mode }
 {
-    if mode == 1 {
-        return true;
-    }
-    if mode == 2 {
-        return true;
-    }
-    if mode == 3 {
-        return true;
-    }
-    mode == 11
+    matches!(mode, 1 | 2 | 3 | 11)
 }
 
 // The rate of a channel.

@@ -1,7 +1,7 @@
 -- `rounds` meets its contract. The loop's invariant: n turns are done. Assumes nothing.
 use mathlib.Core.Path.{◌≡◌}
 use mathlib.Core.List.{List}
-use Prim.Native.Nat.{ℕ, ◌-◌, ◌≤◌}
+use Prim.Native.Nat.{ℕ, ◌≤◌}
 use Rattle.allocation.specs.Allocation.{first, turns}
 use Rattle.allocation.proofs.rounds.Given as goal
 

@@ -1,5 +1,5 @@
 -- `smaller_each` meets its contract. The loop's invariant: the first d are in place. Assumes nothing.
-use Prim.Native.Nat.{min, ◌-◌, ◌≤◌}
+use Prim.Native.Nat.{min, ◌≤◌}
 use lib.ListN.{get_or}
 use Rattle.bits.proofs.Listed.{Filled}
 use Rattle.allocation.proofs.smaller_each.Given as goal

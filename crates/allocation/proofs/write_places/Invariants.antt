@@ -1,5 +1,5 @@
 -- `write_places` meets its contract. The loop's invariant: the first q places are written. Assumes nothing.
-use Prim.Native.Nat.{◌-◌, ◌≤◌}
+use Prim.Native.Nat.{◌≤◌}
 use Rattle.allocation.specs.Owners.{owner_of}
 use Rattle.bits.proofs.Listed.{Filled}
 use Rattle.allocation.proofs.write_places.Given as goal

@@ -1,6 +1,6 @@
 -- `celltext::write_cells` meets its contract. The loop's invariant: the first i cells are written. Assumes nothing.
 use mathlib.Core.Path.{◌≡◌}
-use Prim.Native.Nat.{ℕ, ◌<◌, ◌≤◌, ◌-◌}
+use Prim.Native.Nat.{ℕ, ◌<◌, ◌≤◌}
 use lib.ListN.{length, get_or}
 use Rattle.celltext.specs.Lines.{cell_of}
 use Rattle.celltext.proofs.write_cells.Given as goal

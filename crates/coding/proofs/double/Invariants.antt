@@ -1,6 +1,6 @@
 -- `coding::double` meets its contract. The loop's invariant: r words more stand after the first m. Assumes nothing.
 use mathlib.Core.Path.{◌≡◌}
-use Prim.Native.Nat.{ℕ, ◌+◌, ◌-◌, ◌<◌, ◌≤◌}
+use Prim.Native.Nat.{ℕ, ◌+◌, ◌<◌, ◌≤◌}
 use lib.Bits.{bit_xor}
 use lib.ListN.{length, get_or}
 use Rattle.coding.proofs.double.Given as goal

@@ -1,5 +1,5 @@
 -- `coding::encode` meets its contract. The loop's invariant: the bytes of u units are stored. Assumes nothing.
-use Prim.Native.Nat.{◌-◌, ◌*◌, ◌/◌}
+use Prim.Native.Nat.{◌*◌}
 use lib.ListN.{length}
 use Rattle.bits.specs.Bits.{bit_at}
 use Rattle.bits.proofs.Stores.{Stored}

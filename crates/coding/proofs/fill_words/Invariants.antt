@@ -1,6 +1,6 @@
 -- `coding::fill_words` meets its contract. The loop's invariant: the entries of the bytes below m, which is the power e of two, are found. Assumes nothing.
 use mathlib.Core.Path.{◌≡◌}
-use Prim.Native.Nat.{ℕ, ◌-◌, ◌*◌, ◌^◌, ◌<◌, ◌≤◌}
+use Prim.Native.Nat.{ℕ, ◌*◌, ◌^◌, ◌<◌, ◌≤◌}
 use lib.ListN.{length, get_or}
 use Rattle.coding.specs.Units.{bytes_of, placed, word_of}
 use Rattle.coding.proofs.fill_words.Given as goal

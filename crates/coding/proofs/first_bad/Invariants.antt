@@ -1,6 +1,5 @@
 -- `coding::first_bad` meets its contract. The loop's invariant: u units agree. Assumes nothing.
-use Prim.Native.Nat.{◌-◌, ◌*◌, ◌/◌}
-use lib.ListN.{length}
+use Prim.Native.Nat.{◌*◌}
 use Rattle.bits.specs.Bits.{bit_at}
 use Rattle.coding.specs.Channel.{Agree}
 use Rattle.coding.specs.Buffers.{coded_each}

@@ -1,6 +1,6 @@
 -- `coding::load` meets its contract. The loop's invariant: the word holds the bits of k bytes. Assumes nothing.
 use mathlib.Core.Path.{◌≡◌}
-use Prim.Native.Nat.{◌≤◌, ◌+◌, ◌-◌, ◌*◌}
+use Prim.Native.Nat.{◌≤◌, ◌+◌, ◌*◌}
 use Rattle.bits.specs.Bits.{bit_at, number}
 use Rattle.coding.proofs.load.Given as goal
 

@@ -1,6 +1,6 @@
 -- `coding::store` meets its contract. The loop's invariant: k bytes are stored. Assumes nothing.
 use mathlib.Core.Path.{◌≡◌}
-use Prim.Native.Nat.{ℕ, ◌≤◌, ◌<◌, ◌+◌, ◌-◌, ◌*◌}
+use Prim.Native.Nat.{ℕ, ◌≤◌, ◌<◌, ◌+◌, ◌*◌}
 use lib.ListN.{length, take}
 use Rattle.bits.specs.Bits.{number, packed}
 use Rattle.bits.proofs.Stores.{Stored}

@@ -1,7 +1,7 @@
 -- `first_apart` meets its contract. The loop's invariant: no piece below f differs. Assumes nothing.
 use mathlib.Core.Path.{◌≡◌}
 use mathlib.Core.Bool.{false}
-use Prim.Native.Nat.{ℕ, ◌-◌, ◌≤◌, ◌<◌}
+use Prim.Native.Nat.{ℕ, ◌≤◌, ◌<◌}
 use Rattle.diversity.specs.Rooms.{apart}
 use Rattle.diversity.proofs.first_apart.Given as goal
 

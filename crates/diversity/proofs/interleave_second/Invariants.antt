@@ -1,6 +1,6 @@
 -- `interleave_second` meets its contract. The loop's invariant: the first f frames are written. Assumes nothing.
 use mathlib.Core.Path.{◌≡◌}
-use Prim.Native.Nat.{◌-◌, ◌*◌, ◌/◌, ◌≤◌}
+use Prim.Native.Nat.{◌*◌, ◌/◌, ◌≤◌}
 use lib.ListN.{length}
 use Rattle.bits.specs.Bits.{Bytes, bit_at, written}
 use Rattle.coding.specs.declared.Rate.TheVariants.{Half}

@@ -1,5 +1,5 @@
 -- `push` meets its contract. The loop's invariant: the first i bytes are moved to the front. Assumes nothing.
-use Prim.Native.Nat.{◌-◌, ◌≤◌}
+use Prim.Native.Nat.{◌≤◌}
 use Rattle.diversity.proofs.Moves.{Moved}
 use Rattle.diversity.proofs.push.Given as goal
 

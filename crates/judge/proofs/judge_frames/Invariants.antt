@@ -1,5 +1,5 @@
 -- `judge_frames` meets its contract: what it puts stands in the line. The loop's invariant: no buffer's length changes. Assumes nothing.
-use Rattle.std.specs.Prelude.{length, ◌-◌, ◌≡◌}
+use Rattle.std.specs.Prelude.{length, ◌≡◌}
 use Rattle.judge.proofs.judge_frames.Given as goal
 
 abbrev pub invariant-loop-t : goal.invariant-loop-t

@@ -1,5 +1,5 @@
 -- `sum_all` meets its contract. The loop's invariant: no buffer's length changes. Assumes nothing.
-use Rattle.std.specs.Prelude.{length, ◌-◌, ◌≡◌}
+use Rattle.std.specs.Prelude.{length, ◌≡◌}
 use Rattle.keys.proofs.sum_all.Given as goal
 
 abbrev pub invariant-loop-frame : goal.invariant-loop-frame

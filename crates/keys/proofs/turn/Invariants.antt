@@ -1,5 +1,5 @@
 -- `turn` meets its contract. The loop's invariant: no buffer's length changes. Assumes nothing.
-use Rattle.std.specs.Prelude.{length, ◌-◌, ◌≡◌}
+use Rattle.std.specs.Prelude.{length, ◌≡◌}
 use Rattle.keys.proofs.turn.Given as goal
 
 abbrev pub invariant-loop-run : goal.invariant-loop-run

@@ -1,6 +1,6 @@
 -- `pm::first_cells` meets its contract. The loop's invariant: the first t cells are found. Assumes nothing.
 use mathlib.Core.Path.{◌≡◌}
-use Prim.Native.Nat.{ℕ, ◌≤◌, ◌<◌, ◌-◌}
+use Prim.Native.Nat.{ℕ, ◌≤◌, ◌<◌}
 use lib.ListN.{length, get_or}
 use Rattle.interleaving.specs.PM.{p1_place}
 use Rattle.pm.proofs.first_cells.Given as goal

@@ -1,6 +1,6 @@
 -- `pm::gather_pids_k` meets its contract. The loop's invariant: s bits more are read. Assumes nothing.
 use mathlib.Core.Path.{◌≡◌}
-use Prim.Native.Nat.{ℕ, ◌+◌, ◌-◌, ◌*◌, ◌≤◌}
+use Prim.Native.Nat.{ℕ, ◌+◌, ◌*◌, ◌≤◌}
 use lib.ListN.{length}
 use Rattle.bits.specs.Bits.{bit_at, written}
 use Rattle.interleaving.specs.PM.{pids_place}

@@ -1,6 +1,6 @@
 -- `pm::scatter_pids` meets its contract. The loop's invariant: the bits of the first m are written. Assumes nothing.
 use mathlib.Core.Path.{◌≡◌}
-use Prim.Native.Nat.{◌≤◌, ◌-◌, ◌*◌}
+use Prim.Native.Nat.{◌≤◌, ◌*◌}
 use lib.ListN.{length}
 use Rattle.bits.specs.Bits.{Bytes, bit_at, written}
 use Rattle.interleaving.specs.PM.{pids_place}

@@ -1,7 +1,7 @@
 -- `px::fill_in_byte` meets its contract. The loop's invariant: none of the byte's first u bits is a fill that is 1. Assumes nothing.
 use mathlib.Core.Path.{◌≡◌}
 use mathlib.Core.Bool.{false}
-use Prim.Native.Nat.{ℕ, ◌+◌, ◌-◌, ◌*◌, ◌≤◌, ◌<◌}
+use Prim.Native.Nat.{ℕ, ◌+◌, ◌*◌, ◌≤◌, ◌<◌}
 use Rattle.bits.specs.Bits.{bit_at}
 use Rattle.interleaving.specs.PX.{is_fill}
 use Rattle.px.proofs.fill_in_byte.Given as goal

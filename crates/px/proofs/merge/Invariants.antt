@@ -1,6 +1,6 @@
 -- `px::merge` meets its contract. The loop's invariant: the first g bytes of each block are merged. Assumes nothing.
 use mathlib.Core.Path.{◌≡◌}
-use Prim.Native.Nat.{◌-◌, ◌*◌, ◌≤◌}
+use Prim.Native.Nat.{◌*◌, ◌≤◌}
 use lib.ListN.{length}
 use Rattle.interleaving.specs.PX.{coded_bytes}
 use Rattle.px.specs.Merged.{Status}

@@ -1,7 +1,7 @@
 -- `px::merge_turns` meets its contract: the law `status-more`. The loop's invariant: the byte g of the first t blocks is merged. Assumes nothing.
 use mathlib.Core.Path.{◌≡◌}
 use mathlib.Core.List.{List}
-use Prim.Native.Nat.{ℕ, ◌+◌, ◌-◌, ◌*◌, ◌≤◌}
+use Prim.Native.Nat.{ℕ, ◌+◌, ◌*◌, ◌≤◌}
 use lib.ListN.{length}
 use Rattle.interleaving.specs.PX.{coded_bytes}
 use Rattle.px.specs.Merged.{Status}

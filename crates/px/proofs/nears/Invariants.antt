@@ -1,6 +1,6 @@
 -- `px::nears` meets its contract. The loop's invariant: the first q entries are found. Assumes nothing.
 use mathlib.Core.Path.{◌≡◌}
-use Prim.Native.Nat.{ℕ, ◌-◌, ◌≤◌, ◌<◌}
+use Prim.Native.Nat.{ℕ, ◌≤◌, ◌<◌}
 use lib.ListN.{length, get_or}
 use Rattle.px.specs.Merged.{near4}
 use Rattle.px.proofs.nears.Given as goal

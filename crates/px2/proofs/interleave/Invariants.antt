@@ -1,6 +1,6 @@
 -- `px2::interleave` meets its contract. The loop's invariant: the rows before y are written. Assumes nothing.
 use mathlib.Core.Path.{◌≡◌}
-use Prim.Native.Nat.{◌≤◌, ◌+◌, ◌-◌, ◌*◌}
+use Prim.Native.Nat.{◌≤◌, ◌+◌, ◌*◌}
 use lib.ListN.{length}
 use Rattle.bits.specs.Bits.{bit_at}
 use Rattle.px2.specs.Places.{byte_in, Changed}

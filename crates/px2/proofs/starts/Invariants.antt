@@ -1,6 +1,6 @@
 -- `px2::starts` meets its contract. The loop's invariant: the groups before k are placed. Assumes nothing.
 use mathlib.Core.Path.{◌≡◌}
-use Prim.Native.Nat.{◌-◌, ◌≤◌}
+use Prim.Native.Nat.{◌≤◌}
 use lib.ListN.{length}
 use Rattle.px2.proofs.Laws.{Placed}
 use Rattle.px2.proofs.starts.Given as goal

@@ -1,6 +1,6 @@
 -- `px2::write_pair` meets its contract. The loop's invariant: e bytes more are written. Assumes nothing.
 use mathlib.Core.Path.{◌≡◌}
-use Prim.Native.Nat.{ℕ, ◌≤◌, ◌<◌, ◌+◌, ◌-◌, ◌*◌}
+use Prim.Native.Nat.{ℕ, ◌≤◌, ◌<◌, ◌+◌, ◌*◌}
 use mathlib.Core.List.{List}
 use lib.ListN.{length}
 use Rattle.transposing.specs.Words.{Begins}

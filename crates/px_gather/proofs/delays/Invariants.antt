@@ -1,6 +1,6 @@
 -- `px_gather::delays` meets its contract. The loop's invariant: the first u places are found. Assumes nothing.
 use mathlib.Core.Path.{◌≡◌}
-use Prim.Native.Nat.{ℕ, ◌+◌, ◌-◌, ◌*◌, ◌≤◌, ◌<◌}
+use Prim.Native.Nat.{ℕ, ◌+◌, ◌*◌, ◌≤◌, ◌<◌}
 use lib.ListN.{length, get_or}
 use Rattle.interleaving.specs.PX.{later}
 use Rattle.px_gather.proofs.delays.Given as goal

@@ -1,6 +1,6 @@
 -- `px_gather::gather` meets its contract. The loop's invariant: the first g bytes of each turn are stored. Assumes nothing.
 use mathlib.Core.Path.{◌≡◌}
-use Prim.Native.Nat.{ℕ, ◌+◌, ◌-◌, ◌*◌, ◌<◌}
+use Prim.Native.Nat.{ℕ, ◌+◌, ◌*◌, ◌<◌}
 use lib.ListN.{length, get_or}
 use Rattle.bits.specs.Bits.{bit_at, byte_of}
 use Rattle.interleaving.specs.PX.{partitions, coded_bytes, later}

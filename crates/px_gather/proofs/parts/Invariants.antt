@@ -1,6 +1,6 @@
 -- `px_gather::parts` meets its contract. The loop's invariant: the first u are found. Assumes nothing.
 use mathlib.Core.Path.{◌≡◌}
-use Prim.Native.Nat.{ℕ, ◌-◌, ◌≤◌, ◌<◌}
+use Prim.Native.Nat.{ℕ, ◌≤◌, ◌<◌}
 use lib.ListN.{length, get_or}
 use Rattle.px_gather.specs.Entries.{part_of}
 use Rattle.px_gather.proofs.parts.Given as goal

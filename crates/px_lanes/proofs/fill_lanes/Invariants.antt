@@ -1,6 +1,6 @@
 -- `px_lanes::fill_lanes` meets its contract. The loop's invariant: the first i entries are found. Assumes nothing.
 use mathlib.Core.Path.{◌≡◌}
-use Prim.Native.Nat.{◌-◌, ◌≤◌}
+use Prim.Native.Nat.{◌≤◌}
 use lib.ListN.{length}
 use Rattle.transposing.specs.Words.{Begins}
 use Rattle.px_lanes.specs.Laid.{lane_at}

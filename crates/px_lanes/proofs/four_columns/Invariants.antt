@@ -1,6 +1,6 @@
 -- `px_lanes::four_columns` meets its contract. The loop's invariant: the columns of the first d blocks are summed. Assumes nothing.
 use mathlib.Core.Path.{◌≡◌}
-use Prim.Native.Nat.{◌+◌, ◌-◌, ◌*◌, ◌≤◌}
+use Prim.Native.Nat.{◌+◌, ◌*◌, ◌≤◌}
 use lib.ListN.{length}
 use Rattle.transposing.specs.Words.{Begins}
 use Rattle.px_lanes.specs.Laid.{quad_at}

@@ -1,6 +1,6 @@
 -- `px_lanes::fresh` meets its contract. The loop's invariant: the first r rows of every block are laid out. Assumes nothing.
 use mathlib.Core.Path.{◌≡◌}
-use Prim.Native.Nat.{◌-◌, ◌*◌, ◌/◌, ◌≤◌}
+use Prim.Native.Nat.{◌*◌, ◌/◌, ◌≤◌}
 use lib.ListN.{length}
 use Rattle.interleaving.specs.PX.{partitions, coded_bytes}
 use Rattle.px_lanes.specs.Laid.{Laid}

@@ -1,7 +1,7 @@
 -- `px_lanes::fresh_row` meets its contract. The loop's invariant: the first k bytes of the row are laid out in every block. Assumes nothing.
 use mathlib.Core.Path.{◌≡◌}
 use mathlib.Core.List.{List}
-use Prim.Native.Nat.{ℕ, ◌+◌, ◌-◌, ◌*◌, ◌/◌, ◌≤◌}
+use Prim.Native.Nat.{ℕ, ◌+◌, ◌*◌, ◌/◌, ◌≤◌}
 use lib.ListN.{length}
 use Rattle.interleaving.specs.PX.{partitions, coded_bytes}
 use Rattle.transposing.specs.Words.{Begins}

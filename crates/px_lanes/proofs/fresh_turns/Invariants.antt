@@ -1,7 +1,7 @@
 -- `px_lanes::fresh_turns` meets its contract. The loop's invariant: the byte g of the first t blocks is stored, and the bytes before it stay. Assumes nothing.
 use mathlib.Core.Path.{◌≡◌}
 use mathlib.Core.List.{List}
-use Prim.Native.Nat.{ℕ, ◌+◌, ◌-◌, ◌*◌, ◌%◌, ◌≤◌, ◌<◌}
+use Prim.Native.Nat.{ℕ, ◌+◌, ◌*◌, ◌%◌, ◌≤◌, ◌<◌}
 use lib.ListN.{length, get_or}
 use Rattle.bits.specs.Bits.{bit_at, byte_of}
 use Rattle.interleaving.specs.PX.{partitions, coded_bytes, coded_bits}

@@ -1,6 +1,6 @@
 -- `px_lanes::row_quads` meets its contract. The loop's invariant: the first 4 z columns are summed. Assumes nothing.
 use mathlib.Core.Path.{◌≡◌}
-use Prim.Native.Nat.{◌-◌, ◌*◌, ◌≤◌}
+use Prim.Native.Nat.{◌*◌, ◌≤◌}
 use lib.ListN.{length}
 use Rattle.transposing.specs.Words.{Begins}
 use Rattle.px_lanes.specs.Laid.{quad_at}

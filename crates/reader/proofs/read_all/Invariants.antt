@@ -1,5 +1,5 @@
 -- `read_all` ends, and is safe. The loop's invariant: no buffer's length changes. Assumes nothing.
-use Rattle.std.specs.Prelude.{length, ◌-◌, ◌≡◌}
+use Rattle.std.specs.Prelude.{length, ◌≡◌}
 use Rattle.reader.proofs.read_all.Given as goal
 
 abbrev pub invariant-loop-frame : goal.invariant-loop-frame

@@ -1,7 +1,7 @@
 -- `first_one` meets its contract. The loop's invariant: no cell below c is 1. Assumes nothing.
 use mathlib.Core.Path.{◌≡◌}
 use mathlib.Core.Bool.{false}
-use Prim.Native.Nat.{ℕ, ◌-◌, ◌≤◌, ◌<◌}
+use Prim.Native.Nat.{ℕ, ◌≤◌, ◌<◌}
 use Rattle.recover.specs.Rooms.{is_one}
 use Rattle.recover.proofs.first_one.Given as goal
 

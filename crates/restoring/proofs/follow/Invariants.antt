@@ -1,6 +1,6 @@
 -- `restoring::follow` meets its contract. The loop's invariant: j bits are written, r is the register after them, and the path forked nowhere. Assumes nothing.
 use mathlib.Core.Path.{◌≡◌}
-use Prim.Native.Nat.{ℕ, ◌<◌, ◌≤◌, ◌-◌}
+use Prim.Native.Nat.{ℕ, ◌<◌, ◌≤◌}
 use lib.ListN.{length}
 use Rattle.bits.specs.Bits.{Bytes, bit_at, written}
 use Rattle.restoring.specs.Reaching.{gone, went, zeros, Fork}

@@ -1,6 +1,6 @@
 -- `restoring::reach_last` meets its contract. The loop's invariant: r sets are written. Assumes nothing.
 use mathlib.Core.Path.{◌≡◌}
-use Prim.Native.Nat.{ℕ, ◌+◌, ◌^◌, ◌<◌, ◌≤◌, ◌-◌}
+use Prim.Native.Nat.{ℕ, ◌+◌, ◌^◌, ◌<◌, ◌≤◌}
 use lib.ListN.{length, get_or}
 use Rattle.restoring.proofs.reach_last.Given as goal
 

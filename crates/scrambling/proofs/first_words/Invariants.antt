@@ -1,7 +1,7 @@
 -- `scrambling::first_words` meets its contract. The loop's invariant: the first w words stand in the ring, and the register is the one after them.
 -- Assumes nothing.
 use mathlib.Core.Path.{◌≡◌}
-use Prim.Native.Nat.{ℕ, ◌-◌, ◌*◌, ◌≤◌, ◌<◌}
+use Prim.Native.Nat.{ℕ, ◌*◌, ◌≤◌, ◌<◌}
 use lib.ListN.{length, get_or}
 use Rattle.scrambling.specs.Scrambler.{register}
 use Rattle.scrambling.specs.Words.{word_of}

@@ -1,7 +1,7 @@
 -- `scrambling::next_word` meets its contract. The loop's invariant: after k turns the word holds k bits of the sequence, wherever the register stood in it.
 -- Assumes nothing.
 use mathlib.Core.Path.{◌≡◌}
-use Prim.Native.Nat.{ℕ, ◌≤◌, ◌<◌, ◌+◌, ◌-◌, ◌^◌}
+use Prim.Native.Nat.{ℕ, ◌≤◌, ◌<◌, ◌+◌, ◌^◌}
 use Rattle.bits.specs.Bits.{number}
 use Rattle.scrambling.specs.Scrambler.{register, sequence}
 use Rattle.scrambling.proofs.next_word.Given as goal

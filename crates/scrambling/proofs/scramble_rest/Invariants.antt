@@ -1,6 +1,6 @@
 -- `scrambling::scramble_rest` meets its contract. The loop's invariant: the first i bytes are written, and i has not left the word that is given.
 -- Assumes nothing.
-use Prim.Native.Nat.{◌-◌, ◌*◌, ◌/◌, ◌≤◌}
+use Prim.Native.Nat.{◌*◌, ◌/◌, ◌≤◌}
 use lib.ListN.{length}
 use Rattle.bits.specs.Bits.{bit_at}
 use Rattle.bits.proofs.Stores.{Stored}

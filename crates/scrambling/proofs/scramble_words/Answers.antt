@@ -1,4 +1,4 @@
-use mathlib.Core.Path.{◌≡◌, refl, ap, ap₂, ◌∙◌, subst}
+use mathlib.Core.Path.{◌≡◌, refl, ap₂, ◌∙◌, subst}
 use Prim.Native.Nat.{ℕ, ◌+◌, ◌*◌, ◌/◌}
 use native.Mathlib.Omega.{arith}
 use lib.ListN.{length, length-set, take}
@@ -8,9 +8,8 @@ use Rattle.bits.specs.Bits.{bit_at, packed}
 use Rattle.bits.proofs.Packed.{bit_at_lt}
 use Rattle.bits.proofs.Stores.{stored-none}
 use Rattle.scrambling.specs.Scrambler.{scrambled}
-use Rattle.scrambling.specs.Words.{word_of}
 use Rattle.scrambling.proofs.Laws.{scrambled-bit}
-use Rattle.scrambling.proofs.Words.{word-law, index_below, offset-below, ahead-at, ahead-first, ahead-turn, scrambled-word}
+use Rattle.scrambling.proofs.Words.{word-law, index_below, ahead-at, ahead-first, ahead-turn, scrambled-word}
 use Rattle.scrambling.proofs.scramble_words.Goals as goal
 
 pub loop-w-init : goal.loop-w-init

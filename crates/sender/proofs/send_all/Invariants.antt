@@ -1,5 +1,5 @@
 -- `send_all` ends, and is safe. The loop's invariant: no buffer's length changes. Assumes nothing.
-use Rattle.std.specs.Prelude.{length, ◌-◌, ◌≡◌}
+use Rattle.std.specs.Prelude.{length, ◌≡◌}
 use Rattle.sender.proofs.send_all.Given as goal
 
 abbrev pub invariant-loop-frame : goal.invariant-loop-frame

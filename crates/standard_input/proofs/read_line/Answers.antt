@@ -7,18 +7,6 @@ use Rattle.standard_input.proofs.read_line.Goals as goal
 pub loop-init : goal.loop-init
 loop-init g c = (omega arith, refl)
 
-pub shape_of-text-then-read_full-eq0 : goal.shape_of-text-then-read_full-eq0
-shape_of-text-then-read_full-eq0 g c = c.loop.invariant.1
-
-pub returns-then-read_full-eq0 : goal.returns-then-read_full-eq0
-returns-then-read_full-eq0 g c = prefix_len_of_le _ _ c.loop.invariant.0
-
-pub shape_of-text-then-one-eq10 : goal.shape_of-text-then-one-eq10
-shape_of-text-then-one-eq10 g c = c.loop.invariant.1
-
-pub returns-then-one-eq10 : goal.returns-then-one-eq10
-returns-then-one-eq10 g c = prefix_len_of_le _ _ c.loop.invariant.0
-
 pub keep-n-requires : goal.keep-n-requires
 keep-n-requires g c = c.loop.invariant.0
 

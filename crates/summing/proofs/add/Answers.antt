@@ -1,5 +1,4 @@
 use native.Mathlib.Omega.{arith}
-use lib.ListN.{length-set}
 use Rattle.bits.proofs.Stores.{stored-all}
 use Rattle.summing.specs.Sums.{sum_of}
 use Rattle.summing.proofs.Added.{adding-none, adding-turn}

@@ -1,6 +1,4 @@
 -- `add` meets its contract. The loop's invariant: the first i bytes are those of the sum, and the others as they were. Assumes nothing.
-use Prim.Native.Nat.{◌-◌}
-use lib.ListN.{length}
 use Rattle.summing.proofs.Added.{Adding}
 use Rattle.summing.proofs.add.Given as goal
 

@@ -1,6 +1,6 @@
 -- `transposing::store_word` meets its contract. The loop's invariant: u bytes more are written. Assumes nothing.
 use mathlib.Core.Path.{◌≡◌}
-use Prim.Native.Nat.{ℕ, ◌≤◌, ◌<◌, ◌+◌, ◌-◌}
+use Prim.Native.Nat.{ℕ, ◌≤◌, ◌<◌, ◌+◌}
 use lib.ListN.{length}
 use Rattle.transposing.specs.Words.{Begins, eight}
 use Rattle.transposing.proofs.store_word.Given as goal

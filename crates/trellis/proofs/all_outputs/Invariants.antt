@@ -1,6 +1,6 @@
 -- `trellis::all_outputs` meets its contract. The loop's invariant: the outputs of the first w windows are found. Assumes nothing.
 use mathlib.Core.Path.{◌≡◌}
-use Prim.Native.Nat.{ℕ, ◌<◌, ◌≤◌, ◌-◌}
+use Prim.Native.Nat.{ℕ, ◌<◌, ◌≤◌}
 use lib.ListN.{length, get_or}
 use Rattle.trellis.specs.Trellis.{outputs_of}
 use Rattle.trellis.proofs.all_outputs.Given as goal

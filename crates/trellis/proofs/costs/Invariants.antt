@@ -1,6 +1,6 @@
 -- `trellis::costs` meets its contract. The loop's invariant: the costs of the first j steps are found. Assumes nothing.
 use mathlib.Core.Path.{◌≡◌}
-use Prim.Native.Nat.{ℕ, ◌<◌, ◌≤◌, ◌-◌}
+use Prim.Native.Nat.{ℕ, ◌<◌, ◌≤◌}
 use lib.ListN.{length}
 use Rattle.trellis.specs.Trellis.{cost, tabled}
 use Rattle.trellis.proofs.costs.Given as goal

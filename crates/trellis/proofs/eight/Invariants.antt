@@ -1,6 +1,6 @@
 -- `trellis::eight` meets its contract. The loop's invariant: the first y costs are found. Assumes nothing.
 use mathlib.Core.Path.{◌≡◌}
-use Prim.Native.Nat.{ℕ, ◌<◌, ◌≤◌, ◌-◌}
+use Prim.Native.Nat.{ℕ, ◌<◌, ◌≤◌}
 use lib.ListN.{length, get_or}
 use Rattle.trellis.specs.Trellis.{cost_by}
 use Rattle.trellis.proofs.eight.Given as goal

@@ -1,6 +1,6 @@
 -- `trellis::fill` meets its contract. The loop's invariant: w costs are written, and those of earlier steps stand. Assumes nothing.
 use mathlib.Core.Path.{◌≡◌}
-use Prim.Native.Nat.{ℕ, ◌+◌, ◌<◌, ◌≤◌, ◌-◌}
+use Prim.Native.Nat.{ℕ, ◌+◌, ◌<◌, ◌≤◌}
 use lib.ListN.{length, get_or}
 use Rattle.trellis.specs.Trellis.{outputs_of}
 use Rattle.trellis.proofs.fill.Given as goal

@@ -1,6 +1,6 @@
 -- `trellis::follow` meets its contract. The loop's invariant: j bits are written, and r is the register after them. Assumes nothing.
 use mathlib.Core.Path.{◌≡◌}
-use Prim.Native.Nat.{ℕ, ◌<◌, ◌≤◌, ◌-◌}
+use Prim.Native.Nat.{ℕ, ◌<◌, ◌≤◌}
 use lib.ListN.{length}
 use Rattle.bits.specs.Bits.{Bytes, bit_at, written}
 use Rattle.trellis.specs.Trellis.{tabled, Kept, walked, walk}

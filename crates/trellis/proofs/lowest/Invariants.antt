@@ -1,5 +1,5 @@
 -- `trellis::lowest` meets its contract. The loop's invariant: m is the least of the first r scores. Assumes nothing.
-use Prim.Native.Nat.{◌≤◌, ◌-◌}
+use Prim.Native.Nat.{◌≤◌}
 use Rattle.trellis.specs.Trellis.{LeastScore}
 use Rattle.trellis.proofs.lowest.Given as goal
 

@@ -1,6 +1,6 @@
 -- `trellis::step` meets its contract. The loop's invariant: the first r scores of each half are found. Assumes nothing.
 use mathlib.Core.Path.{◌≡◌}
-use Prim.Native.Nat.{ℕ, ◌+◌, ◌<◌, ◌≤◌, ◌-◌}
+use Prim.Native.Nat.{ℕ, ◌+◌, ◌<◌, ◌≤◌}
 use lib.ListN.{length, get_or}
 use Rattle.trellis.specs.Trellis.{score_before}
 use Rattle.trellis.proofs.step.Given as goal

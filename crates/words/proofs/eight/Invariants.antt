@@ -1,5 +1,5 @@
 -- `eight` meets its contract. The loop's invariant: the first d numbers are in place. Assumes nothing.
-use Prim.Native.Nat.{◌*◌, ◌-◌, ◌/◌, ◌%◌, ◌^◌, ◌≤◌}
+use Prim.Native.Nat.{◌*◌, ◌/◌, ◌%◌, ◌^◌, ◌≤◌}
 use Rattle.bits.proofs.Listed.{Filled}
 use Rattle.words.proofs.eight.Given as goal
 

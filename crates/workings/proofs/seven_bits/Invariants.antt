@@ -1,5 +1,5 @@
 -- `seven_bits` meets its contract. The loop's invariant: the first d are in place. Assumes nothing.
-use Prim.Native.Nat.{◌+◌, ◌-◌, ◌≤◌}
+use Prim.Native.Nat.{◌+◌, ◌≤◌}
 use Rattle.bits.proofs.Listed.{Filled}
 use Rattle.coding.specs.Coder.{back}
 use Rattle.bits.specs.Bits.{bit_at}

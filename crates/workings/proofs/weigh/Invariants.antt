@@ -1,6 +1,6 @@
 -- `weigh` meets its contract. The loop's invariant: the sum of the first d terms. Assumes nothing.
 use mathlib.Core.Path.{◌≡◌}
-use Prim.Native.Nat.{◌+◌, ◌-◌, ◌*◌, ◌≤◌}
+use Prim.Native.Nat.{◌+◌, ◌*◌, ◌≤◌}
 use lib.ListN.{get_or}
 use Rattle.coding.specs.Coder.{tap}
 use Rattle.workings.proofs.Sums.{added}

@@ -1,6 +1,6 @@
 -- `past_spaces` meets its contract. The loop's invariant: the text after i spaces begins at `at`. Assumes nothing.
 use mathlib.Core.Path.{◌≡◌}
-use Prim.Native.Nat.{◌-◌, ◌≤◌}
+use Prim.Native.Nat.{◌≤◌}
 use lib.ListN.{length, drop}
 use Rattle.placelines.specs.Read.{after_spaces}
 use Rattle.placelines.proofs.fields.past_spaces.Given as goal

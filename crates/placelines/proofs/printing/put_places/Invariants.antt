@@ -1,5 +1,5 @@
 -- `put_places` meets its contract. The loop's invariant: the first k places are put. Assumes nothing.
-use Prim.Native.Nat.{◌*◌, ◌-◌, ◌≤◌}
+use Prim.Native.Nat.{◌*◌, ◌≤◌}
 use Rattle.text.specs.Put.{Put}
 use Rattle.placelines.specs.Printed.{spelled_places}
 use Rattle.placelines.proofs.printing.put_places.Given as goal

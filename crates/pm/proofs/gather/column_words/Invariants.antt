@@ -1,6 +1,6 @@
 -- `pm::gather::column_words` meets its contract. The loop's invariant: j words are made. Assumes nothing.
 use mathlib.Core.Path.{◌≡◌}
-use Prim.Native.Nat.{ℕ, ◌≤◌, ◌<◌, ◌-◌}
+use Prim.Native.Nat.{ℕ, ◌≤◌, ◌<◌}
 use lib.ListN.{length}
 use Rattle.transposing.specs.Words.{Begins}
 use Rattle.pm.specs.Rows.{nibble_in, word_in}

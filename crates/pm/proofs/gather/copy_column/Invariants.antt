@@ -1,6 +1,6 @@
 -- `pm::gather::copy_column` meets its contract. The loop's invariant: j bytes are written. Assumes nothing.
 use mathlib.Core.Path.{◌≡◌}
-use Prim.Native.Nat.{ℕ, ◌≤◌, ◌<◌, ◌+◌, ◌-◌}
+use Prim.Native.Nat.{ℕ, ◌≤◌, ◌<◌, ◌+◌}
 use lib.ListN.{length, get_or}
 use Rattle.transposing.specs.Words.{quad}
 use Rattle.pm.specs.Rows.{Changed}

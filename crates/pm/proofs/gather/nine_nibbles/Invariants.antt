@@ -1,6 +1,6 @@
 -- `pm::gather::nine_nibbles` meets its contract. The loop's invariant: x nibbles more are read. Assumes nothing.
 use mathlib.Core.Path.{◌≡◌}
-use Prim.Native.Nat.{ℕ, ◌≤◌, ◌<◌, ◌+◌, ◌-◌, ◌*◌}
+use Prim.Native.Nat.{ℕ, ◌≤◌, ◌<◌, ◌+◌, ◌*◌}
 use lib.ListN.{length}
 use Rattle.bits.specs.Bits.{bit_at, number}
 use Rattle.transposing.specs.Words.{Begins}

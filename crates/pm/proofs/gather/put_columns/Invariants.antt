@@ -1,6 +1,6 @@
 -- `pm::gather::put_columns` meets its contract. The loop's invariant: the columns before 4 x are written. Assumes nothing.
 use mathlib.Core.Path.{◌≡◌}
-use Prim.Native.Nat.{ℕ, ◌≤◌, ◌<◌, ◌+◌, ◌-◌, ◌*◌}
+use Prim.Native.Nat.{ℕ, ◌≤◌, ◌<◌, ◌+◌, ◌*◌}
 use lib.ListN.{length}
 use Rattle.transposing.specs.Words.{Begins}
 use Rattle.pm.specs.Rows.{nibble_in, ColumnsDone}

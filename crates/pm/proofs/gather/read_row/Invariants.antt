@@ -1,6 +1,6 @@
 -- `pm::gather::read_row` meets its contract. The loop's invariant: the nibbles of the first t numbers are read. Assumes nothing.
 use mathlib.Core.Path.{◌≡◌}
-use Prim.Native.Nat.{◌≤◌, ◌-◌, ◌*◌}
+use Prim.Native.Nat.{◌≤◌, ◌*◌}
 use lib.ListN.{length}
 use Rattle.bits.specs.Bits.{bit_at}
 use Rattle.transposing.specs.Words.{Begins}

@@ -1,6 +1,6 @@
 -- `pm::scatter::row_nibbles` meets its contract. The loop's invariant: the nibbles of 4 x columns are written. Assumes nothing.
 use mathlib.Core.Path.{◌≡◌}
-use Prim.Native.Nat.{◌≤◌, ◌-◌, ◌*◌}
+use Prim.Native.Nat.{◌≤◌, ◌*◌}
 use lib.ListN.{length}
 use Rattle.bits.specs.Bits.{bit_at}
 use Rattle.transposing.specs.Words.{Begins}

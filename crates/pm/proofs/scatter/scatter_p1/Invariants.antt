@@ -1,6 +1,6 @@
 -- `pm::scatter::scatter_p1` meets its contract. The loop's invariant: the rows before row r of every block are written. Assumes nothing.
 use mathlib.Core.Path.{◌≡◌}
-use Prim.Native.Nat.{◌≤◌, ◌-◌}
+use Prim.Native.Nat.{◌≤◌}
 use lib.ListN.{length}
 use Rattle.bits.specs.Bits.{bit_at}
 use Rattle.pm.specs.Rows.{RowsDone}

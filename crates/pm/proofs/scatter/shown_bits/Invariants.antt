@@ -1,6 +1,6 @@
 -- `pm::scatter::shown_bits` meets its contract. The loop's invariant: the first i are found. Assumes nothing.
 use mathlib.Core.Path.{◌≡◌}
-use Prim.Native.Nat.{◌≤◌, ◌-◌, ◌/◌, ◌%◌}
+use Prim.Native.Nat.{◌≤◌, ◌/◌, ◌%◌}
 use lib.ListN.{length}
 use Rattle.transposing.specs.Words.{Begins}
 use Rattle.pm.specs.Rows.{shown_of}

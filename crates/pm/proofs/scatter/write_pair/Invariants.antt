@@ -1,6 +1,6 @@
 -- `pm::scatter::write_pair` meets its contract. The loop's invariant: y bytes are written. Assumes nothing.
 use mathlib.Core.Path.{◌≡◌}
-use Prim.Native.Nat.{ℕ, ◌≤◌, ◌<◌, ◌+◌, ◌-◌, ◌*◌}
+use Prim.Native.Nat.{ℕ, ◌≤◌, ◌<◌, ◌+◌, ◌*◌}
 use lib.ListN.{length, get_or}
 use Rattle.pm.specs.Rows.{Changed, seat_of}
 use Rattle.pm.proofs.scatter.write_pair.Given as goal

@@ -1,6 +1,6 @@
 -- `pm::scatter::write_row` meets its contract. The loop's invariant: the first i pairs of partitions of the row are written. Assumes nothing.
 use mathlib.Core.Path.{◌≡◌}
-use Prim.Native.Nat.{ℕ, ◌≤◌, ◌-◌}
+use Prim.Native.Nat.{ℕ, ◌≤◌}
 use lib.ListN.{length}
 use Rattle.transposing.specs.Words.{Begins}
 use Rattle.pm.specs.Rows.{nibble_for, RowsDone}

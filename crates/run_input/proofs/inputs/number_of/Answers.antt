@@ -1,5 +1,5 @@
 -- `number_of` meets its contract: past the end of the input the number is 0. Assumes nothing.
-use mathlib.Core.Path.{refl, sym}
+use mathlib.Core.Path.{sym}
 use native.Mathlib.Omega.{arith}
 use lib.ListN.{get_or-eq_default}
 use Rattle.run_input.proofs.inputs.number_of.Goals as goal

@@ -1,6 +1,5 @@
 -- `put_frames` meets its contract. The loop's invariant: the L1 frames before t are sent and their answers put, and there is room for those that are left. Assumes nothing.
 use mathlib.Core.Path.{◌≡◌}
-use Prim.Native.Nat.{◌-◌}
 use lib.ListN.{length, take}
 use Rattle.calls.specs.Called.{memory}
 use Rattle.sheetinputs.specs.Inputs.{frame_size}

@@ -1,6 +1,6 @@
 -- `put_lines` meets its contract. The loop's invariant: the lines of the first k elements are put. Assumes nothing.
 use mathlib.Core.Path.{◌≡◌}
-use Prim.Native.Nat.{◌*◌, ◌-◌, ◌≤◌}
+use Prim.Native.Nat.{◌*◌, ◌≤◌}
 use lib.ListN.{length, take}
 use Rattle.vector_step.specs.Printed.{lines}
 use Rattle.vector_step.proofs.lines.put_lines.Given as goal

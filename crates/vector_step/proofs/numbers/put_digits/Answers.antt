@@ -16,14 +16,23 @@ returns-then-left-eq0 c =
     let l = c.loop-k in
     digits-done _ l.out _ _ l.k l.left l.end l.invariant.1 l.invariant.2 l.invariant.4 (digits-none l.k l.left c.if-left-eq0.true)
 
+pub power-unit-requires : goal.power-unit-requires
+power-unit-requires c = omega arith
+
 pub nonzero_div-left : goal.nonzero_div-left
 nonzero_div-left c = unit-pos c.loop-k.k _ c.power-unit.ensures
 
 pub digit-requires : goal.digit-requires
 digit-requires c = digit-small c.loop-k.k _ c.power-unit.ensures c.loop-k.left (search rules) c.loop-k.invariant.3
 
+pub bounds-out-end : goal.bounds-out-end
+bounds-out-end c = omega arith
+
 pub nonzero_rem-left : goal.nonzero_rem-left
 nonzero_rem-left c = unit-pos c.loop-k.k _ c.power-unit.ensures
+
+pub overflow_add-end : goal.overflow_add-end
+overflow_add-end c = omega arith
 
 pub loop-k-preserved : goal.loop-k-preserved
 loop-k-preserved c =
