@@ -3,11 +3,10 @@ use Rattle.std.specs.Prelude.{List, ℕ, ◌≡◌, length}
 use Rattle.std.specs.Borrow.{MutBor}
 use Rattle.runs.specs.Lent.{Frames, Lent, Matrices, Memory, Result, Signal}
 use Rattle.runs.specs.Starting.{Started}
-use Rattle.calls.specs.declared.buffers.Frames.{Frames as FramesRefs}
 use Rattle.calls.specs.declared.buffers.FramesMut.{FramesMut}
-use Rattle.calls.specs.declared.buffers.Memory.{Memory as MemoryMut}
+use Rattle.calls.specs.declared.buffers.Memory.{Memory as MemoryRefs}
+use Rattle.calls.specs.declared.buffers.MemoryMut.{MemoryMut}
 use Rattle.calls.specs.declared.buffers.Signal.{Signal as SignalRefs}
-use Rattle.calls.specs.declared.buffers.SignalMut.{SignalMut}
 use Rattle.calls.specs.declared.states.Outcome.{Outcome}
 use Rattle.calls.specs.declared.states.ReadOutcome.{ReadOutcome}
 
@@ -43,25 +42,19 @@ read_gave o m l = record { answer = o.answer; state = o.state; memory = m; lent 
 
 -- ---- what the references of a struct of buffers point to
 
-abbrev pub frames_behind : ℕ → FramesRefs → Frames
-frames_behind reserved f = frames reserved f.p1.now f.pids.now f.p2.now f.p3.now f.p4.now
-
 abbrev pub frames_behind_mut : ℕ → FramesMut → Frames
 frames_behind_mut reserved f = frames reserved f.p1.now f.pids.now f.p2.now f.p3.now f.p4.now
 
 abbrev pub signal_behind : SignalRefs → Signal
 signal_behind g = signal g.pm.now g.px1.now g.px2.now g.control.now
 
-abbrev pub signal_behind_mut : SignalMut → Signal
-signal_behind_mut g = signal g.pm.now g.px1.now g.px2.now g.control.now
-
-abbrev pub memory_behind : MemoryMut → Memory
+abbrev pub memory_behind : MemoryRefs → Memory
 memory_behind m = memory m.for3.now m.for4.now m.delayed.now
 
--- what is lent to a sending, and to a reading
-abbrev pub lent_to_send : ℕ → FramesRefs → SignalMut → Lent
-lent_to_send reserved f g = record { frames = frames_behind reserved f; signal = signal_behind_mut g }
+abbrev pub memory_behind_mut : MemoryMut → Memory
+memory_behind_mut m = memory m.for3.now m.for4.now m.delayed.now
 
+-- what is lent to a reading
 abbrev pub lent_to_read : ℕ → FramesMut → SignalRefs → Lent
 lent_to_read reserved f g = record { frames = frames_behind_mut reserved f; signal = signal_behind g }
 
@@ -78,12 +71,6 @@ pub record SameFrames (a b : FramesMut) : Type 0 where
   pub p2 : SameBuffer a.p2 b.p2
   pub p3 : SameBuffer a.p3 b.p3
   pub p4 : SameBuffer a.p4 b.p4
-
-pub record SameSignal (a b : SignalMut) : Type 0 where
-  pub pm : SameBuffer a.pm b.pm
-  pub px1 : SameBuffer a.px1 b.px1
-  pub px2 : SameBuffer a.px2 b.px2
-  pub control : SameBuffer a.control b.control
 
 pub record SameMemory (a b : MemoryMut) : Type 0 where
   pub for3 : SameBuffer a.for3 b.for3

@@ -1,14 +1,4 @@
-// The buffers that travel together through a sending and a reading, as `runs/specs/Lent.antt` gathers them. Where C calls, they are lent one by one.
-
-// The transfer frames that a sending is handed.
-#[derive(Clone, Copy)]
-pub struct Frames<'a> {
-    pub p1: &'a [u8],
-    pub pids: &'a [u8],
-    pub p2: &'a [u8],
-    pub p3: &'a [u8],
-    pub p4: &'a [u8],
-}
+// The buffers that travel together through a reading, as `runs/specs/Lent.antt` gathers them. Where C calls, they are lent one by one.
 
 // Where a reading puts the transfer frames.
 #[derive(Drop)]
@@ -29,18 +19,17 @@ pub struct Signal<'a> {
     pub control: &'a [u8],
 }
 
-// Where a sending puts the matrices and the control sequences.
-#[derive(Drop)]
-pub struct SignalMut<'a> {
-    pub pm: &'a mut [u8],
-    pub px1: &'a mut [u8],
-    pub px2: &'a mut [u8],
-    pub control: &'a mut [u8],
+// The memory of a side: for P3, for P4, and the scrambled P1 frames that wait.
+#[derive(Clone, Copy)]
+pub struct Memory<'a> {
+    pub for3: &'a [u8],
+    pub for4: &'a [u8],
+    pub delayed: &'a [u8],
 }
 
-// The memory of a side: for P3, for P4, and the scrambled P1 frames that wait.
+// The same, to be written.
 #[derive(Drop)]
-pub struct Memory<'a> {
+pub struct MemoryMut<'a> {
     pub for3: &'a mut [u8],
     pub for4: &'a mut [u8],
     pub delayed: &'a mut [u8],

@@ -7,6 +7,6 @@ mod starting;
 mod states;
 
 pub use admission::admit;
-pub use buffers::{Frames, FramesMut, Memory, Signal, SignalMut};
+pub use buffers::{FramesMut, Memory, MemoryMut, Signal};
 pub use starting::{start_reader, start_sender};
 pub use states::{Outcome, ReadOutcome, is_valid, next_of};

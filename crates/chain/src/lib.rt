@@ -13,10 +13,8 @@ ghost use Rattle.runs.specs.Chain.{mem_of, pm_of, px_of};
 ghost use Rattle.runs.specs.Paths.{oldest, p1'_of, scrambled_of, waiting};
 ghost use Rattle.runs.specs.Lengths.{frame_len, matrix_len, sender_len};
 ghost use Rattle.runs.specs.Lent.{or_zeros};
-ghost use Rattle.calls.specs.Called.{SameMemory};
 ghost use Rattle.chain.specs.Rooms.{Meant, PxRoom, Split};
 
-use calls::{Frames, Memory};
 use coding::Rate;
 use modes::{matrix_len, table_row};
 use runs::{Kind, Main};
@@ -50,42 +48,35 @@ fn write_alone(p1: &[u8], pids: &[u8], pm: &mut [u8])
     pm::interleave(&coded, pids, pm);
 }
 
-// The same from P1 and P2 of the frames; the scrambled P1 frames join the delay memory (section 9.2).
-fn write_beside(main: Main, frames: &Frames, coded16: &[u8], delay: &mut [u8], pm: &mut [u8])
-    requires { (length frames.now.p1.now ≡ p1_len main) × (length frames.now.p2.now ≡ p2_len main) × (length frames.now.p2.now ≡ 0 → ⊥) × (length coded16.now ≡ 400)
+// The same from P1 and P2; the scrambled P1 frames join the delay memory (section 9.2).
+fn write_beside(main: Main, p1: &[u8], p2: &[u8], pids: &[u8], delay: &mut [u8], pm: &mut [u8])
+    requires { (length p1.now ≡ p1_len main) × (length p2.now ≡ p2_len main) × (length p2.now ≡ 0 → ⊥) × (length pids.now ≡ 400)
         × (length delay.old ≡ delay_len main) × (length pm.old ≡ 46080) }
-    ensures { (delay.new ≡ waiting main delay.old (scrambled_of main frames.now.p1.now))
-        × ((c : List ℕ) → coded16.now ≡ packed 400 (channel TwoFifths 80 (bit_at c))
-        → pm.new ≡ pm_of main frames.now.p1.now frames.now.p2.now c) }
+    ensures { (delay.new ≡ waiting main delay.old (scrambled_of main p1.now))
+        × ((c : List ℕ) → pids.now ≡ packed 400 (channel TwoFifths 80 (bit_at c))
+        → pm.new ≡ pm_of main p1.now p2.now c) }
 {
-    let n = frames.p1.len();
+    let n = p1.len();
     let mut coded = [0u8; 45680];
-    multiplex(n / 8, frames.p1, frames.p2, &mut pm[..18272], &mut coded);
+    multiplex(n / 8, p1, p2, &mut pm[..18272], &mut coded);
     diversity::push_delay(main, &pm[..n], delay);
-    pm::interleave(&coded, coded16, pm);
+    pm::interleave(&coded, pids, pm);
 }
 
 // Writes PM: P1, P2 and PIDS scrambled, coded and interleaved (section 10.4.1). P1 alone and P1 with P2 have a function each, which both call the interleaver:
 // so its tables are on the stack while it works, and not beneath PX and P1' too.
-pub fn write_pm(main: Main, frames: &Frames, delay: &mut [u8], pm: &mut [u8])
-    requires { (length frames.now.p1.now ≡ p1_len main) × (length frames.now.p2.now ≡ p2_len main) × (length frames.now.pids.now ≡ 160) × (length delay.old ≡ delay_len main) × (length pm.old ≡ 46080) }
-    ensures { (delay.new ≡ waiting main delay.old (scrambled_of main frames.now.p1.now)) × (pm.new ≡ pm_of main frames.now.p1.now frames.now.p2.now frames.now.pids.now) }
+pub fn write_pm(main: Main, p1: &[u8], p2: &[u8], pids: &[u8], delay: &mut [u8], pm: &mut [u8])
+    requires { (length p1.now ≡ p1_len main) × (length p2.now ≡ p2_len main) × (length pids.now ≡ 160) × (length delay.old ≡ delay_len main) × (length pm.old ≡ 46080) }
+    ensures { (delay.new ≡ waiting main delay.old (scrambled_of main p1.now)) × (pm.new ≡ pm_of main p1.now p2.now pids.now) }
 {
     let mut mixed16 = [0u8; 160];
     let mut coded16 = [0u8; 400];
-    coding::encode_channel(
-        Rate::TwoFifths,
-        10,
-        16,
-        frames.pids,
-        &mut mixed16,
-        &mut coded16,
-    );
-    if frames.p2.len() == 0 {
-        write_alone(frames.p1, &coded16, pm);
+    coding::encode_channel(Rate::TwoFifths, 10, 16, pids, &mut mixed16, &mut coded16);
+    if p2.len() == 0 {
+        write_alone(p1, &coded16, pm);
         return;
     }
-    write_beside(main, frames, &coded16, delay, pm);
+    write_beside(main, p1, p2, &coded16, delay, pm);
 }
 
 // Scrambles the eight frames of an extended channel. Where there are no data, they are frames of zeros (document 02, S-5).
@@ -147,24 +138,21 @@ pub fn write_px(kind: Kind, half: u8, frames: &[u8], px: &mut [u8], memory: &mut
     }
 }
 
-// Writes the matrices of P1', from the P1 frames that have waited longest. The memory is lent as `&`: of a field that is lent as `&` from behind `&mut`, the
-// prover learns no more than the length afterwards.
-fn write_second_path(main: Main, memory: &Memory, px: &mut [u8])
-    requires { (length memory.now.delayed.now ≡ delay_len main) × (length px.old ≡ p1'_len main) }
-    ensures { (s : List ℕ) → px.new ≡ p1'_of main (oldest main memory.now.delayed.now s) }
-{
-    diversity::write_delayed(main, memory.delayed, px);
-}
-
 // Writes PX2: the matrices of P4, and then those of P1', from the P1 frames that have waited longest. No mode has both.
-pub fn write_px2(main: Main, kind: Kind, half: u8, p4: &[u8], px2: &mut [u8], memory: &mut Memory)
-    requires { (half < 2) × (length (or_zeros (frame_len kind) p4.now) ≡ frame_len kind) × (length memory.old.delayed.now ≡ delay_len main) × (length px2.old ≡ matrix_len kind + p1'_len main) × (length memory.old.for4.now ≡ sender_len kind) }
-    ensures by_index { (s : List ℕ) → px2.new ≡ px_of kind half memory.old.for4.now (or_zeros (frame_len kind) p4.now) ++ p1'_of main (oldest main memory.old.delayed.now s) }
-    ensures memory_after { memory.new.for4.now ≡ mem_of kind half memory.old.for4.now (or_zeros (frame_len kind) p4.now) }
-    ensures others { (memory.new.for3.now ≡ memory.old.for3.now) × (memory.new.delayed.now ≡ memory.old.delayed.now) }
-    ensures same { SameMemory memory.old memory.new }
+pub fn write_px2(
+    main: Main,
+    kind: Kind,
+    half: u8,
+    p4: &[u8],
+    delay: &[u8],
+    px2: &mut [u8],
+    memory: &mut [u8],
+)
+    requires { (half < 2) × (length (or_zeros (frame_len kind) p4.now) ≡ frame_len kind) × (length delay.now ≡ delay_len main) × (length px2.old ≡ matrix_len kind + p1'_len main) × (length memory.old ≡ sender_len kind) }
+    ensures by_index { (s : List ℕ) → px2.new ≡ px_of kind half memory.old (or_zeros (frame_len kind) p4.now) ++ p1'_of main (oldest main delay.now s) }
+    ensures memory_after { memory.new ≡ mem_of kind half memory.old (or_zeros (frame_len kind) p4.now) }
 {
     let k = matrix_len(kind);
-    write_px(kind, half, p4, &mut px2[..k], memory.for4);
-    write_second_path(main, memory, &mut px2[k..]);
+    write_px(kind, half, p4, &mut px2[..k], memory);
+    diversity::write_delayed(main, delay, &mut px2[k..]);
 }

@@ -5,7 +5,7 @@ ghost use Rattle.std.specs.Prelude.{◌≡◌};
 ghost use Rattle.runs.specs.Reading.{read_step};
 ghost use Rattle.calls.specs.Called.{lent, memory, read_gave};
 
-use calls::{FramesMut, Memory, ReadOutcome, Signal, admit};
+use calls::{FramesMut, MemoryMut, ReadOutcome, Signal, admit};
 use causes::number;
 use modes::reader_lengths;
 use runs::State;
@@ -76,7 +76,7 @@ pub fn read(
         px2,
         control,
     };
-    let mut memory = Memory {
+    let mut memory = MemoryMut {
         for3: memory3,
         for4: memory4,
         delayed: delay,

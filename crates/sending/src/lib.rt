@@ -6,28 +6,48 @@ ghost use Rattle.runs.specs.Lengths.{sender_len};
 ghost use Rattle.runs.specs.Lent.{filled, meant, memory_next, signal_of};
 ghost use Rattle.runs.specs.Sending.{send_step};
 ghost use Rattle.calls.specs.Fits.{Fits};
-ghost use Rattle.calls.specs.Called.{SameMemory, SameSignal, frames_behind, gave, lent, lent_to_send, memory, memory_behind, signal_behind_mut};
+ghost use Rattle.calls.specs.Called.{frames, gave, lent, memory, signal};
 
-use calls::{Frames, Memory, Outcome, SignalMut, admit, next_of};
+use calls::{Outcome, admit, next_of};
 use causes::number;
 use modes::{kind_of, main_of, meant_len, sender_lengths};
 use runs::{Extended, State};
 
 // Writes the matrices and control sequences of an L1 frame, and the sender's memory.
-fn write(state: State, reserved: u8, frames: &Frames, signal: &mut SignalMut, memory: &mut Memory)
-    requires { Fits sender_len state (memory_behind memory.old) (meant state.mode (lent_to_send reserved frames.now signal.old)) }
-    ensures signal_after { signal_behind_mut signal.new ≡ signal_of state.mode state.half (memory_behind memory.old) (filled state.mode (frames_behind reserved frames.now)) }
-    ensures memory_after { memory_behind memory.new ≡ memory_next state.mode state.half (memory_behind memory.old) (filled state.mode (frames_behind reserved frames.now)) }
-    ensures same { SameSignal signal.old signal.new × SameMemory memory.old memory.new }
+fn write(
+    state: State,
+    reserved: u8,
+    p1: &[u8],
+    pids: &[u8],
+    p2: &[u8],
+    p3: &[u8],
+    p4: &[u8],
+    pm: &mut [u8],
+    px1: &mut [u8],
+    px2: &mut [u8],
+    control: &mut [u8],
+    memory3: &mut [u8],
+    memory4: &mut [u8],
+    delay: &mut [u8],
+)
+    requires { Fits sender_len state (memory memory3.old memory4.old delay.old) (meant state.mode (lent reserved p1.now pids.now p2.now p3.now p4.now pm.old px1.old px2.old control.old)) }
+    ensures control_after { signal pm.new px1.new px2.new control.new ≡ signal_of state.mode state.half (memory memory3.old memory4.old delay.old) (filled state.mode (frames reserved p1.now pids.now p2.now p3.now p4.now)) }
+    ensures delay_after { memory memory3.new memory4.new delay.new ≡ memory_next state.mode state.half (memory memory3.old memory4.old delay.old) (filled state.mode (frames reserved p1.now pids.now p2.now p3.now p4.now)) }
 {
     let main = main_of(state.mode);
     let half = state.half;
-    let kind3 = kind_of(state.mode, Extended::P3);
-    let kind4 = kind_of(state.mode, Extended::P4);
-    chain::write_px2(main, kind4, half, frames.p4, signal.px2, memory);
-    chain::write_pm(main, frames, memory.delayed, signal.pm);
-    chain::write_px(kind3, half, frames.p3, signal.px1, memory.for3);
-    control::fill_control(state.mode, reserved, signal.control);
+    chain::write_px2(
+        main,
+        kind_of(state.mode, Extended::P4),
+        half,
+        p4,
+        delay,
+        px2,
+        memory4,
+    );
+    chain::write_pm(main, p1, p2, pids, delay, pm);
+    chain::write_px(kind_of(state.mode, Extended::P3), half, p3, px1, memory3);
+    control::fill_control(state.mode, reserved, control);
 }
 
 // Sends an L1 frame: writes its matrices and control sequences from the transfer frames lent and its reserved number, and the sender's memory. Nothing lent for P3 or P4 stands for eight frames of zeros (document 02, S-5).
@@ -70,25 +90,9 @@ pub fn send(
     if number(answer) != 0 {
         return Outcome { answer, state };
     }
-    let frames = Frames {
-        p1,
-        pids,
-        p2,
-        p3,
-        p4,
-    };
-    let mut signal = SignalMut {
-        pm,
-        px1,
-        px2,
-        control,
-    };
-    let mut memory = Memory {
-        for3: memory3,
-        for4: memory4,
-        delayed: delay,
-    };
-    write(state, reserved, &frames, &mut signal, &mut memory);
+    write(
+        state, reserved, p1, pids, p2, p3, p4, pm, px1, px2, control, memory3, memory4, delay,
+    );
     Outcome {
         answer,
         state: next,

@@ -27,7 +27,7 @@ pub multiplex-requires : goal.multiplex-requires
 multiplex-requires c =
     let a = c.args in
     let pre = c.requires in
-    let h = shares a.main a.frames.now.p1.now a.frames.now.p2.now pre.0 pre.1 pre.2 in
+    let h = shares a.main a.p1.now a.p2.now pre.0 pre.1 pre.2 in
     let m = first-bytes a.pm.now pre.5 in
     let u = length-replicate {A = ℕ} 45680 0 in
     record {
@@ -41,7 +41,7 @@ multiplex-requires c =
 pub slice_bounds-push_delay-end : goal.slice_bounds-push_delay-end
 slice_bounds-push_delay-end c =
     let a = c.args in
-    room a.main a.frames.now.p1.now c.multiplex.new.mixed a.pm.now c.requires.0
+    room a.main a.p1.now c.multiplex.new.mixed a.pm.now c.requires.0
     c.multiplex.auto.mixed c.requires.5
 
 pub slice_bounds-push_delay-end-2 : goal.slice_bounds-push_delay-end-2
@@ -60,9 +60,9 @@ pub returns : goal.returns
 returns c =
     let a = c.args in
     let pre = c.requires in
-    let coded = split-coded a.main a.frames.now.p1.now a.frames.now.p2.now pre.0 pre.1 pre.2 _ _ _ (length-replicate {A = ℕ} 45680 0) c.multiplex.ensures in
+    let coded = split-coded a.main a.p1.now a.p2.now pre.0 pre.1 pre.2 _ _ _ (length-replicate {A = ℕ} 45680 0) c.multiplex.ensures in
     let long = c.multiplex.auto.mixed ∙ first-bytes a.pm.now pre.5 in (
       c.push_delay.ensures ∙ ap (waiting a.main a.delay.now)
-          (front_of a.main _ c.multiplex.new.mixed _ a.frames.now.p1.now long pre.0 coded.0),
-      λ pids e. c.interleave.ensures ∙ pm-from a.main a.frames.now.p1.now a.frames.now.p2.now pids _ _ coded.1 e,
+          (front_of a.main _ c.multiplex.new.mixed _ a.p1.now long pre.0 coded.0),
+      λ pids e. c.interleave.ensures ∙ pm-from a.main a.p1.now a.p2.now pids _ _ coded.1 e,
     )

@@ -2,7 +2,6 @@
 use mathlib.Core.Path.{sym, ◌∙◌}
 use native.Mathlib.Omega.{arith}
 use lib.Seq.{length-take-le}
-use borrow.Author.Rules.{rules}
 use Rattle.runs.specs.Lengths.{frame_len}
 use Rattle.runs.specs.Lent.{or_zeros}
 use Rattle.chain.proofs.Parts.{put-px2}
@@ -21,8 +20,6 @@ returns c =
     let k = c.matrix_len-k in
     let a = c.args in
     record {
-      by_index = (λ t. put-px2 a.kind a.half a.memory.now.for4.now (or_zeros (frame_len a.kind) a.p4.now) k.result c.write_px.new.px c.write_second_path.new.px a.px2.now _ k.ensures.0 c.write_px.ensures.0 (c.write_second_path.ensures t));
+      by_index = (λ t. put-px2 a.kind a.half a.memory.now (or_zeros (frame_len a.kind) a.p4.now) k.result c.write_px.new.px c.write_delayed.new.px2 a.px2.now _ k.ensures.0 c.write_px.ensures.0 (c.write_delayed.ensures t));
       memory_after = c.write_px.ensures.1;
-      others = search rules;
-      same = search rules;
     }

@@ -11,9 +11,9 @@ use Rattle.runs.specs.Lengths.{kind_of, reader_len}
 use Rattle.runs.specs.Lent.{Lent, Memory, Signal}
 use Rattle.runs.proofs.Bounds.{frame-le, p1-le, p2-le}
 use Rattle.calls.specs.declared.buffers.FramesMut.{FramesMut}
-use Rattle.calls.specs.declared.buffers.Memory.{Memory as MemoryMut}
+use Rattle.calls.specs.declared.buffers.MemoryMut.{MemoryMut}
 use Rattle.calls.specs.declared.states.ReadOutcome.{ReadOutcome}
-use Rattle.calls.specs.Called.{Buffer, frames, frames_behind_mut, lent, memory, memory_behind, read_gave}
+use Rattle.calls.specs.Called.{Buffer, frames, frames_behind_mut, lent, memory, memory_behind_mut, read_gave}
 use Rattle.calls.specs.Fits.{Fits}
 use Rattle.reading.proofs.ReadCases.{let-in, readable, turned_down}
 use Rattle.reading.proofs.read.Goals as goal
@@ -110,7 +110,7 @@ through : (r : ReadOutcome) (g : Signal) (f : FramesMut) (m : MemoryMut) {p1 pid
     → p1 ≡ f.p1.now → pids ≡ f.pids.now → p2 ≡ f.p2.now → p3 ≡ f.p3.now → p4 ≡ f.p4.now
     → memory3 ≡ m.for3.now → memory4 ≡ m.for4.now → delay ≡ m.delayed.now
     → read_gave r (memory memory3 memory4 delay) (record { frames = frames r.reserved p1 pids p2 p3 p4; signal = g })
-    ≡ read_gave r (memory_behind m) (record { frames = frames_behind_mut r.reserved f; signal = g })
+    ≡ read_gave r (memory_behind_mut m) (record { frames = frames_behind_mut r.reserved f; signal = g })
 through r g f m e1 e16 e2 e3 e4 em3 em4 ed =
     λ i. read_gave r (memory (em3 i) (em4 i) (ed i)) (record { frames = frames r.reserved (e1 i) (e16 i) (e2 i) (e3 i) (e4 i); signal = g })
 

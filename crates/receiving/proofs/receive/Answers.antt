@@ -1,7 +1,7 @@
 -- `receive` meets its contract: a refusal leaves everything, and a success leaves what the parts of the work ensure. Assumes nothing.
 use mathlib.Core.Path.{sym, ◌∙◌}
 use Rattle.runs.specs.Lent.{Lent, Memory}
-use Rattle.calls.specs.Called.{frames_behind_mut, lent_to_read, memory_behind}
+use Rattle.calls.specs.Called.{frames_behind_mut, lent_to_read, memory_behind_mut}
 use Rattle.receiving.proofs.Leaves.{handed_out, kept}
 use Rattle.receiving.proofs.receive.Goals as goal
 use Rattle.receiving.proofs.receive.Goals.{Start}
@@ -11,12 +11,12 @@ abbrev lent_at : Start → Lent
 lent_at s = lent_to_read 0 s.args.frames.now s.args.signal.now
 
 abbrev memory_at : Start → Memory
-memory_at s = memory_behind s.args.memory.now
+memory_at s = memory_behind_mut s.args.memory.now
 
 pub returns-then-number-ne0 : goal.returns-then-number-ne0
 returns-then-number-ne0 c =
     record {
-      received = kept c.args.state (memory_at (goal.at.returns-then-number-ne0 c).Start) (lent_at (goal.at.returns-then-number-ne0 c).Start) _ c.judge_signal-answer.ensures.value (λ z. c.if-number-ne0.true (c.number.ensures ∙ z));
+      received = kept c.args.state (memory_at (goal.at.returns-then-number-ne0 c).Start) (lent_at (goal.at.returns-then-number-ne0 c).Start) _ c.judge-answer.ensures.value (λ z. c.if-number-ne0.true (c.number.ensures ∙ z));
       same = search;
     }
 
@@ -25,8 +25,8 @@ returns c =
     let zero = sym c.number.ensures ∙ c.if-number-ne0.false in
     let h = c.hand_out.ensures in
     record {
-      received = handed_out c.args.state (memory_at (goal.at.returns c).Start) (lent_at (goal.at.returns c).Start) _ c.judge_signal-answer.ensures.value zero _ _ _
-          (frames_behind_mut 0 c.judge_signal-answer.new.own) (frames_behind_mut 0 c.hand_out.new.frames) (memory_behind c.keep.new.memory) c.next_of-next.ensures c.number_in-reserved.ensures.0 c.main_of.ensures (c.judge_signal-answer.ensures.brought zero)
-          (h.p1_after ∙ c.return_p1.ensures) h.pids_after (c.judge_signal-answer.ensures.recovered zero) h.p3_after c.keep.ensures.kept;
-      same = (record { p1 = record { name = h.same.p1.name; len = h.same.p1.len ∙ c.return_p1.auto.p1 }; pids = h.same.pids; p2 = h.same.p2; p3 = h.same.p3; p4 = h.same.p4 }, c.keep.ensures.same, c.judge_signal-answer.ensures.same);
+      received = handed_out c.args.state (memory_at (goal.at.returns c).Start) (lent_at (goal.at.returns c).Start) _ c.judge-answer.ensures.value zero _ _ _
+          (frames_behind_mut 0 c.judge-answer.new.own) (frames_behind_mut 0 c.hand_out.new.frames) (memory_behind_mut c.keep.new.memory) c.next_of-next.ensures c.number_in-reserved.ensures.0 c.main_of.ensures (c.judge-answer.ensures.brought zero)
+          (h.p1_after ∙ c.return_p1.ensures) h.pids_after (c.judge-answer.ensures.recovered zero) h.p3_after c.keep.ensures.kept;
+      same = (record { p1 = record { name = h.same.p1.name; len = h.same.p1.len ∙ c.return_p1.auto.p1 }; pids = h.same.pids; p2 = h.same.p2; p3 = h.same.p3; p4 = h.same.p4 }, c.keep.ensures.same, c.judge-answer.ensures.same);
     }

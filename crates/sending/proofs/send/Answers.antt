@@ -1,10 +1,7 @@
 -- `send` meets its contract: a refusal leaves everything, and a success leaves what the work ensures. Assumes nothing.
-use mathlib.Core.Path.{◌≡◌, sym, ◌∙◌}
-use borrow.Author.Rules.{rules}
+use mathlib.Core.Path.{sym, ◌∙◌}
 use Rattle.runs.specs.Lent.{Lent, Memory}
-use Rattle.calls.specs.declared.buffers.Memory.{Memory as MemoryMut}
-use Rattle.calls.specs.declared.buffers.SignalMut.{SignalMut}
-use Rattle.calls.specs.Called.{Buffer, lent, memory, memory_behind, signal, signal_behind_mut}
+use Rattle.calls.specs.Called.{lent, memory}
 use Rattle.sending.proofs.SendCases.{kept, meant-lengths, sendable, written}
 use Rattle.sending.proofs.send.Goals as goal
 use Rattle.sending.proofs.send.Goals.{Start}
@@ -28,19 +25,8 @@ write-requires c =
     let h = meant-lengths c.args.state (memory_at (goal.at.write-requires c).Start) (lent_at (goal.at.write-requires c).Start) _ c.sender_lengths-want.ensures _ _ c.meant_len.ensures c.meant_len-2.ensures in
     sendable c.args.state (memory_at (goal.at.write-requires c).Start) (lent_at (goal.at.write-requires c).Start) _ _ _ h c.sender_lengths-want.ensures c.admit-answer.ensures (sym c.number.ensures ∙ c.if-number-ne0.false)
 
--- what was written through the references is in the lent buffers
-signal-through : (g : SignalMut) {pm px1 px2 control : Buffer} → pm ≡ g.pm.now → px1 ≡ g.px1.now → px2 ≡ g.px2.now → control ≡ g.control.now
-    → signal pm px1 px2 control ≡ signal_behind_mut g
-signal-through g e e1 e2 ec = λ i. signal (e i) (e1 i) (e2 i) (ec i)
-
-memory-through : (m : MemoryMut) {memory3 memory4 delay : Buffer} → memory3 ≡ m.for3.now → memory4 ≡ m.for4.now → delay ≡ m.delayed.now
-    → memory memory3 memory4 delay ≡ memory_behind m
-memory-through m e3 e4 ed = λ i. memory (e3 i) (e4 i) (ed i)
-
 pub returns : goal.returns
 returns c =
     let h = meant-lengths c.args.state (memory_at (goal.at.returns c).Start) (lent_at (goal.at.returns c).Start) _ c.sender_lengths-want.ensures _ _ c.meant_len.ensures c.meant_len-2.ensures in
     written c.args.state (memory_at (goal.at.returns c).Start) (lent_at (goal.at.returns c).Start) _ _ _ h c.sender_lengths-want.ensures c.admit-answer.ensures (sym c.number.ensures ∙ c.if-number-ne0.false)
-    _ _ _ c.next_of-next.ensures
-    (signal-through c.write.new.signal (search rules) (search rules) (search rules) (search rules) ∙ c.write.ensures.signal_after)
-    (memory-through c.write.new.memory (search rules) (search rules) (search rules) ∙ c.write.ensures.memory_after)
+    _ _ _ c.next_of-next.ensures c.write.ensures.control_after c.write.ensures.delay_after

@@ -2,14 +2,13 @@
 use mathlib.Core.Path.{◌≡◌, sym, ap, ap₂, subst, ◌∙◌}
 use Prim.Native.Nat.{◌+◌}
 use native.Mathlib.Omega.{arith}
-use borrow.Author.Rules.{rules}
 use lib.ListN.{length}
 use Rattle.runs.specs.declared.Kind.{Kind}
 use Rattle.runs.specs.declared.Main.{Main}
 use Rattle.runs.specs.MainChannels.{delay_len, p1_len, p2_len, p1'_len}
 use Rattle.runs.specs.Lengths.{frame_len, matrix_len, sender_len}
 use Rattle.runs.specs.Lent.{filled, or_zeros}
-use Rattle.calls.specs.Called.{Buffer, frames_behind, memory_behind}
+use Rattle.calls.specs.Called.{Buffer, frames, memory}
 use Rattle.sending.proofs.SendCases.{worked}
 use Rattle.sending.proofs.write.Goals as goal
 
@@ -22,22 +21,22 @@ unfolding filled
 write_px2-requires c =
     let f = c.requires in
     let k = sym c.main_of-main.ensures in
-    let k4 = sym c.kind_of-kind4.ensures in
-    (f.half_lt, meant-right c.args.frames.now.p4.now k4 f.p4, f.delay ∙ ap delay_len k, f.px2 ∙ ap₂ (λ (x : Kind) (y : Main). matrix_len x + p1'_len y) k4 k, f.memory4 ∙ ap sender_len k4)
+    let k4 = sym c.kind_of.ensures in
+    (f.half_lt, meant-right c.args.p4.now k4 f.p4, f.delay ∙ ap delay_len k, f.px2 ∙ ap₂ (λ (x : Kind) (y : Main). matrix_len x + p1'_len y) k4 k, f.memory4 ∙ ap sender_len k4)
 
 pub write_pm-requires : goal.write_pm-requires
 unfolding filled
 write_pm-requires c =
     let f = c.requires in
     let k = sym c.main_of-main.ensures in
-    (f.p1 ∙ ap p1_len k, f.p2 ∙ ap p2_len k, f.pids, c.write_px2.ensures.same.delayed.len ∙ f.delay ∙ ap delay_len k, f.pm)
+    (f.p1 ∙ ap p1_len k, f.p2 ∙ ap p2_len k, f.pids, f.delay ∙ ap delay_len k, f.pm)
 
 pub write_px-requires : goal.write_px-requires
 unfolding filled
 write_px-requires c =
     let f = c.requires in
-    let k = sym c.kind_of-kind3.ensures in
-    (omega (arith, f.half_lt), meant-right c.args.frames.now.p3.now k f.p3, f.px1 ∙ ap matrix_len k, c.write_px2.ensures.same.for3.len ∙ f.memory3 ∙ ap sender_len k)
+    let k = sym c.kind_of-2.ensures in
+    (omega (arith, f.half_lt), meant-right c.args.p3.now k f.p3, f.px1 ∙ ap matrix_len k, f.memory3 ∙ ap sender_len k)
 
 pub fill_control-requires : goal.fill_control-requires
 unfolding filled
@@ -47,9 +46,8 @@ fill_control-requires c =
 pub returns : goal.returns
 returns c =
     let a = c.args in
-    let o = c.write_px2.ensures.others in
-    let leaves = worked a.state (memory_behind a.memory.now) (frames_behind a.reserved a.frames.now)
-    c.main_of-main.result c.kind_of-kind3.result c.kind_of-kind4.result _ _ _ _ _ _ _
-    c.main_of-main.ensures c.kind_of-kind3.ensures c.kind_of-kind4.ensures
-    c.write_px2.ensures.by_index c.write_px2.ensures.memory_after (rw o.1 at c.write_pm.ensures) (rw o.0 at c.write_px.ensures) c.fill_control.ensures in
-    record { signal_after = leaves.0; memory_after = leaves.1; same = search rules }
+    let leaves = worked a.state (memory a.memory3.now a.memory4.now a.delay.now) (frames a.reserved a.p1.now a.pids.now a.p2.now a.p3.now a.p4.now)
+    c.main_of-main.result c.kind_of-2.result c.kind_of.result _ _ _ _ _ _ _
+    c.main_of-main.ensures c.kind_of-2.ensures c.kind_of.ensures
+    c.write_px2.ensures.by_index c.write_px2.ensures.memory_after c.write_pm.ensures c.write_px.ensures c.fill_control.ensures in
+    record { control_after = leaves.0; delay_after = leaves.1 }
