@@ -1,7 +1,7 @@
 // Document 02, S-4: eight sources share the sixteen PIDS places of an L1 frame.
 #![tactic(auto)]
 
-ghost use Rattle.std.specs.Prelude.{◌≡◌, List, ℕ, ◌+◌, ◌<◌, ◌≤◌, min, length};
+ghost use Rattle.std.specs.Prelude.{◌≡◌, List, ℕ, ◌+◌, ◌<◌, ◌≤◌, length};
 ghost use Rattle.allocation.specs.Allocation.{granted, first, outcome, shared, smaller, total, turn};
 ghost use Rattle.allocation.specs.Owners.{owner_of};
 ghost use Rattle.bits.specs.Listed.{listed};
@@ -13,13 +13,6 @@ use runs::Answer;
 pub struct Grants {
     pub given: [u8; 8],
     pub left: u8,
-}
-
-// A byte for sums.
-fn wide(x: u8) -> usize
-    ensures { (result ≡ x) × (result < 256) }
-{
-    x as usize
 }
 
 // One place more for a source that has messages.
@@ -35,22 +28,10 @@ fn sum(numbers: [u8; 8]) -> usize
     ensures { result ≡ total 8 numbers }
 {
     let mut s: usize = 0;
-    let mut d: usize = 0;
-    while d < 8 {
-        s += wide(numbers[d]);
-        d += 1;
+    for n in &numbers {
+        s += usize::from(*n);
     }
     s
-}
-
-// The smaller of two numbers.
-fn smaller_of(a: u8, b: u8) -> u8
-    ensures { result ≡ min a b }
-{
-    if a < b {
-        return a;
-    }
-    b
 }
 
 // Each source gets the smaller of its share and its count.
@@ -58,10 +39,8 @@ fn smaller_each(shares: [u8; 8], waiting: [u8; 8]) -> [u8; 8]
     ensures { result ≡ smaller shares waiting }
 {
     let mut given = [0u8; 8];
-    let mut d: usize = 0;
-    while d < 8 {
-        given[d] = smaller_of(shares[d], waiting[d]);
-        d += 1;
+    for d in 0..8 {
+        given[d] = shares[d].min(waiting[d]);
     }
     given
 }
@@ -104,10 +83,8 @@ fn rounds(start: Grants, waiting: [u8; 8]) -> Grants
     ensures { (shares : List ℕ) → start ≡ first shares waiting → result ≡ granted shares waiting }
 {
     let mut s = start;
-    let mut n: usize = 0;
-    while n < 128 {
+    for n in 0..128 {
         s = turn_of(s, waiting, n % 8);
-        n += 1;
     }
     s
 }
@@ -117,14 +94,12 @@ fn owner(given: [u8; 8], q: usize) -> u8
     ensures { result ≡ owner_of 8 0 given q }
 {
     let mut rest = q;
-    let mut d: usize = 0;
-    while d < 8 {
-        let n = wide(given[d]);
+    for d in 0..8 {
+        let n = usize::from(given[d]);
         if rest < n {
             return d as u8;
         }
         rest -= n;
-        d += 1;
     }
     255
 }
@@ -134,10 +109,8 @@ fn write_places(given: [u8; 8], places: &mut [u8])
     requires { length places.old ≡ 16 }
     ensures { places.new ≡ listed 16 (owner_of 8 0 given) }
 {
-    let mut q: usize = 0;
-    while q < 16 {
+    for q in 0..16 {
         places[q] = owner(given, q);
-        q += 1;
     }
 }
 

@@ -4,32 +4,30 @@ ghost use Rattle.argument_words.specs.Asked.{channels_in, fourth, mode_and_count
 ghost use Rattle.argument_words.specs.Asked.{asked as «asked_by»};
 
 use crate::cut::{before_last, ends_with, first_word, other_words};
-use arguments::Arguments;
+use arguments::Run;
 use bits::same;
-use operands::{Operand, decimal};
+use operands::decimal;
 
-// The channels that are said to be without data.
+// Which channels are said to be without data.
 #[derive(Clone, Copy)]
-pub enum Channels {
-    Without { p3: bool, p4: bool },
-    Other,
+pub struct Without {
+    pub p3: bool,
+    pub p4: bool,
 }
 
 // A run, its channels without data, and whether the last word that the program takes stands there.
 #[derive(Clone, Copy)]
-pub enum Asked {
-    Run {
-        mode: u8,
-        count: u64,
-        without3: bool,
-        without4: bool,
-        last: bool,
-    },
-    Wrong,
+pub struct Asked {
+    pub mode: u8,
+    pub count: u64,
+    pub without3: bool,
+    pub without4: bool,
+    pub last: bool,
 }
 
 // MODE and COUNT.
-pub fn mode_and_count(text: &[u8]) -> Arguments
+#[tactic(auto, unfolding(crate::specs::Asked::mode_and_count))]
+pub fn mode_and_count(text: &[u8]) -> Option<Run>
     ensures { result ≡ mode_and_count text.now }
 {
     let mode = decimal(first_word(text));
@@ -38,69 +36,53 @@ pub fn mode_and_count(text: &[u8]) -> Arguments
 }
 
 // The words for channels without data.
-fn channels_in(text: &[u8]) -> Channels
+#[tactic(auto, unfolding(crate::specs::Asked::channels_in, crate::specs::Words::ended))]
+fn channels_in(text: &[u8]) -> Option<Without>
     ensures { result ≡ channels_in text.now }
 {
-    if same(text, b"") {
-        return Channels::Without {
-            p3: false,
-            p4: false,
-        };
-    }
-    if same(text, b"without\0P3\0") {
-        return Channels::Without {
-            p3: true,
-            p4: false,
-        };
-    }
-    if same(text, b"without\0P4\0") {
-        return Channels::Without {
-            p3: false,
-            p4: true,
-        };
-    }
-    if same(text, b"without\0P3\0P4\0") {
-        return Channels::Without { p3: true, p4: true };
-    }
-    Channels::Other
+    let (p3, p4) = if same(text, b"") {
+        (false, false)
+    } else if same(text, b"without\0P3\0") {
+        (true, false)
+    } else if same(text, b"without\0P4\0") {
+        (false, true)
+    } else if same(text, b"without\0P3\0P4\0") {
+        (true, true)
+    } else {
+        return None;
+    };
+    Some(Without { p3, p4 })
 }
 
 // No words.
-fn none_in(text: &[u8]) -> Channels
+#[tactic(auto, unfolding(crate::specs::Asked::none_in))]
+fn none_in(text: &[u8]) -> Option<Without>
     ensures { result ≡ none_in text.now }
 {
-    if same(text, b"") {
-        return Channels::Without {
-            p3: false,
-            p4: false,
-        };
-    }
-    Channels::Other
+    same(text, b"").then_some(Without {
+        p3: false,
+        p4: false,
+    })
 }
 
 // The parts together.
-fn join(arguments: Arguments, channels: Channels, last: bool) -> Asked
-    ensures { result ≡ «asked_by» arguments channels last }
+fn join(run: Option<Run>, channels: Option<Without>, last: bool) -> Option<Asked>
+    ensures { result ≡ «asked_by» run channels last }
 {
-    match arguments {
-        Arguments::Run { mode, count } => {
-            match channels {
-                Channels::Without { p3, p4 } => Asked::Run {
-                    mode,
-                    count,
-                    without3: p3,
-                    without4: p4,
-                    last,
-                },
-                Channels::Other => Asked::Wrong,
-            }
-        }
-        Arguments::Wrong => Asked::Wrong,
-    }
+    let Run { mode, count } = run?;
+    let Without { p3, p4 } = channels?;
+    Some(Asked {
+        mode,
+        count,
+        without3: p3,
+        without4: p4,
+        last,
+    })
 }
 
 // MODE COUNT [without P3|P4|P3 P4] [LAST]: the last word is lent with the zero byte that ends it.
-pub fn sending(last: &[u8], text: &[u8]) -> Asked
+#[tactic(auto, unfolding(crate::specs::Asked::sending_in))]
+pub fn sending(last: &[u8], text: &[u8]) -> Option<Asked>
     ensures { result ≡ sending_in last.now text.now }
 {
     let behind = other_words(other_words(text));
@@ -109,7 +91,8 @@ pub fn sending(last: &[u8], text: &[u8]) -> Asked
 }
 
 // MODE COUNT [LAST].
-pub fn reading(last: &[u8], text: &[u8]) -> Asked
+#[tactic(auto, unfolding(crate::specs::Asked::reading_in))]
+pub fn reading(last: &[u8], text: &[u8]) -> Option<Asked>
     ensures { result ≡ reading_in last.now text.now }
 {
     let behind = other_words(other_words(text));
@@ -118,13 +101,14 @@ pub fn reading(last: &[u8], text: &[u8]) -> Asked
 }
 
 // A number, and nothing behind it.
-pub fn number(text: &[u8]) -> Operand
+#[tactic(auto, unfolding(crate::specs::Asked::number_in))]
+pub fn number(text: &[u8]) -> Option<u64>
     ensures { result ≡ number_in text.now }
 {
-    if same(other_words(text), b"") {
-        return decimal(first_word(text));
+    if !same(other_words(text), b"") {
+        return None;
     }
-    Operand::NotDecimal
+    decimal(first_word(text))
 }
 
 // The third word.
@@ -143,50 +127,43 @@ pub fn fourth_word(text: &[u8]) -> &[u8]
 
 // A run of sums: of how many runs.
 #[derive(Clone, Copy)]
-pub enum Summed {
-    Run { mode: u8, count: u64, runs: u64 },
-    Wrong,
+pub struct Summed {
+    pub mode: u8,
+    pub count: u64,
+    pub runs: u64,
 }
 
 // A mode, a count and an odd number of runs.
-fn odd_of(arguments: Arguments, number: Operand) -> Summed
-    ensures { result ≡ odd_of arguments number }
+fn odd_of(run: Option<Run>, number: Option<u64>) -> Option<Summed>
+    ensures { result ≡ odd_of run number }
 {
-    match arguments {
-        Arguments::Run { mode, count } => {
-            match number {
-                Operand::Number(runs) => {
-                    if runs % 2 == 1 {
-                        return Summed::Run { mode, count, runs };
-                    }
-                    Summed::Wrong
-                }
-                Operand::NotDecimal => Summed::Wrong,
-            }
-        }
-        Arguments::Wrong => Summed::Wrong,
+    let Run { mode, count } = run?;
+    let runs = number?;
+    if runs % 2 != 1 {
+        return None;
     }
+    Some(Summed { mode, count, runs })
 }
 
 // MODE COUNT N, N odd (document 02, S-14).
-pub fn summing(text: &[u8]) -> Summed
+#[tactic(auto, unfolding(crate::specs::Asked::summing_in))]
+pub fn summing(text: &[u8]) -> Option<Summed>
     ensures { result ≡ summing_in text.now }
 {
-    if same(other_words(other_words(other_words(text))), b"") {
-        return odd_of(mode_and_count(text), decimal(third_word(text)));
+    if !same(other_words(other_words(other_words(text))), b"") {
+        return None;
     }
-    Summed::Wrong
+    odd_of(mode_and_count(text), decimal(third_word(text)))
 }
 
 // MODE SYMBOL and two words more (document 02, S-7).
-pub fn scaled(text: &[u8]) -> Arguments
+#[tactic(auto, unfolding(crate::specs::Asked::scaled_in))]
+pub fn scaled(text: &[u8]) -> Option<Run>
     ensures { result ≡ scaled_in text.now }
 {
-    if same(
-        other_words(other_words(other_words(other_words(text)))),
-        b"",
-    ) {
-        return mode_and_count(text);
+    let behind = other_words(other_words(other_words(other_words(text))));
+    if !same(behind, b"") {
+        return None;
     }
-    Arguments::Wrong
+    mode_and_count(text)
 }

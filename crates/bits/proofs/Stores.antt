@@ -5,7 +5,7 @@ use native.Mathlib.Decide.{ℕ_discrete}
 use native.Mathlib.Omega.{arith}
 use native.Mathlib.Numerals.{add-one}
 use mathlib.Core.List.{List, [], ◌∷◌, ◌++◌}
-use lib.ListN.{length, get_or, take, set, length-set, replicate}
+use lib.ListN.{length, get_or, take, set, length-set}
 use lib.Seq.{take-suc-set, take_all, get_or-set_same, get_or-set_other}
 use lib.Bits.{bit_xor, bit_or, differ, xor_step}
 use Rattle.bits.specs.Bits.{bit_at, number, byte_of, packed}
@@ -77,11 +77,6 @@ pub stored-all : {n : ℕ} {f : ℕ → ℕ} {out : List ℕ} {m : ℕ} → Stor
 stored-all {n} {f} {out} {m} w h =
     let k : m ≡ n = omega arith in
     sym (take_all m out h) ∙ w.front ∙ ap (λ (i : ℕ). packed i f) k
-
--- one element more
-pub replicate_more : (b n : ℕ) → replicate (suc n) b ≡ replicate n b ++ (b ∷ [])
-replicate_more b zero = refl
-replicate_more b (suc n) = ap (λ (l : List ℕ). b ∷ l) (replicate_more b n)
 
 -- one more element of a list that is filled in order
 pub set_more : (l : List ℕ) (g : ℕ → ℕ) (j x : ℕ) → j < length l → ((q : ℕ) → q < j → get_or l q 0 ≡ g q) → x ≡ g j

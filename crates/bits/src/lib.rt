@@ -28,39 +28,21 @@ pub fn copy(src: &[u8], dst: &mut [u8])
     requires { length src.now ≡ length dst.old }
     ensures { dst.new ≡ src.now }
 {
-    let mut i = 0;
-    while i < src.len() {
-        dst[i] = src[i];
-        i += 1;
-    }
+    dst.copy_from_slice(src);
 }
 
 // Fills dst with the byte b.
 pub fn fill(dst: &mut [u8], b: u8)
     ensures { dst.new ≡ replicate (length dst.old) b }
 {
-    let mut i = 0;
-    while i < dst.len() {
-        dst[i] = b;
-        i += 1;
-    }
+    dst.fill(b);
 }
 
 // Whether two buffers hold the same bytes.
 pub fn same(a: &[u8], b: &[u8]) -> bool
     ensures { result ≡ «same_bytes» a.now b.now }
 {
-    if a.len() != b.len() {
-        return false;
-    }
-    let mut i = 0;
-    while i < a.len() {
-        if a[i] != b[i] {
-            return false;
-        }
-        i += 1;
-    }
-    true
+    a == b
 }
 
 // The place after r, of the places 0 to n - 1 counted around: what a remainder by n comes to, without the division.

@@ -8,14 +8,14 @@ use native.Mathlib.Omega.{arith}
 use borrow.Author.Tests.{lt-ltb, le-ltb, eq-eqb, ne_eqb}
 use lib.Dec.{eqb}
 use lib.ListN.{take, drop}
+use Rattle.std.specs.Prelude.{Option, Some, None, Ok, Err}
 use Rattle.bits.specs.Tests.{lowest}
 use Rattle.bits.proofs.Tests.{lowest-at, lowest-below, lowest-passes, lowest-none, lowest-up-to}
 use Rattle.control.specs.Departs.{block_at}
 use Rattle.control.specs.Lookup.{looked_up}
-use Rattle.blockset.specs.LookupFrame.{no_block, fitting, named, says, faulty, unfit, looked_up_frame}
-use Rattle.control.specs.declared.Looked.{Looked}
-use Rattle.blockset.specs.declared.LookedFrame.{LookedFrame}
-use Rattle.blockset.specs.declared.LookedFrame.TheVariants.{Faulty, Unfit}
+use Rattle.blockset.specs.LookupFrame.{no_block, fitting, named, frame_numbers, says, faulty, unfit, looked_up_frame}
+use Rattle.control.specs.declared.BlockNumbers.{BlockNumbers}
+use Rattle.blockset.specs.declared.SetFault.TheVariants.{Faulty, Unfit}
 use Rattle.blockset.specs.Words.{onward}
 
 not-not : (t : Bool) → not (not t) ≡ t
@@ -52,25 +52,22 @@ says-part c control =
     ap (λ (n : ℕ). looked_up (take n (drop (c * 256) control))) e
 
 module _ (control : List ℕ) where
-  -- block c, which says b, is looked at
-  module _ (c : ℕ) (b : Looked) (t : Bool) (s : b ≡ says control c) (e : t ≡ no_block b) where
-    is-faulty : faulty control c ≡ t
+  -- block c, looked at, is faulty or says its numbers
+  module _ (c : ℕ) where
+    pub not-faulty : (b : BlockNumbers) → Some b ≡ says control c → faulty control c ≡ false
     unfolding faulty
-    is-faulty = ap no_block (sym s) ∙ sym e
+    not-faulty b s = ap no_block (sym s)
 
-    pub not-faulty : t ≡ false → faulty control c ≡ false
-    not-faulty f = is-faulty ∙ f
+    pub first-faulty : c < 16 → ((i : ℕ) → i < c → faulty control i ≡ false) → None ≡ says control c → Err (Faulty c) ≡ looked_up_frame control
+    unfolding looked_up_frame faulty
+    first-faulty h below s = rw (lowest-at 16 c (faulty control) h below (ap no_block (sym s)), lt-ltb c 16 h)
 
-    pub first-faulty : c < 16 → ((i : ℕ) → i < c → faulty control i ≡ false) → t ≡ true → Faulty c ≡ looked_up_frame control
-    unfolding looked_up_frame
-    first-faulty h below f = rw (lowest-at 16 c (faulty control) h below (is-faulty ∙ f), lt-ltb c 16 h)
-
-  -- and compared with the first
-  pub one_more : (first : Looked) (c : ℕ) (b : Looked) (fit : Bool) (fitted r : ℕ) → first ≡ says control 0 → b ≡ says control c
-      → fit ≡ fitting first c b → r ≡ onward fitted c fit → fitted ≡ lowest c (unfit control) → r ≡ lowest (c + 1) (unfit control)
+  -- and is compared with the first
+  pub one_more : (first : BlockNumbers) (c : ℕ) (b : BlockNumbers) (fit : Bool) (fitted r : ℕ) → Some first ≡ says control 0 → Some b ≡ says control c
+      → fit ≡ fitting (Some first) c (Some b) → r ≡ onward fitted c fit → fitted ≡ lowest c (unfit control) → r ≡ lowest (c + 1) (unfit control)
   unfolding unfit
   one_more first c b fit fitted r s d e f g =
-      let fit_is : fit ≡ not (unfit control c) = e ∙ ap₂ (λ (x y : Looked). fitting x c y) s d ∙ sym (not-not _) in
+      let fit_is : fit ≡ not (unfit control c) = e ∙ ap₂ (λ (x y : Option BlockNumbers). fitting x c y) s d ∙ sym (not-not _) in
       f ∙ ap₂ (λ (n : ℕ) (x : Bool). onward n c x) g fit_is ∙ lowest-more c (unfit control)
 
   -- all were looked at
@@ -81,10 +78,10 @@ module _ (control : List ℕ) where
     fitted-is : lowest 16 (unfit control) ≡ fitted
     fitted-is = ap (λ (n : ℕ). lowest n (unfit control)) (sym e) ∙ sym g
 
-    pub first-unfit : fitted < 16 → Unfit fitted ≡ looked_up_frame control
+    pub first-unfit : fitted < 16 → Err (Unfit fitted) ≡ looked_up_frame control
     unfolding looked_up_frame
     first-unfit h = rw (none-faulty, fitted-is, lt-ltb fitted 16 h)
 
-    pub all_fit : (first : Looked) (r : LookedFrame) → first ≡ says control 0 → r ≡ named first → 16 ≤ fitted → r ≡ looked_up_frame control
+    pub all_fit : (first : BlockNumbers) → Some first ≡ says control 0 → 16 ≤ fitted → Ok (frame_numbers first.mode first.reserved) ≡ looked_up_frame control
     unfolding looked_up_frame
-    all_fit first r s n h = rw (none-faulty, fitted-is, le-ltb fitted 16 h) (n ∙ ap named s)
+    all_fit first s h = rw (none-faulty, fitted-is, le-ltb fitted 16 h) (ap named s)

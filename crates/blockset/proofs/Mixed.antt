@@ -8,14 +8,15 @@ use borrow.Author.Tests.{eq-eqb, eqb-true}
 use lib.Dec.{eqb}
 use lib.ListN.{length, take, drop, length-append, length-drop}
 use lib.Seq.{take_at, drop-append-add, drop-drop}
+use Rattle.std.specs.Prelude.{Option, Some, Err}
 use Rattle.bits.proofs.Tests.{lowest-at, lowest-none}
 use Rattle.control.specs.Control.{block_of, control_of}
 use Rattle.control.specs.Departs.{block_at}
 use Rattle.control.specs.Modes.{modes, one_of, covered}
 use Rattle.blockset.specs.LookupFrame.{no_block, fitting, says, faulty, unfit, looked_up_frame}
-use Rattle.control.specs.declared.Looked.{Looked}
-use Rattle.control.specs.declared.Looked.TheVariants.{Found}
-use Rattle.blockset.specs.declared.LookedFrame.TheVariants.{Unfit}
+use Rattle.control.specs.declared.BlockNumbers.{BlockNumbers}
+use Rattle.control.specs.Lookup.{block_numbers}
+use Rattle.blockset.specs.declared.SetFault.TheVariants.{Unfit}
 use Rattle.control.proofs.Found.{looked-up-found}
 use Rattle.control.proofs.Sent.{block-at, block-length, control-length}
 
@@ -27,7 +28,7 @@ mixed m z m' z' = block_of m 0 z ++ drop 256 (control_of m' z')
 pub record OneByOne (control : List ℕ) (place : ℕ) : Type 0 where
   pub long : length control ≡ 4096
   pub each : (c : ℕ) → c < 16 → faulty control c ≡ false
-  pub refused : looked_up_frame control ≡ Unfit place
+  pub refused : looked_up_frame control ≡ Err (Unfit place)
 
 module _ (m z m' z' : ℕ) (cov : covered m ≡ true) (hz : z < 8) (cov' : covered m' ≡ true) (hz' : z' < 8) where
   abbrev w : List ℕ
@@ -49,11 +50,11 @@ module _ (m z m' z' : ℕ) (cov : covered m ≡ true) (hz : z < 8) (cov' : cover
       ∙ ap (take 256) (drop-append-add (block_of m 0 z) (drop 256 (control_of m' z')) (k * 256) ∙ drop-drop (k * 256) 256 (control_of m' z') ∙ ap (λ (n : ℕ). drop n (control_of m' z')) d)
       ∙ block-at m' z' (suc k) (omega arith)
 
-  says_first : says w 0 ≡ Found m 0 z
+  says_first : says w 0 ≡ Some (block_numbers m 0 z)
   unfolding says
   says_first = looked-up-found (block_at w 0) m 0 z cov (omega arith) hz first-is
 
-  says_other : (k : ℕ) → k < 15 → says w (suc k) ≡ Found m' (suc k) z'
+  says_other : (k : ℕ) → k < 15 → says w (suc k) ≡ Some (block_numbers m' (suc k) z')
   unfolding says
   says_other k h = looked-up-found (block_at w (suc k)) m' (suc k) z' cov' (omega arith) hz' (other-is k h)
 
@@ -65,7 +66,7 @@ module _ (m z m' z' : ℕ) (cov : covered m ≡ true) (hz : z < 8) (cov' : cover
   first_fits : unfit w 0 ≡ false
   unfolding unfit
   first_fits =
-      ap₂ (λ (x y : Looked). not (fitting x 0 y)) says_first says_first
+      ap₂ (λ (x y : Option BlockNumbers). not (fitting x 0 y)) says_first says_first
       ∙ rw (eq-eqb m m refl, eq-eqb z z refl)
 
   module _ (differ : m' ≡ m → z' ≡ z → ⊥) where
@@ -77,7 +78,7 @@ module _ (m z m' z' : ℕ) (cov : covered m ≡ true) (hz : z < 8) (cov' : cover
     second-unfit : unfit w 1 ≡ true
     unfolding unfit
     second-unfit =
-        ap₂ (λ (x y : Looked). not (fitting x 1 y)) says_first (says_other 0 (omega arith))
+        ap₂ (λ (x y : Option BlockNumbers). not (fitting x 1 y)) says_first (says_other 0 (omega arith))
         ∙ rw (tests (eqb m' m) (eqb z' z) refl refl)
 
     pub one_by_one : OneByOne w 1

@@ -7,27 +7,29 @@ use native.Mathlib.Omega.{arith}
 use borrow.Author.Tests.{ltb-false, eq-eqb, eqb-true, not-false}
 use lib.Dec.{eqb, ltb}
 use lib.ListN.{length}
+use Rattle.std.specs.Prelude.{Option, Some, None, Result, Ok, Err}
 use Rattle.bits.specs.Tests.{lowest}
 use Rattle.bits.proofs.Tests.{and-true, same_true, lowest-below, lowest-none}
 use Rattle.control.specs.Control.{block_of, control_of}
 use Rattle.control.specs.Departs.{block_at, number_in, departs, strays}
 use Rattle.control.specs.Modes.{covered}
-use Rattle.blockset.specs.LookupFrame.{no_block, fitting, named, says, faulty, unfit, looked_up_frame}
-use Rattle.control.specs.declared.Looked.{Looked}
-use Rattle.control.specs.declared.Looked.TheVariants.{Found, NotABlock}
-use Rattle.blockset.specs.declared.LookedFrame.{LookedFrame}
-use Rattle.blockset.specs.declared.LookedFrame.TheVariants.{Of, Faulty, Unfit}
+use Rattle.blockset.specs.LookupFrame.{no_block, fitting, named, frame_numbers, says, faulty, unfit, looked_up_frame}
+use Rattle.control.specs.declared.BlockNumbers.{BlockNumbers}
+use Rattle.control.specs.Lookup.{block_numbers}
+use Rattle.blockset.specs.declared.FrameNumbers.{FrameNumbers}
+use Rattle.blockset.specs.declared.SetFault.{SetFault}
+use Rattle.blockset.specs.declared.SetFault.TheVariants.{Faulty, Unfit}
 use Rattle.control.proofs.Found.{Is, looked-up-found, looked-up-is, looked-up-no-block}
 use Rattle.control.proofs.Numbers.{control-is, number-in-lt}
 use Rattle.control.proofs.Sent.{block-at}
 
 -- ---- every control of a covered mode and a number is accepted
 
-fitting-itself : (m z c : ℕ) → fitting (Found m 0 z) c (Found m c z) ≡ true
+fitting-itself : (m z c : ℕ) → fitting (Some (block_numbers m 0 z)) c (Some (block_numbers m c z)) ≡ true
 fitting-itself m z c = rw (eq-eqb m m refl, eq-eqb z z refl, eq-eqb c c refl)
 
 module _ (control : List ℕ) (m z : ℕ) (cov : covered m ≡ true) (hz : z < 8) (h : (c : ℕ) → c < 16 → block_at control c ≡ block_of m c z) where
-  says_so : (c : ℕ) → c < 16 → says control c ≡ Found m c z
+  says_so : (c : ℕ) → c < 16 → says control c ≡ Some (block_numbers m c z)
   unfolding says
   says_so c hc = looked-up-found (block_at control c) m c z cov hc hz (h c hc)
 
@@ -37,20 +39,20 @@ module _ (control : List ℕ) (m z : ℕ) (cov : covered m ≡ true) (hz : z < 8
 
   never-unfit : (c : ℕ) → c < 16 → unfit control c ≡ false
   unfolding unfit
-  never-unfit c hc = ap₂ (λ (x y : Looked). not (fitting x c y)) (says_so 0 (omega arith)) (says_so c hc) ∙ ap not (fitting-itself m z c)
+  never-unfit c hc = ap₂ (λ (x y : Option BlockNumbers). not (fitting x c y)) (says_so 0 (omega arith)) (says_so c hc) ∙ ap not (fitting-itself m z c)
 
-  pub of-its-blocks : looked_up_frame control ≡ Of m z
+  pub of-its-blocks : looked_up_frame control ≡ Ok (frame_numbers m z)
   unfolding looked_up_frame
   of-its-blocks =
       rw (lowest-none 16 (faulty control) never-faulty, lowest-none 16 (unfit control) never-unfit) (ap named (says_so 0 (omega arith)))
 
 -- The control of a covered mode and a number is accepted with them.
-pub control-accepted : (m z : ℕ) → covered m ≡ true → z < 8 → looked_up_frame (control_of m z) ≡ Of m z
+pub control-accepted : (m z : ℕ) → covered m ≡ true → z < 8 → looked_up_frame (control_of m z) ≡ Ok (frame_numbers m z)
 control-accepted m z cov hz = of-its-blocks (control_of m z) m z cov hz (block-at m z)
 
 -- What strays nowhere in a reading is accepted with its mode and its number.
 pub reading-accepted : (m : ℕ) (control : List ℕ) → covered m ≡ true → ((c : ℕ) → c < 16 → strays m control c ≡ false)
-    → looked_up_frame control ≡ Of m (number_in m control)
+    → looked_up_frame control ≡ Ok (frame_numbers m (number_in m control))
 unfolding strays departs
 reading-accepted m control cov h =
     of-its-blocks control m (number_in m control) cov (number-in-lt m control) (λ c hc. same_true _ _ (not-false _ (h c hc)))
@@ -58,31 +60,30 @@ reading-accepted m control cov h =
 -- ---- and nothing else
 
 -- a block that fits a first block which names a mode and a number
-fits-named : (first block : Looked) (c m z : ℕ) → named first ≡ Of m z → fitting first c block ≡ true → block ≡ Found m c z
-fits-named NotABlock block c m z n e = let z : ◌≡◌ {A = ℕ} 0 1 = cc in absurd (omega arith)
-fits-named (Found m₀ c₀ z₀) NotABlock c m z n e = let z : ◌≡◌ {A = ℕ} 0 1 = cc in absurd (omega arith)
-fits-named (Found m₀ c₀ z₀) (Found m₁ c₁ z₁) c m z n e =
-    let p = and-true (eqb m₁ m₀ && eqb z₁ z₀) (eqb c₁ c) e in
-    let q = and-true (eqb m₁ m₀) (eqb z₁ z₀) p.0 in
-    let em : m₁ ≡ m₀ = eqb-true m₁ m₀ q.0 in
-    let ez : z₁ ≡ z₀ = eqb-true z₁ z₀ q.1 in
-    let ec : c₁ ≡ c = eqb-true c₁ c p.1 in
-    let fm : m₀ ≡ m = cc in
-    let fz : z₀ ≡ z = cc in
-    λ i. Found ((em ∙ fm) i) (ec i) ((ez ∙ fz) i)
+fits-named : (first block : Option BlockNumbers) (c m z : ℕ) → named first ≡ Ok (frame_numbers m z) → fitting first c block ≡ true → block ≡ Some (block_numbers m c z)
+fits-named None block c m z n e = cc
+fits-named (Some first) None c m z n e = cc
+fits-named (Some first) (Some block) c m z n e =
+    let p = and-true (eqb block.mode first.mode && eqb block.reserved first.reserved) (eqb block.count c) e in
+    let q = and-true (eqb block.mode first.mode) (eqb block.reserved first.reserved) p.0 in
+    let f : frame_numbers first.mode first.reserved ≡ frame_numbers m z = cc in
+    let em : block.mode ≡ m = eqb-true block.mode first.mode q.0 ∙ ap (λ (x : FrameNumbers). x.mode) f in
+    let ez : block.reserved ≡ z = eqb-true block.reserved first.reserved q.1 ∙ ap (λ (x : FrameNumbers). x.reserved) f in
+    let ec : block.count ≡ c = eqb-true block.count c p.1 in
+    λ i. Some (block_numbers (em i) (ec i) (ez i))
 
-accepted-cases : (s t : Bool) (a b : ℕ) (x : LookedFrame) (m z : ℕ) → cond s (Faulty a) (cond t (Unfit b) x) ≡ Of m z → (t ≡ false) × (x ≡ Of m z)
-accepted-cases true t a b x m z e = let z : ◌≡◌ {A = ℕ} 0 1 = cc in absurd (omega arith)
-accepted-cases false true a b x m z e = let z : ◌≡◌ {A = ℕ} 0 1 = cc in absurd (omega arith)
-accepted-cases false false a b x m z e = (refl, e)
+accepted-cases : (s t : Bool) (a b : SetFault) (x : Result FrameNumbers SetFault) (n : FrameNumbers) → cond s (Err a) (cond t (Err b) x) ≡ Ok n → (t ≡ false) × (x ≡ Ok n)
+accepted-cases true t a b x n e = cc
+accepted-cases false true a b x n e = cc
+accepted-cases false false a b x n e = (refl, e)
 
-module _ (control : List ℕ) (m z : ℕ) (e : looked_up_frame control ≡ Of m z) where
-  cases : (ltb (lowest 16 (unfit control)) 16 ≡ false) × (named (says control 0) ≡ Of m z)
+module _ (control : List ℕ) (m z : ℕ) (e : looked_up_frame control ≡ Ok (frame_numbers m z)) where
+  cases : (ltb (lowest 16 (unfit control)) 16 ≡ false) × (named (says control 0) ≡ Ok (frame_numbers m z))
   unfolding looked_up_frame
   cases =
       let bad : ℕ = lowest 16 (faulty control) in
       let odd : ℕ = lowest 16 (unfit control) in
-      accepted-cases (ltb bad 16) (ltb odd 16) bad odd (named (says control 0)) m z e
+      accepted-cases (ltb bad 16) (ltb odd 16) (Faulty bad) (Unfit odd) (named (says control 0)) (frame_numbers m z) e
 
   each : (c : ℕ) → c < 16 → Is (block_at control c) m c z
   unfolding unfit says
@@ -119,4 +120,4 @@ pub unfit-is : (control : List ℕ) (c m₀ n₀ z₀ m n z : ℕ) → covered m
     → block_at control 0 ≡ block_of m₀ n₀ z₀ → block_at control c ≡ block_of m n z → unfit control c ≡ not (eqb m m₀ && eqb z z₀ && eqb n c)
 unfolding unfit says
 unfit-is control c m₀ n₀ z₀ m n z cov₀ hn₀ hz₀ cov hn hz e₀ e =
-    ap₂ (λ (x y : Looked). not (fitting x c y)) (looked-up-found (block_at control 0) m₀ n₀ z₀ cov₀ hn₀ hz₀ e₀) (looked-up-found (block_at control c) m n z cov hn hz e)
+    ap₂ (λ (x y : Option BlockNumbers). not (fitting x c y)) (looked-up-found (block_at control 0) m₀ n₀ z₀ cov₀ hn₀ hz₀ e₀) (looked-up-found (block_at control c) m n z cov hn hz e)

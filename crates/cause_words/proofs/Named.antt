@@ -9,7 +9,7 @@ use lib.Seq.{take_all}
 use Rattle.bits.specs.Tests.{same}
 use Rattle.bits.proofs.Tests.{same_true}
 use Rattle.text.specs.Letters.{ascii}
-use Rattle.operands.specs.declared.Operand.{Operand}
+use Rattle.std.specs.Prelude.{Option}
 use Rattle.operands.specs.Operands.{operand_of}
 use Rattle.cause_words.specs.Table.{names, sheets}
 use Rattle.cause_words.specs.NoSheet.{begins, row_in, sixth, why, words_for}
@@ -27,7 +27,7 @@ too_short start text h = go (same (take (length start) text) start) refl
         absurd (omega arith)
 
 module _ (text : List ℕ) where
-  pub by_number : {number : Operand} {word : List ℕ} → begins (ascii "NO SHEET FRAME ") text ≡ true → word ≡ sixth text → number ≡ operand_of word
+  pub by_number : {number : Option ℕ} {word : List ℕ} → begins (ascii "NO SHEET FRAME ") text ≡ true → word ≡ sixth text → number ≡ operand_of word
       → words_for number ≡ why text
   unfolding why
   by_number e p q = rw (e, q, p)

@@ -1,8 +1,6 @@
 -- House matter (D145): why there is no sheet, in words: those of the row of causes.tsv whose name begins the line, or of an L1 frame's cause.
-use Rattle.std.specs.Prelude.{ℕ, Bool, cond, List, [], ◌∷◌, length, take}
+use Rattle.std.specs.Prelude.{ℕ, Bool, cond, List, [], ◌∷◌, length, take, Option, Some, None}
 use Rattle.bits.specs.Tests.{same}
-use Rattle.operands.specs.declared.Operand.{Operand}
-use Rattle.operands.specs.declared.Operand.TheVariants.{Number, NotDecimal}
 use Rattle.operands.specs.Operands.{operand_of}
 use Rattle.text.specs.Letters.{ascii}
 use Rattle.text.specs.Lines.{after, before, space}
@@ -22,9 +20,9 @@ row_in (name ∷ names) (row ∷ rows) text = cond (begins name text) row (row_i
 unfoldable pub sixth : List ℕ → List ℕ
 sixth text = before space (after space (after space (after space (after space (after space text)))))
 
-abbrev pub words_for : Operand → List ℕ
-words_for (Number number) = words number
-words_for NotDecimal = no_cause
+abbrev pub words_for : Option ℕ → List ℕ
+words_for (Some number) = words number
+words_for None = no_cause
 
 unfoldable pub why : (text : List ℕ) → List ℕ
 why text = cond (begins (ascii "NO SHEET FRAME ") text) (words_for (operand_of (sixth text))) (row_in names sheets text)

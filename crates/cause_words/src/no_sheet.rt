@@ -8,7 +8,7 @@ ghost use Rattle.cause_words.specs.NoSheet.{begins as «begins-with»};
 
 use crate::table::CAUSES;
 use crate::{put_row, put_words};
-use operands::Operand;
+use operands::decimal;
 use text::{rest, word};
 
 // Whether a text begins with another.
@@ -51,20 +51,21 @@ fn row_of(text: &[u8]) -> usize
 }
 
 // The sixth word.
+#[tactic(auto, unfolding(crate::specs::NoSheet::sixth))]
 fn sixth_word(text: &[u8]) -> &[u8]
     ensures { result.now ≡ sixth text.now }
 {
     word(rest(rest(rest(rest(rest(text))))))
 }
 
-// Puts the words of a cause whose number is written.
-fn put_written(out: &mut [u8], at: usize, number: Operand) -> usize
+// Puts the words of a cause whose number is written, if it is a number.
+fn put_written(out: &mut [u8], at: usize, number: Option<u64>) -> usize
     requires { at + 160 ≤ length out.old }
     ensures { Put out.old out.new at result 160 (words_for number) }
 {
     match number {
-        Operand::Number(number) => put_words(out, at, number),
-        Operand::NotDecimal => put_row(out, at, 0),
+        Some(number) => put_words(out, at, number),
+        None => put_row(out, at, 0),
     }
 }
 
@@ -74,7 +75,7 @@ pub fn put_why(out: &mut [u8], at: usize, text: &[u8]) -> usize
     ensures { Put out.old out.new at result 160 (why text.now) }
 {
     if begins(b"NO SHEET FRAME ", text) {
-        return put_written(out, at, operands::decimal(sixth_word(text)));
+        return put_written(out, at, decimal(sixth_word(text)));
     }
     put_row(out, at, row_of(text))
 }

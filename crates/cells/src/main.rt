@@ -45,26 +45,27 @@ fn list_block(rt: &(impl Streams + AllocGlobal), at: Progress, out: &mut [u8]) -
     }
 }
 
-// Lists the input from block to block. A proved loop has to end, so it counts its turns down, from a number that no run uses up.
+// As many blocks as no run uses up: a proved loop has to end.
+const BLOCKS: u64 = 281474976710656;
+
+// Lists the input from block to block.
 fn list_all(rt: &(impl Streams + AllocGlobal), at: Progress, out: &mut [u8]) -> Turn
     requires { (length out.old ≡ 376832) × (at.number ≡ 1) }
     ensures { length out.new ≡ 376832 }
 {
     let mut at = at;
-    let mut turns: u64 = 281474976710656;
-    let mut more = true;
-    let mut good = true;
-    while more {
-        if turns == 0 {
-            return Turn { at, more, good };
+    for block in 0..BLOCKS {
+        let turn = list_block(rt, at, out);
+        if !turn.more {
+            return turn;
         }
-        turns -= 1;
-        let t = list_block(rt, at, out);
-        at = t.at;
-        more = t.more;
-        good = t.good;
+        at = turn.at;
     }
-    Turn { at, more, good }
+    Turn {
+        at,
+        more: true,
+        good: true,
+    }
 }
 
 // Lists standard input.

@@ -12,29 +12,23 @@ ghost use Rattle.celltext.specs.Nearest.{NearestLine};
 ghost use Rattle.celltext.specs.Restored.{RestoredLine, told};
 
 // Whether a character stands for a cell.
+#[tactic(auto, unfolding(crate::specs::Lines::is_cell))]
 fn is_cell(b: u8) -> bool
     ensures { result ≡ is_cell b }
 {
-    if b == b'0' {
-        return true;
-    }
-    if b == b'1' {
-        return true;
-    }
-    b == b'?'
+    matches!(b, b'0' | b'1' | b'?')
 }
 
 // Its byte.
+#[tactic(auto, unfolding(crate::specs::Lines::cell_of))]
 fn cell_of(b: u8) -> u8
     ensures { result ≡ cell_of b }
 {
-    if b == b'0' {
-        return 0;
+    match b {
+        b'0' => 0,
+        b'1' => 1,
+        _ => 2,
     }
-    if b == b'1' {
-        return 1;
-    }
-    2
 }
 
 // Whether each of 200 characters stands for a cell.
@@ -42,12 +36,10 @@ fn are_cells(line: &[u8]) -> bool
     requires { length line.now ≡ 200 }
     ensures { result ≡ all 200 (λ n. is_cell (get_or line.now n 0)) }
 {
-    let mut i: usize = 0;
-    while i < 200 {
-        if !is_cell(line[i]) {
+    for b in line {
+        if !is_cell(*b) {
             return false;
         }
-        i += 1;
     }
     true
 }
@@ -57,10 +49,8 @@ fn write_cells(line: &[u8], cells: &mut [u8])
     requires { (length line.now ≡ 200) × (length cells.old ≡ 200) }
     ensures { CellsOf line.now cells.new }
 {
-    let mut i: usize = 0;
-    while i < 200 {
-        cells[i] = cell_of(line[i]);
-        i += 1;
+    for (i, b) in line.iter().enumerate() {
+        cells[i] = cell_of(*b);
     }
 }
 
@@ -106,10 +96,8 @@ pub fn put_hexadecimal(out: &mut [u8], at: usize, bytes: &[u8]) -> usize
     ensures { Put out.old out.new at result (2 * length bytes.now) (hexadecimal bytes.now) }
 {
     let mut end = at;
-    let mut i: usize = 0;
-    while i < bytes.len() {
-        end = put_byte(out, end, bytes[i]);
-        i += 1;
+    for b in bytes {
+        end = put_byte(out, end, *b);
     }
     end
 }

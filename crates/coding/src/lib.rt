@@ -89,10 +89,8 @@ fn double(one: u64, m: usize, words: &mut [u64; 256])
         → ((r : ℕ) → r < m → bit_xor (f r) (g one) ≡ f (m + r)) → ((r : ℕ) → r < m → g (get_or words.old r 0) ≡ f r) → (r : ℕ) → r < m + m
         → g (get_or words.new r 0) ≡ f r) }
 {
-    let mut r: usize = 0;
-    while r < m {
+    for r in 0..m {
         words[m + r] = words[r] ^ one;
-        r += 1;
     }
 }
 
@@ -102,15 +100,13 @@ fn fill_words(rate: Rate, inverse: bool, words: &mut [u64; 256])
     ensures { Words rate inverse words.new }
 {
     let mut m: usize = 1;
-    let mut e: usize = 0;
-    while e < 8 {
+    for e in 0..8 {
         double(word_one(rate, inverse, e), m, words);
         m *= 2;
-        e += 1;
     }
 }
 
-// Byte k of a word, from the last one on.
+// Byte k of a word, from the last one on, as an index. `scrambling::byte_of` counts from the first, of a word of four: one for both would be no plainer.
 fn byte_of(x: u64, k: usize) -> usize
     requires { k < 8 }
     ensures { (result ≡ x / 2 ^ (8 * k) % 256) × (result < 256) }
@@ -152,10 +148,8 @@ fn load(bytes: &[u8], j: usize, m: usize) -> u64
     ensures { result ≡ number (8 * m) (λ i. bit_at bytes.now (8 * j + i)) }
 {
     let mut word: u64 = 0;
-    let mut k: usize = 0;
-    while k < m {
+    for k in 0..m {
         word = (word << 8) | (bytes[j + k] as u64);
-        k += 1;
     }
     word
 }
@@ -166,10 +160,8 @@ fn store(word: u64, m: usize, j: usize, out: &mut [u8])
     ensures { (f : ℕ → ℕ) → ((i : ℕ) → f i < 2) → word ≡ number (8 * m) (λ i. f (8 * j + i)) → take j out.old ≡ packed j f
         → take (j + m) out.new ≡ packed (j + m) f }
 {
-    let mut k: usize = 0;
-    while k < m {
+    for k in 0..m {
         out[j + k] = ((word >> (8 * (m - 1 - k))) % 256) as u8;
-        k += 1;
     }
 }
 
@@ -244,11 +236,9 @@ pub fn encode(rate: Rate, n: usize, count: usize, frames: &[u8], out: &mut [u8])
 {
     let mut table = [0u64; 256];
     fill_words(rate, false, &mut table);
-    let mut u: usize = 0;
     let mut v: usize = 0;
-    while u < frames.len() / 2 {
+    for u in 0..frames.len() / 2 {
         store_unit(rate, coded_unit(rate, &table, n, frames, u, v), u, out);
-        u += 1;
         v = bits::next_around(n / 2, v);
     }
 }
@@ -260,11 +250,9 @@ pub fn decode(rate: Rate, n: usize, count: usize, coded: &[u8], out: &mut [u8])
 {
     let mut table = [0u64; 256];
     fill_words(rate, true, &mut table);
-    let mut u: usize = 0;
     let mut v: usize = 0;
-    while u < out.len() / 2 {
+    for u in 0..out.len() / 2 {
         store(frame_unit(rate, &table, n, coded, u, v), 2, 2 * u, out);
-        u += 1;
         v = bits::next_around(n / 2, v);
     }
 }
@@ -278,13 +266,11 @@ pub fn first_bad(rate: Rate, n: usize, count: usize, coded: &[u8], frames: &[u8]
     let mut table = [0u64; 256];
     fill_words(rate, false, &mut table);
     let units = frames.len() / 2;
-    let mut u: usize = 0;
     let mut v: usize = 0;
-    while u < units {
+    for u in 0..units {
         if coded_unit(rate, &table, n, frames, u, v) != load_unit(rate, coded, u) {
             return u / (n / 2);
         }
-        u += 1;
         v = bits::next_around(n / 2, v);
     }
     count

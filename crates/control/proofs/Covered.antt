@@ -24,10 +24,6 @@ place (x ∷ l) m e = go (eqb m x) refl e (place l m)
     go true d e f = record { at = 0; inside = omega arith; is = sym (eqb-true m x d) }
     go false d e f = let p = f e in record { at = suc p.at; inside = omega arith; is = p.is }
 
-pub or-false : (b : Bool) → (b || false) ≡ b
-or-false true = refl
-or-false false = refl
-
 or-true : (b : Bool) → (b || true) ≡ true
 or-true true = refl
 or-true false = refl

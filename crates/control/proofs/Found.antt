@@ -7,19 +7,21 @@ use native.Mathlib.Omega.{arith}
 use borrow.Author.Tests.{lt-ltb, le-ltb, ltb-true}
 use lib.Dec.{ltb}
 use lib.ListN.{get_or}
+use Rattle.std.specs.Prelude.{Some, None}
+use Rattle.std.proofs.lemmas.Option.{same_Some}
 use Rattle.bits.specs.Bits.{number}
 use Rattle.bits.specs.Tests.{same, lowest}
 use Rattle.bits.proofs.Tests.{same_true, same-eq, same-ne, lowest-passes, lowest-none, lowest-le}
 use Rattle.control.specs.Control.{block_of}
 use Rattle.control.specs.Modes.{modes, covered}
-use Rattle.control.specs.Lookup.{triples, mode_of, count_of, reserved_of, looked_up}
-use Rattle.control.specs.declared.Looked.TheVariants.{Found, NotABlock}
+use Rattle.control.specs.declared.BlockNumbers.{BlockNumbers}
+use Rattle.control.specs.Lookup.{triples, mode_of, count_of, reserved_of, block_numbers, looked_up}
 use Rattle.control.specs.Words.{decoded, reserved_read}
 use Rattle.control.proofs.Covered.{covered-place, covered-at, mode-lt, covered-lt}
 use Rattle.control.proofs.Decoding.{mode-field, count-field, reserved-field, block-determines}
 
-found-cong : {m m' c c' z z' : ℕ} → m ≡ m' → c ≡ c' → z ≡ z' → Found m c z ≡ Found m' c' z'
-found-cong e f g = λ i. Found (e i) (f i) (g i)
+found-cong : {m m' c c' z z' : ℕ} → m ≡ m' → c ≡ c' → z ≡ z' → Some (block_numbers m c z) ≡ Some (block_numbers m' c' z')
+found-cong e f g = λ i. Some (block_numbers (e i) (f i) (g i))
 
 block_cong : {m m' c c' z z' : ℕ} → m ≡ m' → c ≡ c' → z ≡ z' → block_of m c z ≡ block_of m' c' z'
 block_cong e f g = λ i. block_of (e i) (f i) (g i)
@@ -64,7 +66,7 @@ module _ (k c z : ℕ) (hc : c < 16) (hz : z < 8) where
 
 -- ---- what is looked up
 
-pub looked-up-found : (b : List ℕ) (m c z : ℕ) → covered m ≡ true → c < 16 → z < 8 → b ≡ block_of m c z → looked_up b ≡ Found m c z
+pub looked-up-found : (b : List ℕ) (m c z : ℕ) → covered m ≡ true → c < 16 → z < 8 → b ≡ block_of m c z → looked_up b ≡ Some (block_numbers m c z)
 unfolding looked_up triples
 looked-up-found b m c z cov hc hz e =
     let p : ℕ → Bool = λ n. same b (block n) in
@@ -81,7 +83,7 @@ looked-up-found b m c z cov hc hz e =
     in
     rw (lt-ltb n triples l) (found-cong d.0 d.1 d.2)
 
-looked-up-none : (b : List ℕ) → ((n : ℕ) → n < triples → b ≡ block n → ⊥) → looked_up b ≡ NotABlock
+looked-up-none : (b : List ℕ) → ((n : ℕ) → n < triples → b ≡ block n → ⊥) → looked_up b ≡ None
 unfolding looked_up
 looked-up-none b h = rw (lowest-none triples (λ n. same b (block n)) (λ n l. same-ne b (block n) (h n l)), no-below triples)
   where
@@ -95,11 +97,13 @@ pub record Is (b : List ℕ) (m c z : ℕ) : Type 0 where
   pub number-low : z < 8
   pub block-is : b ≡ block_of m c z
 
-found-cases : (t : Bool) (m c z m' c' z' : ℕ) → cond t (Found m c z) NotABlock ≡ Found m' c' z' → (t ≡ true) × (m ≡ m') × (c ≡ c') × (z ≡ z')
-found-cases true m c z m' c' z' e = (refl, cc, cc, cc)
+found-cases : (t : Bool) (m c z m' c' z' : ℕ) → cond t (Some (block_numbers m c z)) None ≡ Some (block_numbers m' c' z') → (t ≡ true) × (m ≡ m') × (c ≡ c') × (z ≡ z')
+found-cases true m c z m' c' z' e =
+    let q = same_Some (block_numbers m c z) (block_numbers m' c' z') e in
+    (refl, ap (λ (b : BlockNumbers). b.mode) q, ap (λ (b : BlockNumbers). b.count) q, ap (λ (b : BlockNumbers). b.reserved) q)
 found-cases false m c z m' c' z' e = let z : ◌≡◌ {A = ℕ} 0 1 = cc in absurd (omega arith)
 
-pub looked-up-is : (b : List ℕ) (m c z : ℕ) → looked_up b ≡ Found m c z → Is b m c z
+pub looked-up-is : (b : List ℕ) (m c z : ℕ) → looked_up b ≡ Some (block_numbers m c z) → Is b m c z
 unfolding looked_up
 looked-up-is b m c z e =
     let p : ℕ → Bool = λ n. same b (block n) in
@@ -123,14 +127,14 @@ module _ (b : List ℕ) (m c z : ℕ) (hm : m ≡ number 6 (λ i. decoded b (25 
     hz ∙ ap reserved_read e ∙ reserved-field (mode_of n) (count_of n) (reserved_of n) (reserved-lt n),
   )
 
-  pub looked-up-uncovered : covered m ≡ false → looked_up b ≡ NotABlock
+  pub looked-up-uncovered : covered m ≡ false → looked_up b ≡ None
   looked-up-uncovered f =
       looked-up-none b (λ n l e.
       let t : covered m ≡ true = ap covered (read n e).0 ∙ triple-covered n l in
       let z : ◌≡◌ {A = ℕ} 0 1 = cc in
       omega arith)
 
-  pub looked-up-other : same b (block_of m c z) ≡ false → looked_up b ≡ NotABlock
+  pub looked-up-other : same b (block_of m c z) ≡ false → looked_up b ≡ None
   looked-up-other f =
       looked-up-none b (λ n l e.
       let r = read n e in
@@ -139,10 +143,10 @@ module _ (b : List ℕ) (m c z : ℕ) (hm : m ≡ number 6 (λ i. decoded b (25 
       omega arith)
 
 -- The lookup of the block of a covered mode, a count and a number finds them.
-pub looked-up-block : (m c z : ℕ) → covered m ≡ true → c < 16 → z < 8 → looked_up (block_of m c z) ≡ Found m c z
+pub looked-up-block : (m c z : ℕ) → covered m ≡ true → c < 16 → z < 8 → looked_up (block_of m c z) ≡ Some (block_numbers m c z)
 looked-up-block m c z cov hc hz = looked-up-found (block_of m c z) m c z cov hc hz refl
 
 -- A block of no covered mode, count and number is found as none.
-pub looked-up-no-block : (b : List ℕ) → ((m c z : ℕ) → covered m ≡ true → c < 16 → z < 8 → b ≡ block_of m c z → ⊥) → looked_up b ≡ NotABlock
+pub looked-up-no-block : (b : List ℕ) → ((m c z : ℕ) → covered m ≡ true → c < 16 → z < 8 → b ≡ block_of m c z → ⊥) → looked_up b ≡ None
 looked-up-no-block b h =
     looked-up-none b (λ n l e. h (mode_of n) (count_of n) (reserved_of n) (triple-covered n l) (count-lt n) (reserved-lt n) e)

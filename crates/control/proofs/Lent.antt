@@ -4,7 +4,7 @@ use mathlib.Core.List.{List, ◌++◌, append_assoc}
 use mathlib.Core.Bool.{not}
 use Prim.Native.Nat.{ℕ, ◌+◌, ◌-◌, ◌*◌, ◌<◌}
 use native.Mathlib.Omega.{arith}
-use lib.ListN.{length, take, drop, length-append, length-drop}
+use lib.ListN.{length, take, drop, length-append}
 use lib.Seq.{take_all, take_at, length-take-le}
 use borrow.Rule.Slice.PartMut.{put_mid}
 use Rattle.bits.specs.Bits.{packed}
@@ -14,13 +14,7 @@ use Rattle.control.specs.Control.{control_bit, block_of, control_of}
 use Rattle.control.specs.Departs.{block_at, departs}
 use Rattle.control.proofs.Sent.{block-bits, block-length}
 
--- the part that is lent for block c
-pub part_length : (c : ℕ) (out : List ℕ) → length out ≡ 4096 → c < 16 → length (take (c * 256 + 256 - c * 256) (drop (c * 256) out)) ≡ 256
-part_length c out e h =
-    let d : c * 256 + 256 - c * 256 ≡ 256 = omega arith in
-    rw d (length-take-le 256 (drop (c * 256) out) (omega (arith, length-drop (c * 256) out)))
-
--- the test of that part
+-- the test of the part that is lent for block c
 pub departs-part : (mode reserved c : ℕ) (control : List ℕ)
     → not (same (take (c * 256 + 256 - c * 256) (drop (c * 256) control)) (block_of mode c reserved)) ≡ departs mode reserved control c
 unfolding departs block_at

@@ -1,7 +1,7 @@
 // System control processing: section 11 of SY_IDD_1011s. An internal crate: lengths and ranges are required, and the crate above gives document 01's numbers.
 #![tactic(auto)]
 
-ghost use Rattle.std.specs.Prelude.{◌≡◌, ◌+◌, ◌*◌, ◌/◌, ◌<◌, ◌≤◌, ◌%◌, ◌^◌, length};
+ghost use Rattle.std.specs.Prelude.{◌≡◌, ◌+◌, ◌*◌, ◌/◌, ◌<◌, ◌≤◌, ◌%◌, ◌^◌, length, unwrap_or, IfSome};
 ghost use Rattle.std.specs.Int.Bits.{bit_and};
 ghost use Rattle.std.specs.Int.Count.{ones};
 ghost use Rattle.bits.specs.Bits.{number};
@@ -84,10 +84,8 @@ fn column_of(mode: u8, count: u8, reserved: u8, column: usize) -> u32
 {
     let x = sequence_of(mode, count, reserved, column);
     let mut y: u32 = 0;
-    let mut row: u32 = 0;
-    while row < 32 {
+    for row in 0..32u32 {
         y = y * 2 + ((y ^ (x >> (31 - row))) & 1);
-        row += 1;
     }
     y
 }
@@ -110,8 +108,7 @@ fn fill_block(mode: u8, count: u8, reserved: u8, out: &mut [u8])
     let b = column_of(mode, count, reserved, 1);
     let c = column_of(mode, count, reserved, 2);
     let d = column_of(mode, count, reserved, 3);
-    let mut row: usize = 0;
-    while row < 32 {
+    for row in 0..32 {
         let place = 31 - row;
         let first = four(a, b, c, d, place);
         let middle = four(a, b, c, b, place);
@@ -125,7 +122,6 @@ fn fill_block(mode: u8, count: u8, reserved: u8, out: &mut [u8])
         out[j + 5] = last * 17;
         out[j + 6] = last * 17;
         out[j + 7] = last * 16 + last / 8 * 8;
-        row += 1;
     }
 }
 
@@ -134,12 +130,10 @@ pub fn fill_control(mode: u8, reserved: u8, out: &mut [u8])
     requires { (mode < 64) × (reserved < 8) × (length out.old ≡ 4096) }
     ensures { out.new ≡ control_of mode reserved }
 {
-    let mut count: u8 = 0;
-    while count < 16 {
+    for count in 0..16 {
         let from = count as usize * 256;
         let to = from + 256;
         fill_block(mode, count, reserved, &mut out[from..to]);
-        count += 1;
     }
 }
 
@@ -153,28 +147,28 @@ pub fn block_is(mode: u8, count: u8, reserved: u8, block: &[u8]) -> bool
     bits::same(block, &want)
 }
 
-// The lowest block that is not the one of this mode, its count and these reserved bits, or 16.
-fn departing_from(mode: u8, reserved: u8, control: &[u8]) -> u8
+// The lowest block that is not the one of this mode, its count and these reserved bits.
+fn departing_from(mode: u8, reserved: u8, control: &[u8]) -> Option<u8>
     requires { (mode < 64) × (reserved < 8) × (length control.now ≡ 4096) }
-    ensures { result ≡ lowest 16 (departs mode reserved control.now) }
+    ensures lowest { unwrap_or result 16 ≡ lowest 16 (departs mode reserved control.now) }
+    ensures inside { IfSome result (λ c. c < 16) }
 {
-    let mut c: u8 = 0;
-    while c < 16 {
+    for c in 0..16 {
         let start = c as usize * 256;
         let end = start + 256;
         if !block_is(mode, c, reserved, &control[start..end]) {
-            return c;
+            return Some(c);
         }
-        c += 1;
     }
-    16
+    None
 }
 
 // What a control block alone says.
 #[derive(Clone, Copy)]
-pub enum Looked {
-    Found { mode: u8, count: u8, reserved: u8 },
-    NotABlock,
+pub struct BlockNumbers {
+    pub mode: u8,
+    pub count: u8,
+    pub reserved: u8,
 }
 
 // The bit of column 0 at a row from 1 on, before differential encoding.
@@ -193,10 +187,8 @@ fn field_at(block: &[u8], row: usize, k: usize) -> u8
     ensures { result ≡ number k (λ i. decoded block.now (row + i)) }
 {
     let mut x: u8 = 0;
-    let mut i: usize = 0;
-    while i < k {
+    for i in 0..k {
         x = (x << 1) | decoded_at(block, row + i);
-        i += 1;
     }
     x
 }
@@ -225,39 +217,26 @@ pub fn number_in(mode: u8, control: &[u8]) -> u8
     reserved
 }
 
-// The lowest block that is not the one of this mode, its count and the number of block 0, or 16.
-pub fn first_departing(mode: u8, control: &[u8]) -> u8
+// The lowest block that is not the one of this mode, its count and the number of block 0.
+pub fn first_departing(mode: u8, control: &[u8]) -> Option<u8>
     requires { (mode < 64) × (length control.now ≡ 4096) }
-    ensures { result ≡ lowest 16 (strays mode control.now) }
+    ensures lowest { unwrap_or result 16 ≡ lowest 16 (strays mode control.now) }
+    ensures inside { IfSome result (λ c. c < 16) }
 {
     let reserved = number_in(mode, control);
     departing_from(mode, reserved, control)
 }
 
 // Whether the mode is MP1, MP2, MP3, MP11, MP5 or MP6.
+#[tactic(auto, unfolding(crate::specs::Modes::covered, crate::specs::Modes::one_of, crate::specs::Modes::modes))]
 pub fn is_covered(mode: u8) -> bool
     ensures { result ≡ covered mode }
 {
-    if mode == 1 {
-        return true;
-    }
-    if mode == 2 {
-        return true;
-    }
-    if mode == 3 {
-        return true;
-    }
-    if mode == 11 {
-        return true;
-    }
-    if mode == 5 {
-        return true;
-    }
-    mode == 6
+    matches!(mode, 1 | 2 | 3 | 11 | 5 | 6)
 }
 
 // The mode, count and number of a block, by the fields of its column 0 and one comparison.
-pub fn lookup(block: &[u8]) -> Looked
+pub fn lookup(block: &[u8]) -> Option<BlockNumbers>
     requires { length block.now ≡ 256 }
     ensures { result ≡ looked_up block.now }
 {
@@ -266,15 +245,15 @@ pub fn lookup(block: &[u8]) -> Looked
     let reserved = reserved_at(block);
     let known = is_covered(mode);
     if !known {
-        return Looked::NotABlock;
+        return None;
     }
     let equal = block_is(mode, count, reserved, block);
     if !equal {
-        return Looked::NotABlock;
+        return None;
     }
-    Looked::Found {
+    Some(BlockNumbers {
         mode,
         count,
         reserved,
-    }
+    })
 }

@@ -44,11 +44,9 @@ fn best_start(costs: &[u16; 10240], budget: usize) -> Start
         e: 0,
         distance: trellis::score(costs, 0),
     };
-    let mut e: usize = 1;
-    while e < budget {
+    for e in 1..budget {
         let distance = trellis::score(costs, e);
         best = nearer(best, Start { e, distance });
-        e += 1;
     }
     best
 }

@@ -18,10 +18,8 @@ pub fn push(memory: &mut [u8], px: &[u8])
 {
     let n = px.len();
     let kept = memory.len() - n;
-    let mut i = 0;
-    while i < kept {
+    for i in 0..kept {
         memory[i] = memory[i + n];
-        i += 1;
     }
     bits::copy(px, &mut memory[kept..]);
 }
@@ -43,13 +41,11 @@ fn interleave_second(main: Main, row: usize, scrambled: &[u8], coded: &mut [u8],
     ensures { px2.new ≡ p1'_of main scrambled.now }
 {
     let n = scrambled.len() / 8;
-    let mut f: usize = 0;
-    while f < 8 {
+    for f in 0..8 {
         let from = f * n;
         let to = from + n;
         coding::encode(Rate::Half, n, 1, &scrambled[from..to], coded);
         px2::interleave(row, f, coded, px2);
-        f += 1;
     }
 }
 
@@ -104,14 +100,12 @@ fn first_apart(n: usize, a: &[u8], b: &[u8]) -> usize
     requires { (length a.now ≡ 8 * n) × (length b.now ≡ 8 * n) × (n ≤ 2304) }
     ensures { result ≡ lowest 8 (apart n a.now b.now) }
 {
-    let mut f: usize = 0;
-    while f < 8 {
+    for f in 0..8 {
         let from = f * n;
         let to = from + n;
         if !bits::same(&a[from..to], &b[from..to]) {
             return f;
         }
-        f += 1;
     }
     8
 }

@@ -80,8 +80,7 @@ fn judge_frames(
     let n = frame_bytes(mode);
     let mut state = begun.state;
     let mut at: usize = 0;
-    let mut t: usize = 0;
-    while t < count {
+    for t in 0..count {
         let judged = judge_frame(mode, t, state, &frames[at..], memory3, memory4, delay);
         let verdict = judged.verdict;
         let answer = verdict.answer;
@@ -90,7 +89,6 @@ fn judge_frames(
         }
         state = judged.state;
         at += n;
-        t += 1;
     }
     if at < frames.len() {
         return judged_as(Answer::WrongEnd, count);

@@ -7,14 +7,15 @@ use native.Mathlib.Decide.{dec_lt}
 use native.Mathlib.Omega.{arith}
 use lib.Dec.{eqb, ltb}
 use lib.ListN.{length}
+use Rattle.std.specs.Prelude.{Ok, Err}
 use Rattle.interleaving.specs.FinderPM.{source}
 use Rattle.interleaving.specs.Source.{Source, Either, first, second}
 use Rattle.interleaving.specs.Matrix.{Inside, position_at}
 use Rattle.interleaving.proofs.PositionsPM.{positions-pm}
-use Rattle.control.specs.declared.Looked.{Looked}
-use Rattle.control.specs.declared.Looked.TheVariants.{Found, NotABlock}
+use Rattle.std.specs.Prelude.{Option, Some, None, Err}
+use Rattle.control.specs.declared.BlockNumbers.{BlockNumbers}
 use Rattle.control.specs.Lookup.{looked_up}
-use Rattle.blockset.specs.declared.LookedFrame.TheVariants.{Faulty, Unfit}
+use Rattle.blockset.specs.declared.SetFault.TheVariants.{Faulty, Unfit}
 use Rattle.blockset.specs.LookupFrame.{says, named, faulty, unfit, looked_up_frame}
 use Rattle.bits.specs.Tests.{lowest}
 use Rattle.bits.proofs.Tests.{lowest-up-to}
@@ -27,12 +28,10 @@ use Rattle.runs.specs.declared.State.{State}
 use Rattle.runs.specs.Answers.{place_of}
 use Rattle.runs.specs.Lengths.{table_row}
 use Rattle.runs.specs.Starting.{valid}
-use Rattle.queries.specs.declared.finder_px.FoundPx.TheVariants.{Coded, Fill, Refused as RefusedPX}
+use Rattle.queries.specs.declared.finder_px.FoundPx.TheVariants.{Coded, Fill}
 use Rattle.queries.specs.FinderPX.{columns_of, cell_of, frame_coded, kind_of_number, found_px, told as told_px, values as values_px}
 use Rattle.interleaving.specs.PX.{coded_bits, coded_bytes}
 use native.Mathlib.Nat.{div-lt_iff_lt-mul, mod-lt}
-use Rattle.queries.specs.declared.blocks.LookedUp.TheVariants.{Refused as not_looked_up}
-use Rattle.queries.specs.declared.blocks.LookedUpFrame.TheVariants.{Refused as no_frame}
 use Rattle.queries.specs.Finder.{found, told, values}
 use Rattle.queries.specs.Lookup.{lookup_of, values as values_of_block, told as told_of_block}
 use Rattle.queries.specs.LookupFrame.{lookup_frame_of, values as values_of_frame, told as told_of_frame}
@@ -41,7 +40,7 @@ use Rattle.queries.specs.Places as Places
 use Rattle.words.proofs.Fields.{Small, SmallPlace, SmallPX}
 use Rattle.queries.proofs.Placing.{row_out, column-out, within, found-row-out, found-column-out, found_within}
 
-told-small : (s : Source) → Either 365440 3200 s → Small (values (told s))
+told-small : (s : Source) → Either 365440 3200 s → Small (values (Ok (told s)))
 told-small (first i) h = (omega arith, omega arith, omega arith)
 told-small (second i) h = (omega arith, omega arith, omega arith)
 
@@ -76,10 +75,10 @@ placed-small row column =
 
 -- ---- PX1 and PX2
 
-refused-small : (a : Answer) → place_of a < 2 ^ 8 → SmallPX (values_px (RefusedPX a))
+refused-small : (a : Answer) → place_of a < 2 ^ 8 → SmallPX (values_px (Err a))
 refused-small a h = (h, omega arith, omega arith, omega arith)
 
-coded-small : (t : Bool) (n f b : ℕ) → n ≤ 2 → f < 8 → b < 9216 → SmallPX (values_px (cond t Fill (Coded n f b)))
+coded-small : (t : Bool) (n f b : ℕ) → n ≤ 2 → f < 8 → b < 9216 → SmallPX (values_px (Ok (cond t Fill (Coded n f b))))
 coded-small true n f b ln lf lb = (omega arith, omega arith, omega arith, omega arith)
 coded-small false n f b ln lf lb = (omega arith, omega arith, omega arith, omega arith)
 
@@ -90,7 +89,7 @@ eight Unused e = absurd (true≢false e)
 eight Narrow e = (refl, omega arith, omega arith)
 eight Wide e = (refl, omega arith, omega arith)
 
-told_px-small : (k : Kind) (half age cell : ℕ) → eqb (columns_of k) 0 ≡ false → SmallPX (values_px (told_px k half age cell))
+told_px-small : (k : Kind) (half age cell : ℕ) → eqb (columns_of k) 0 ≡ false → SmallPX (values_px (Ok (told_px k half age cell)))
 unfolding told_px
 told_px-small k half age cell e =
     let (all, some, most) = eight k e in
@@ -109,13 +108,13 @@ found_px-small s channel pair row column =
     go : (k : Kind) (v z : Bool) → eqb (columns_of k) 0 ≡ z → (p r c : Bool)
         → SmallPX (values_px (
         cond v
-        (cond z (RefusedPX (WrongLength 0))
+        (cond z (Err (WrongLength 0))
         (cond p
         (cond r
-        (cond c (told_px k s.half s.age (cell_of k pair row column)) (RefusedPX (WrongLength 3)))
-        (RefusedPX (WrongLength 2)))
-        (RefusedPX (WrongLength 1))))
-        (RefusedPX StateNotValid)))
+        (cond c (Ok (told_px k s.half s.age (cell_of k pair row column))) (Err (WrongLength 3)))
+        (Err (WrongLength 2)))
+        (Err (WrongLength 1))))
+        (Err StateNotValid)))
     go k false z e p r c = refused-small StateNotValid (omega arith)
     go k true true e p r c = refused-small (WrongLength 0) (omega arith)
     go k true false e false r c = refused-small (WrongLength 1) (omega arith)
@@ -125,21 +124,21 @@ found_px-small s channel pair row column =
 
 -- ---- control blocks
 
-told-place : (looked : Looked) → (values_of_block (told_of_block looked)).place ≡ 0
-told-place (Found mode count reserved) = refl
-told-place NotABlock = refl
+told-place : (looked : Option BlockNumbers) → (values_of_block (told_of_block looked)).place ≡ 0
+told-place (Some block) = refl
+told-place None = refl
 
 pub lookup-place : (block : List ℕ) → (values_of_block (lookup_of block)).place < 2 ^ 8
 unfolding lookup_of
 lookup-place block = go (eqb (length block) 256)
   where
-    go : (t : Bool) → (values_of_block (cond t (told_of_block (looked_up block)) (not_looked_up (WrongLength 0)))).place < 2 ^ 8
+    go : (t : Bool) → (values_of_block (cond t (told_of_block (looked_up block)) (Err (WrongLength 0)))).place < 2 ^ 8
     go true = omega (arith, told-place (looked_up block))
     go false = omega arith
 
-named-place : (looked : Looked) → (values_of_frame (told_of_frame (named looked))).place ≡ 0
-named-place (Found mode count reserved) = refl
-named-place NotABlock = refl
+named-place : (looked : Option BlockNumbers) → (values_of_frame (told_of_frame (named looked))).place ≡ 0
+named-place (Some block) = refl
+named-place None = refl
 
 pub lookup-frame-place : (control : List ℕ) → (values_of_frame (lookup_frame_of control)).place < 2 ^ 8
 unfolding lookup_frame_of looked_up_frame
@@ -152,7 +151,7 @@ lookup-frame-place control = go (eqb (length control) 4096) (ltb bad 16) (ltb od
     odd = lowest 16 (unfit control)
 
     go : (t b o : Bool)
-        → (values_of_frame (cond t (told_of_frame (cond b (Faulty bad) (cond o (Unfit odd) (named (says control 0))))) (no_frame (WrongLength 0)))).place < 2 ^ 8
+        → (values_of_frame (cond t (told_of_frame (cond b (Err (Faulty bad)) (cond o (Err (Unfit odd)) (named (says control 0))))) (Err (WrongLength 0)))).place < 2 ^ 8
     go false b o = omega arith
     go true true o = omega (arith, lowest-up-to 16 (faulty control))
     go true false true = omega (arith, lowest-up-to 16 (unfit control))

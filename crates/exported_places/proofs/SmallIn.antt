@@ -7,6 +7,7 @@ use native.Mathlib.Decide.{dec_lt, ℕ_discrete}
 use native.Mathlib.Nat.{mod-lt}
 use native.Mathlib.Omega.{arith}
 use lib.Dec.{ltb}
+use Rattle.std.specs.Prelude.{Result, Ok, Err}
 use Rattle.control.specs.Modes.{covered}
 use Rattle.interleaving.specs.PX.{coded_bits, coded_bytes}
 use Rattle.interleaving.specs.FinderPX.{coded_bit, earlier, origin}
@@ -31,7 +32,6 @@ use Rattle.queries.proofs.Origins.{used}
 use Rattle.queries.proofs.Placing.{found-row-out, found-column-out}
 use Rattle.queries.proofs.Stands.{found-stands}
 use Rattle.locating.specs.declared.locator.Located.{Located}
-use Rattle.locating.specs.declared.locator.Located.TheVariants.{Refused as NoCell}
 use Rattle.locating.specs.declared.locator_px.LocatedPx.{LocatedPx}
 use Rattle.locating.specs.Locator as Locator
 use Rattle.locating.specs.LocatorPX as LocatorPX
@@ -54,7 +54,7 @@ use Rattle.exported_places.proofs.Small.{located-told, located-px-small}
 
 -- ---- the finder of PM
 
-owner-small : (k : Main) (i : ℕ) → i < 365440 → SmallFound (values (owner_in k i))
+owner-small : (k : Main) (i : ℕ) → i < 365440 → SmallFound (values (Ok (owner_in k i)))
 owner-small k i l = go (dec_lt i (p1_coded k))
   where
     frame_small : (m : Main) → i / frame_coded m < 2 ^ 8
@@ -67,37 +67,37 @@ owner-small k i l = go (dec_lt i (p1_coded k))
     bit-small Mp5 = omega arith
     bit-small Mp6 = omega arith
 
-    go : Dec (i < p1_coded k) → SmallFound (values (owner_in k i))
-    go (yes h) = subst (λ (o : Owner). SmallFound (values o)) (cases.of-p1 k i h) (omega arith, frame_small k, bit-small k)
-    go (no h) = subst (λ (o : Owner). SmallFound (values o)) (cases.of-p2 k i (omega arith)) (omega arith, omega arith, omega arith)
+    go : Dec (i < p1_coded k) → SmallFound (values (Ok (owner_in k i)))
+    go (yes h) = subst (λ (o : Owner). SmallFound (values (Ok o))) (cases.of-p1 k i h) (omega arith, frame_small k, bit-small k)
+    go (no h) = subst (λ (o : Owner). SmallFound (values (Ok o))) (cases.of-p2 k i (omega arith)) (omega arith, omega arith, omega arith)
 
 pub found-in-small : (mode row column : ℕ) → SmallFound (values (found_in mode row column))
 found-in-small mode row column = go (covered mode) refl (dec_lt row 512) (dec_lt column 720)
   where
     go : (b : Bool) → covered mode ≡ b → Dec (row < 512) → Dec (column < 720) → SmallFound (values (found_in mode row column))
-    go false e r c = subst (λ (o : Owner). SmallFound (values o)) (cases.found_none mode row column e) (omega arith, omega arith, omega arith)
+    go false e r c = subst (λ (o : Result Owner Answer). SmallFound (values o)) (cases.found_none mode row column e) (omega arith, omega arith, omega arith)
     go true e (no r) c =
-        subst (λ (o : Owner). SmallFound (values o)) (cases.found-told mode row column e _ (found-row-out row column (omega arith)))
+        subst (λ (o : Result Owner Answer). SmallFound (values o)) (cases.found-told mode row column e _ (found-row-out row column (omega arith)))
         (omega arith, omega arith, omega arith)
     go true e (yes r) (no c) =
-        subst (λ (o : Owner). SmallFound (values o)) (cases.found-told mode row column e _ (found-column-out row column r (omega arith)))
+        subst (λ (o : Result Owner Answer). SmallFound (values o)) (cases.found-told mode row column e _ (found-column-out row column r (omega arith)))
         (omega arith, omega arith, omega arith)
     go true e (yes r) (yes c) =
         elim (found-stands row column r c) [
           | inl (i, x) ↦
-              subst (λ (o : Owner). SmallFound (values o)) (cases.found-told mode row column e _ x.named) (owner-small (main_of mode) i x.inside)
+              subst (λ (o : Result Owner Answer). SmallFound (values o)) (cases.found-told mode row column e _ x.named) (owner-small (main_of mode) i x.inside)
           | inr (f, i, x) ↦
-              subst (λ (o : Owner). SmallFound (values o)) (cases.found-told mode row column e _ x.named)
+              subst (λ (o : Result Owner Answer). SmallFound (values o)) (cases.found-told mode row column e _ x.named)
               (omega arith, omega (arith, x.inside.0), omega (arith, x.inside.1))
         ]
 
 -- ---- the locator of PM
 
-abbrev Fits : Located → Type 0
+abbrev Fits : Result Located Answer → Type 0
 Fits x = SmallLocated (Locator.values x)
 
 -- a refusal's place, and zeros
-none-fits : (a : Answer) → place_of a < 2 ^ 8 → Fits (NoCell a)
+none-fits : (a : Answer) → place_of a < 2 ^ 8 → Fits (Err a)
 none-fits a h = (h, record { block-lt = omega arith; row_lt = omega arith; partition-lt = omega arith; column-lt = omega arith })
 
 p1-fits : (k : Main) (frame i : ℕ) → Fits (p1_in k frame i)
@@ -128,7 +128,7 @@ located-in-small mode channel frame i = go (covered mode) refl (ℕ_discrete cha
 
 -- ---- the finder of PX1 and PX2
 
-abbrev FitsPX : FoundPxIn → Type 0
+abbrev FitsPX : Result FoundPxIn Answer → Type 0
 FitsPX x = SmallFoundPX (values_px x)
 
 -- what the finder of the older modes tells of a coded bit
@@ -144,20 +144,20 @@ some_bits Unused u = absurd (omega arith)
 some_bits Narrow u = omega arith
 some_bits Wide u = omega arith
 
-told-small : (k : Kind) (half age cell : ℕ) → table_row k < 2 → FitsPX (as_in (told k half age cell))
+told-small : (k : Kind) (half age cell : ℕ) → table_row k < 2 → FitsPX (as_in (Ok (told k half age cell)))
 unfolding told
 told-small k half age cell u = go (ltb age (earlier (table_row k) half cell))
   where
     j : ℕ
     j = coded_bit (table_row k) half cell
 
-    go : (b : Bool) → FitsPX (as_in (cond b finder.Fill (finder.Coded (earlier (table_row k) half cell) (j / PX.frame_coded k) (j % PX.frame_coded k))))
+    go : (b : Bool) → FitsPX (as_in (Ok (cond b finder.Fill (finder.Coded (earlier (table_row k) half cell) (j / PX.frame_coded k) (j % PX.frame_coded k)))))
     go true = (omega arith, omega arith, omega arith, omega arith)
     go false =
         let (f, b) = parts k j u (mod-lt (origin (table_row k) half cell) (some_bits k u)) in
         (omega arith, f, omega arith, b)
 
-abbrev Older : FoundPx → Type 0
+abbrev Older : Result FoundPx Answer → Type 0
 Older x = FitsPX (as_in x)
 
 older-small : (s : State) (channel pair row column : ℕ) → Older (found_px s channel pair row column)
@@ -167,7 +167,7 @@ older-small s channel pair row column =
     k : Kind
     k = kind_of_number s.mode channel
 
-    none : (place : ℕ) → place < 2 ^ 8 → Older (finder.Refused (WrongLength place))
+    none : (place : ℕ) → place < 2 ^ 8 → Older (Err (WrongLength place))
     none place l = (l, omega arith, omega arith, omega arith)
 
     go : (b : Bool) → valid s ≡ b → Dec (columns_of k ≡ 0) → Dec (pair < 8) → Dec (row < 64) → Dec (column < columns_of k)
@@ -207,7 +207,7 @@ found-px-in-small s channel pair row column = go (valid s) refl (named (main_of 
 
 -- ---- the locator of PX1 and PX2
 
-abbrev FitsCell : LocatedPx → Type 0
+abbrev FitsCell : Result LocatedPx Answer → Type 0
 FitsCell x = SmallLocatedPX (LocatorPX.values x)
 
 delay-le : (k : Main) → delay_frames k ≤ 3
@@ -220,7 +220,7 @@ columns-le Plain = omega arith
 columns-le Mp5 = omega arith
 columns-le Mp6 = omega arith
 
-cell-small : (k : Main) (frame i : ℕ) → frame < 8 → i < coded_of k → FitsCell (standing k frame i)
+cell-small : (k : Main) (frame i : ℕ) → frame < 8 → i < coded_of k → FitsCell (Ok (standing k frame i))
 unfolding standing
 cell-small k frame i lf lb =
     let g = goes_to k frame i lf lb in (

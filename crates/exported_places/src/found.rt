@@ -7,44 +7,46 @@ ghost use Rattle.exported_places.specs.Found.{SmallFound, SmallFoundPX, found_in
 
 use finding::Owner;
 use finding_px::FoundPxIn;
-use runs::State;
+use runs::{Answer, State};
 use words::answer_word;
 
 // The word of a finding in PM.
-fn found_in_word(cell: Owner) -> u64
+fn found_in_word(cell: Result<Owner, Answer>) -> u64
     requires { SmallFound (values cell) }
     ensures { result ≡ found_in_word (values cell) }
 {
     match cell {
-        Owner::P1 { frame, bit } => 256 + 65536 * (frame as u64) + 1099511627776 * (bit as u64),
-        Owner::P2 { bit } => 1280 + 1099511627776 * (bit as u64),
-        Owner::Pids { frame, bit } => {
+        Ok(Owner::P1 { frame, bit }) => 256 + 65536 * (frame as u64) + 1099511627776 * (bit as u64),
+        Ok(Owner::P2 { bit }) => 1280 + 1099511627776 * (bit as u64),
+        Ok(Owner::Pids { frame, bit }) => {
             512 + 65536 * (frame as u64) + 1099511627776 * (bit as u64)
         }
-        Owner::Refused { answer } => answer_word(answer),
+        Err(answer) => answer_word(answer),
     }
 }
 
 // The word of a finding in PX1 or PX2.
-fn found_px_in_word(cell: FoundPxIn) -> u64
+fn found_px_in_word(cell: Result<FoundPxIn, Answer>) -> u64
     requires { SmallFoundPX (values_px cell) }
     ensures { result ≡ found_px_in_word (values_px cell) }
 {
     match cell {
-        FoundPxIn::Coded {
-            earlier,
-            frame,
-            bit,
-        } => {
+        Ok(
+            FoundPxIn::Coded {
+                earlier,
+                frame,
+                bit,
+            },
+        ) => {
             let low = 256 + 65536 * (frame as u64) + 16777216 * (earlier as u64);
             low + 1099511627776 * (bit as u64)
         }
-        FoundPxIn::Fill => 512,
-        FoundPxIn::Second { frame, bit } => {
+        Ok(FoundPxIn::Fill) => 512,
+        Ok(FoundPxIn::Second { frame, bit }) => {
             50332416 + 65536 * (frame as u64) + 1099511627776 * (bit as u64)
         }
-        FoundPxIn::DelayZero => 1024,
-        FoundPxIn::Refused { answer } => answer_word(answer),
+        Ok(FoundPxIn::DelayZero) => 1024,
+        Err(answer) => answer_word(answer),
     }
 }
 

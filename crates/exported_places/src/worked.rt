@@ -9,13 +9,6 @@ use runs::{Answer, State};
 use words::answer_word;
 use workings::Worked;
 
-// A bit of a working as a number of the buffer.
-fn wide(bit: u8) -> u64
-    ensures { result ≡ bit }
-{
-    bit as u64
-}
-
 // The numbers of a working, in the order of the header's `layer1_worked`.
 fn numbers(w: Worked) -> [u64; 25]
     requires { (length w.bits ≡ 7) × (length w.scrambling ≡ 7) }
@@ -28,20 +21,20 @@ fn numbers(w: Worked) -> [u64; 25]
     [
         w.number as u64,
         w.generator as u64,
-        wide(b[0]),
-        wide(b[1]),
-        wide(b[2]),
-        wide(b[3]),
-        wide(b[4]),
-        wide(b[5]),
-        wide(b[6]),
-        wide(s[0]),
-        wide(s[1]),
-        wide(s[2]),
-        wide(s[3]),
-        wide(s[4]),
-        wide(s[5]),
-        wide(s[6]),
+        u64::from(b[0]),
+        u64::from(b[1]),
+        u64::from(b[2]),
+        u64::from(b[3]),
+        u64::from(b[4]),
+        u64::from(b[5]),
+        u64::from(b[6]),
+        u64::from(s[0]),
+        u64::from(s[1]),
+        u64::from(s[2]),
+        u64::from(s[3]),
+        u64::from(s[4]),
+        u64::from(s[5]),
+        u64::from(s[6]),
         w.sum as u64,
         w.coded as u64,
         writing.step as u64,
@@ -52,18 +45,6 @@ fn numbers(w: Worked) -> [u64; 25]
         p.column as u64,
         writing.cell as u64,
     ]
-}
-
-// Copies src to dst.
-fn copy(src: &[u64], dst: &mut [u64])
-    requires { length src.now ≡ length dst.old }
-    ensures { dst.new ≡ src.now }
-{
-    let mut i: usize = 0;
-    while i < src.len() {
-        dst[i] = src[i];
-        i += 1;
-    }
 }
 
 // Leaves the numbers of a working in the buffer, and gives its word.
@@ -78,8 +59,7 @@ fn leave(w: Worked, out: &mut [u64]) -> u64
     if out.len() != 25 {
         return answer_word(Answer::WrongLength(4));
     }
-    let told = numbers(w);
-    copy(&told, out);
+    out.copy_from_slice(&numbers(w));
     0
 }
 

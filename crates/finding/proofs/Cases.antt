@@ -4,20 +4,21 @@ use mathlib.Core.Bool.{true, false}
 use Prim.Native.Nat.{ℕ, ◌+◌, ◌-◌, ◌*◌, ◌/◌, ◌%◌, ◌<◌, ◌≤◌}
 use native.Mathlib.Omega.{arith}
 use borrow.Author.Tests.{eq-eqb, ne_eqb, lt-ltb, le-ltb}
+use Rattle.std.specs.Prelude.{Result, Err}
 use Rattle.control.specs.Modes.{covered}
-use Rattle.runs.specs.declared.Answer.TheVariants.{ModeNotCovered}
+use Rattle.runs.specs.declared.Answer.{Answer}
+use Rattle.runs.specs.declared.Answer.TheVariants.{ModeNotCovered, WrongLength}
 use Rattle.runs.specs.declared.Main.{Main}
 use Rattle.runs.specs.declared.Main.TheVariants.{Plain, Mp5, Mp6}
 use Rattle.runs.specs.MainChannels.{main_of, p1_frames}
 use Rattle.runs.specs.Chain.{p1_coded}
 use Rattle.queries.specs.Finder.{found}
 use Rattle.queries.specs.declared.finder.Found.{Found}
-use Rattle.locating.specs.declared.locator.Located.TheVariants as locator
 use Rattle.locating.specs.Locator.{located}
-use Rattle.finding.specs.declared.finder.Owner.TheVariants.{P1, P2, Refused}
+use Rattle.finding.specs.declared.finder.Owner.TheVariants.{P1, P2}
 use Rattle.finding.specs.VectorU.{frame_coded, p2_coded}
 use Rattle.finding.specs.Finder.{found_in, owner_in, told}
-use Rattle.finding.specs.Locator.{located_in, p1_in, p2_in, refused_at}
+use Rattle.finding.specs.Locator.{located_in, p1_in, p2_in}
 
 -- ---- U: the coded P1 frames, then coded P2, 365,440 bits together
 
@@ -48,7 +49,7 @@ module _ (k : Main) (i : ℕ) where
   of-p2 l = rw (le-ltb i (p1_coded k) l)
 
 module _ (mode row column : ℕ) where
-  pub found_none : covered mode ≡ false → Refused ModeNotCovered ≡ found_in mode row column
+  pub found_none : covered mode ≡ false → Err ModeNotCovered ≡ found_in mode row column
   unfolding found_in
   found_none e = rw e
 
@@ -59,11 +60,11 @@ module _ (mode row column : ℕ) where
 -- ---- the locator
 
 module _ (k : Main) (frame bit : ℕ) where
-  pub p1-frame-out : p1_frames k ≤ frame → refused_at 1 ≡ p1_in k frame bit
+  pub p1-frame-out : p1_frames k ≤ frame → Err (WrongLength 1) ≡ p1_in k frame bit
   unfolding p1_in
   p1-frame-out h = rw (le-ltb frame (p1_frames k) h)
 
-  pub p1-bit-out : frame < p1_frames k → frame_coded k ≤ bit → refused_at 2 ≡ p1_in k frame bit
+  pub p1-bit-out : frame < p1_frames k → frame_coded k ≤ bit → Err (WrongLength 2) ≡ p1_in k frame bit
   unfolding p1_in
   p1-bit-out l h = rw (lt-ltb frame (p1_frames k) l, le-ltb bit (frame_coded k) h)
 
@@ -71,15 +72,15 @@ module _ (k : Main) (frame bit : ℕ) where
   unfolding p1_in
   p1-in l h = rw (lt-ltb frame (p1_frames k) l, lt-ltb bit (frame_coded k) h)
 
-  pub p2-out : p2_coded k ≡ 0 → refused_at 0 ≡ p2_in k frame bit
+  pub p2-out : p2_coded k ≡ 0 → Err (WrongLength 0) ≡ p2_in k frame bit
   unfolding p2_in
   p2-out e = rw (eq-eqb (p2_coded k) 0 e)
 
-  pub p2-frame-out : (p2_coded k ≡ 0 → ⊥) → 1 ≤ frame → refused_at 1 ≡ p2_in k frame bit
+  pub p2-frame-out : (p2_coded k ≡ 0 → ⊥) → 1 ≤ frame → Err (WrongLength 1) ≡ p2_in k frame bit
   unfolding p2_in
   p2-frame-out n h = rw (ne_eqb (p2_coded k) 0 n, le-ltb frame 1 h)
 
-  pub p2-bit-out : (p2_coded k ≡ 0 → ⊥) → frame < 1 → p2_coded k ≤ bit → refused_at 2 ≡ p2_in k frame bit
+  pub p2-bit-out : (p2_coded k ≡ 0 → ⊥) → frame < 1 → p2_coded k ≤ bit → Err (WrongLength 2) ≡ p2_in k frame bit
   unfolding p2_in
   p2-bit-out n l h = rw (ne_eqb (p2_coded k) 0 n, lt-ltb frame 1 l, le-ltb bit (p2_coded k) h)
 
@@ -88,7 +89,7 @@ module _ (k : Main) (frame bit : ℕ) where
   p2-in n l h = rw (ne_eqb (p2_coded k) 0 n, lt-ltb frame 1 l, lt-ltb bit (p2_coded k) h)
 
 module _ (mode channel frame bit : ℕ) where
-  pub located-none : covered mode ≡ false → locator.Refused ModeNotCovered ≡ located_in mode channel frame bit
+  pub located-none : covered mode ≡ false → Err ModeNotCovered ≡ located_in mode channel frame bit
   unfolding located_in
   located-none e = rw e
 
@@ -118,10 +119,10 @@ module _ (k : Main) (n all m : ℕ) (en : n ≡ frame_coded k) (ea : all ≡ p1_
   owner-p2 i l = ap (λ (u : ℕ). P2 (i - u)) ea ∙ of-p2 k i (subst (λ (u : ℕ). u ≤ i) ea l)
 
   module _ (frame bit : ℕ) where
-    pub frame-out : all / n ≤ frame → refused_at 1 ≡ p1_in k frame bit
+    pub frame-out : all / n ≤ frame → Err (WrongLength 1) ≡ p1_in k frame bit
     frame-out h = p1-frame-out k frame bit (subst (λ (u : ℕ). u ≤ frame) frames-are h)
 
-    pub bit-out : frame < all / n → n ≤ bit → refused_at 2 ≡ p1_in k frame bit
+    pub bit-out : frame < all / n → n ≤ bit → Err (WrongLength 2) ≡ p1_in k frame bit
     bit-out l h = p1-bit-out k frame bit (subst (λ (u : ℕ). frame < u) frames-are l) (subst (λ (u : ℕ). u ≤ bit) en h)
 
     pub bit_in : frame < all / n → bit < n → located 1 0 (frame * n + bit) ≡ p1_in k frame bit
@@ -135,13 +136,13 @@ module _ (k : Main) (n all m : ℕ) (en : n ≡ frame_coded k) (ea : all ≡ p1_
         let t : frame * n + bit < p1_coded k = subst (λ (u : ℕ). frame * u + bit < p1_coded k) (sym en) s in
         omega (arith, t, together k)
 
-    pub p2-none : m ≡ 0 → refused_at 0 ≡ p2_in k frame bit
+    pub p2-none : m ≡ 0 → Err (WrongLength 0) ≡ p2_in k frame bit
     p2-none e = p2-out k frame bit (sym em ∙ e)
 
-    pub p2-other-frame : (m ≡ 0 → ⊥) → 1 ≤ frame → refused_at 1 ≡ p2_in k frame bit
+    pub p2-other-frame : (m ≡ 0 → ⊥) → 1 ≤ frame → Err (WrongLength 1) ≡ p2_in k frame bit
     p2-other-frame x h = p2-frame-out k frame bit (λ e. x (em ∙ e)) h
 
-    pub p2-past : (m ≡ 0 → ⊥) → frame < 1 → m ≤ bit → refused_at 2 ≡ p2_in k frame bit
+    pub p2-past : (m ≡ 0 → ⊥) → frame < 1 → m ≤ bit → Err (WrongLength 2) ≡ p2_in k frame bit
     p2-past x l h = p2-bit-out k frame bit (λ e. x (em ∙ e)) l (subst (λ (u : ℕ). u ≤ bit) em h)
 
     pub p2-at : (m ≡ 0 → ⊥) → frame < 1 → bit < m → located 1 0 (all + bit) ≡ p2_in k frame bit
@@ -150,6 +151,6 @@ module _ (k : Main) (n all m : ℕ) (en : n ≡ frame_coded k) (ea : all ≡ p1_
 
 -- ---- which case the match met
 
-module _ (mode row column : ℕ) (is : covered mode ≡ true) (f : Found) (e : found row column ≡ f) where
+module _ (mode row column : ℕ) (is : covered mode ≡ true) (f : Result Found Answer) (e : found row column ≡ f) where
   pub found-told : told (main_of mode) f ≡ found_in mode row column
   found-told = ap (told (main_of mode)) (sym e) ∙ found_some mode row column is

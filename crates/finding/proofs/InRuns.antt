@@ -7,6 +7,7 @@ use Prim.Native.Nat.{ℕ, ◌+◌, ◌-◌, ◌*◌, ◌/◌, ◌%◌, ◌<◌, 
 use native.Mathlib.Decide.{dec_lt, ℕ_discrete}
 use native.Mathlib.Omega.{arith}
 use native.Mathlib.Nat.{div-add-mod'}
+use Rattle.std.specs.Prelude.{Result, Ok, Err}
 use Rattle.bits.specs.Bits.{bit_at}
 use Rattle.coding.specs.declared.Rate.TheVariants.{TwoFifths}
 use Rattle.coding.specs.Channel.{channel}
@@ -25,14 +26,14 @@ use Rattle.queries.specs.declared.finder.Found.TheVariants as finder
 use Rattle.queries.specs.Finder.{found}
 use Rattle.queries.proofs.Placing.{found_inside}
 use Rattle.queries.proofs.Stands.{found-stands}
+use Rattle.queries.proofs.Valued.{ok-is}
 use Rattle.locating.specs.declared.locator.Located.{Located}
-use Rattle.locating.specs.declared.locator.Located.TheVariants.{At, Refused as NotLocated}
 use Rattle.locating.specs.Locator.{located}
 use Rattle.locating.specs.BothWays as older
 use Rattle.locating.proofs.AgainPM.{both_ways}
 use Rattle.locating.proofs.CasesPM as pm
 use Rattle.finding.specs.declared.finder.Owner.{Owner}
-use Rattle.finding.specs.declared.finder.Owner.TheVariants.{P1, P2, Pids, Refused}
+use Rattle.finding.specs.declared.finder.Owner.TheVariants.{P1, P2, Pids}
 use Rattle.finding.specs.VectorU.{frame_coded, p2_coded}
 use Rattle.finding.specs.Finder.{found_in, owner_in, told}
 use Rattle.finding.specs.Locator.{located_in, p1_in}
@@ -43,7 +44,7 @@ use Rattle.finding.proofs.Cases.{p1-frame-out, p1-bit-out, p1-in, p2-in, located
 -- ---- bits of U
 
 -- the cell finder names no bit past its end
-p1-lt : (row column bit : ℕ) → found row column ≡ finder.P1 bit → bit < 365440
+p1-lt : (row column bit : ℕ) → found row column ≡ Ok (finder.P1 bit) → bit < 365440
 p1-lt row column bit e =
     let (lr, lc) = found_inside row column (λ r n. let z : ◌≡◌ {A = ℕ} 0 1 = cc in omega arith) in
     elim (found-stands row column lr lc) [
@@ -86,10 +87,10 @@ whole k i = div-add-mod' i (frame_coded k)
 plain-owner : (i : ℕ) → i < 365440 → owner_in Plain i ≡ P1 0 i
 plain-owner i l = sym (of-p1 Plain i l) ∙ ap₂ P1 (omega arith) (omega arith)
 
-plain-told : (f : Found) → ((i : ℕ) → f ≡ finder.P1 i → i < 365440) → told Plain f ≡ as_owner f
-plain-told (finder.P1 i) l = plain-owner i (l i refl)
-plain-told (finder.Pids frame bit) l = refl
-plain-told (finder.Refused answer) l = refl
+plain-told : (f : Result Found Answer) → ((i : ℕ) → f ≡ Ok (finder.P1 i) → i < 365440) → told Plain f ≡ as_owner f
+plain-told (Ok (finder.P1 i)) l = ap Ok (plain-owner i (l i refl))
+plain-told (Ok (finder.Pids frame bit)) l = refl
+plain-told (Err answer) l = refl
 
 plain-p1 : (frame bit : ℕ) → p1_in Plain frame bit ≡ located 1 frame bit
 plain-p1 frame bit = go (dec_lt frame 1) (dec_lt bit 365440)
@@ -123,11 +124,11 @@ module _ (mode : ℕ) (is : covered mode ≡ true) where
 
   -- ---- both ways
 
-  again : (x : Located) → found_again mode x ≡ told (main_of mode) (older.found_again x)
-  again (At p row column) = sym (found_some mode row column is)
-  again (NotLocated answer) = refl
+  again : (x : Result Located Answer) → found_again mode x ≡ told (main_of mode) (older.found_again x)
+  again (Ok cell) = sym (found_some mode cell.row cell.column is)
+  again (Err answer) = refl
 
-  p1-again : (frame bit : ℕ) → frame < p1_frames k → bit < frame_coded k → found_again mode (located_in mode 1 frame bit) ≡ P1 frame bit
+  p1-again : (frame bit : ℕ) → frame < p1_frames k → bit < frame_coded k → found_again mode (located_in mode 1 frame bit) ≡ Ok (P1 frame bit)
   p1-again frame bit lf lb =
       let i : ℕ = frame * frame_coded k + bit in
       let l = in-frames k frame bit lf lb in
@@ -135,10 +136,9 @@ module _ (mode : ℕ) (is : covered mode ≡ true) where
       ap (found_again mode) (sym (p1-in k frame bit lf lb ∙ located-p1 mode 1 frame bit is refl))
       ∙ again (located 1 0 (frame * frame_coded k + bit))
       ∙ ap (told k) (both_ways.p1-there (frame * frame_coded k + bit) h)
-      ∙ sym (of-p1 k (frame * frame_coded k + bit) l)
-      ∙ ap₂ P1 (frame_is k frame bit lb) (bit_is k frame bit lb)
+      ∙ ap Ok (sym (of-p1 k (frame * frame_coded k + bit) l) ∙ ap₂ P1 (frame_is k frame bit lb) (bit_is k frame bit lb))
 
-  p2-again : (bit : ℕ) → bit < p2_coded k → found_again mode (located_in mode 5 0 bit) ≡ P2 bit
+  p2-again : (bit : ℕ) → bit < p2_coded k → found_again mode (located_in mode 5 0 bit) ≡ Ok (P2 bit)
   p2-again bit l =
       let h : p1_coded k + bit < 365440 = omega (arith, l, together k) in
       let some : p2_coded k ≡ 0 → ⊥ = λ e. omega (arith, e, l) in
@@ -147,21 +147,20 @@ module _ (mode : ℕ) (is : covered mode ≡ true) where
       ap (found_again mode) (sym (p2-in k 0 bit some (omega arith) l ∙ located-p2 mode 5 0 bit is (λ e. omega arith) refl))
       ∙ again (located 1 0 (p1_coded k + bit))
       ∙ ap (told k) (both_ways.p1-there (p1_coded k + bit) h)
-      ∙ sym (of-p2 k (p1_coded k + bit) first)
-      ∙ ap P2 back
+      ∙ ap Ok (sym (of-p2 k (p1_coded k + bit) first) ∙ ap P2 back)
 
-  pids-again : (frame bit : ℕ) → frame < 16 → bit < 200 → found_again mode (located_in mode 2 frame bit) ≡ Pids frame bit
+  pids-again : (frame bit : ℕ) → frame < 16 → bit < 200 → found_again mode (located_in mode 2 frame bit) ≡ Ok (Pids frame bit)
   pids-again frame bit lf lb =
       ap (found_again mode) (sym (located-other mode 2 frame bit is (λ e. omega arith) (λ e. omega arith)))
       ∙ again (located 2 frame bit)
       ∙ ap (told k) (both_ways.pids-there frame bit lf lb)
 
-  u-again : (i : ℕ) → i < 365440 → located_again mode (owner_in k i) ≡ located 1 0 i
+  u-again : (i : ℕ) → i < 365440 → located_again mode (Ok (owner_in k i)) ≡ located 1 0 i
   u-again i l = go (dec_lt i (p1_coded k))
     where
-      go : Dec (i < p1_coded k) → located_again mode (owner_in k i) ≡ located 1 0 i
+      go : Dec (i < p1_coded k) → located_again mode (Ok (owner_in k i)) ≡ located 1 0 i
       go (yes h) =
-          ap (located_again mode) (sym (of-p1 k i h))
+          ap (λ o. located_again mode (Ok o)) (sym (of-p1 k i h))
           ∙ sym (p1-in k (i / frame_coded k) (i % frame_coded k) (frame-lt k i h) (bit-lt k i) ∙ located-p1 mode 1 _ _ is refl)
           ∙ ap (located 1 0) (whole k i)
       go (no h) =
@@ -169,14 +168,14 @@ module _ (mode : ℕ) (is : covered mode ≡ true) where
           let b : i - p1_coded k < p2_coded k = omega (arith, together k) in
           let some : p2_coded k ≡ 0 → ⊥ = λ e. omega (arith, e, b) in
           let sum : p1_coded k + (i - p1_coded k) ≡ i = omega arith in
-          ap (located_again mode) (sym (of-p2 k i n))
+          ap (λ o. located_again mode (Ok o)) (sym (of-p2 k i n))
           ∙ sym (p2-in k 0 (i - p1_coded k) some (omega arith) b ∙ located-p2 mode 5 0 _ is (λ e. omega arith) refl)
           ∙ ap (located 1 0) sum
 
-  told-again : (f : Found) → ((i : ℕ) → f ≡ finder.P1 i → i < 365440) → located_again mode (told k f) ≡ older.located_again f
-  told-again (finder.P1 i) l = u-again i (l i refl)
-  told-again (finder.Pids frame bit) l = sym (located-other mode 2 frame bit is (λ e. omega arith) (λ e. omega arith))
-  told-again (finder.Refused answer) l = refl
+  told-again : (f : Result Found Answer) → ((i : ℕ) → f ≡ Ok (finder.P1 i) → i < 365440) → located_again mode (told k f) ≡ older.located_again f
+  told-again (Ok (finder.P1 i)) l = u-again i (l i refl)
+  told-again (Ok (finder.Pids frame bit)) l = sym (located-other mode 2 frame bit is (λ e. omega arith) (λ e. omega arith))
+  told-again (Err answer) l = refl
 
   pub both-ways-in : BothWays mode
   both-ways-in =
@@ -200,18 +199,18 @@ module _ (mode : ℕ) (a : SenderRun mode) (t : ℕ) (h : t < count mode a) (row
   is = covered_of mode a
 
   -- of a cell that is not refused
-  inside : (o : Owner) → found_in mode row column ≡ o → ((answer : Answer) → o ≡ Refused answer → ⊥) → (row < 512) × (column < 720)
-  inside o e n = found_inside row column (λ r f. n r (sym e ∙ sym (found-told mode row column is (finder.Refused r) f)))
+  inside : (o : Result Owner Answer) → found_in mode row column ≡ o → ((answer : Answer) → o ≡ Err answer → ⊥) → (row < 512) × (column < 720)
+  inside o e n = found_inside row column (λ r f. n r (sym e ∙ sym (found-told mode row column is (Err r) f)))
 
-  p1-in-cell : (frame bit : ℕ) → found_in mode row column ≡ P1 frame bit
+  p1-in-cell : (frame bit : ℕ) → found_in mode row column ≡ Ok (P1 frame bit)
       → bit_at (matrices_at mode a t).pm (row * 720 + column)
       ≡ channel TwoFifths (p1_bits main) (bit_at (frame_at mode a t).p1) (frame * frame_coded main + bit)
   p1-in-cell frame bit e =
-      let (lr, lc) = inside (P1 frame bit) e (λ r n. let z : ◌≡◌ {A = ℕ} 0 1 = cc in omega arith) in
+      let (lr, lc) = inside (Ok (P1 frame bit)) e (λ r n. let z : ◌≡◌ {A = ℕ} 0 1 = cc in omega arith) in
       elim (found-stands row column lr lc) [
-        | inl (i, x) ↦ go i x.stands (found-told mode row column is (finder.P1 i) x.named ∙ e) (dec_lt i (p1_coded main))
+        | inl (i, x) ↦ go i x.stands (ok-is (found-told mode row column is (Ok (finder.P1 i)) x.named ∙ e)) (dec_lt i (p1_coded main))
         | inr (f, i, x) ↦
-            let told-pids = found-told mode row column is (finder.Pids f i) x.named ∙ e in
+            let told-pids = found-told mode row column is (Ok (finder.Pids f i)) x.named ∙ e in
             let z : ◌≡◌ {A = ℕ} 0 1 = cc in
             absurd (omega arith)
       ]
@@ -232,14 +231,14 @@ module _ (mode : ℕ) (a : SenderRun mode) (t : ℕ) (h : t < count mode a) (row
           let z : ◌≡◌ {A = ℕ} 0 1 = cc in
           absurd (omega arith)
 
-  p2-in-cell : (bit : ℕ) → found_in mode row column ≡ P2 bit
+  p2-in-cell : (bit : ℕ) → found_in mode row column ≡ Ok (P2 bit)
       → bit_at (matrices_at mode a t).pm (row * 720 + column) ≡ channel TwoFifths (p2_bits main) (bit_at (frame_at mode a t).p2) bit
   p2-in-cell bit e =
-      let (lr, lc) = inside (P2 bit) e (λ r n. let z : ◌≡◌ {A = ℕ} 0 1 = cc in omega arith) in
+      let (lr, lc) = inside (Ok (P2 bit)) e (λ r n. let z : ◌≡◌ {A = ℕ} 0 1 = cc in omega arith) in
       elim (found-stands row column lr lc) [
-        | inl (i, x) ↦ go i x.inside x.stands (found-told mode row column is (finder.P1 i) x.named ∙ e) (dec_lt i (p1_coded main))
+        | inl (i, x) ↦ go i x.inside x.stands (ok-is (found-told mode row column is (Ok (finder.P1 i)) x.named ∙ e)) (dec_lt i (p1_coded main))
         | inr (f, i, x) ↦
-            let told-pids = found-told mode row column is (finder.Pids f i) x.named ∙ e in
+            let told-pids = found-told mode row column is (Ok (finder.Pids f i)) x.named ∙ e in
             let z : ◌≡◌ {A = ℕ} 0 1 = cc in
             absurd (omega arith)
       ]
@@ -258,14 +257,14 @@ module _ (mode : ℕ) (a : SenderRun mode) (t : ℕ) (h : t < count mode a) (row
           let small : bit < p2_coded main = omega (arith, same, first, together main) in
           ap (bit_at (matrices_at mode a t).pm) (sym s ∙ ap p1_place (sym place)) ∙ p2-shown mode a t h bit small
 
-  pids-in-cell : (frame bit : ℕ) → found_in mode row column ≡ Pids frame bit
+  pids-in-cell : (frame bit : ℕ) → found_in mode row column ≡ Ok (Pids frame bit)
       → bit_at (matrices_at mode a t).pm (row * 720 + column) ≡ channel TwoFifths 80 (bit_at (frame_at mode a t).pids) (frame * 200 + bit)
   pids-in-cell frame bit e =
-      let (lr, lc) = inside (Pids frame bit) e (λ r n. let z : ◌≡◌ {A = ℕ} 0 1 = cc in omega arith) in
+      let (lr, lc) = inside (Ok (Pids frame bit)) e (λ r n. let z : ◌≡◌ {A = ℕ} 0 1 = cc in omega arith) in
       elim (found-stands row column lr lc) [
-        | inl (i, x) ↦ go i (found-told mode row column is (finder.P1 i) x.named ∙ e) (dec_lt i (p1_coded main))
+        | inl (i, x) ↦ go i (ok-is (found-told mode row column is (Ok (finder.P1 i)) x.named ∙ e)) (dec_lt i (p1_coded main))
         | inr (f, i, x) ↦
-            let told-pids = found-told mode row column is (finder.Pids f i) x.named ∙ e in
+            let told-pids = found-told mode row column is (Ok (finder.Pids f i)) x.named ∙ e in
             let same-frame : f ≡ frame = cc in
             let same : i ≡ bit = cc in
             ap (bit_at (matrices_at mode a t).pm) (sym x.stands)

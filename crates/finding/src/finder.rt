@@ -13,7 +13,6 @@ pub enum Owner {
     P1 { frame: usize, bit: usize },
     P2 { bit: usize },
     Pids { frame: usize, bit: usize },
-    Refused { answer: Answer },
 }
 
 // Whose bit i of U is.
@@ -32,7 +31,7 @@ fn owner_of(main: Main, i: usize) -> Owner
 }
 
 // Finds the channel, the transfer frame and the coded bit in it of a cell of PM, in any mode.
-pub fn find_in(mode: u8, row: usize, column: usize) -> Owner
+pub fn find_in(mode: u8, row: usize, column: usize) -> Result<Owner, Answer>
     ensures { (result ≡ found_in mode row column) × (values result ≡ values (found_in mode row column)) }
 {
     let table = pm::index_table();
@@ -40,18 +39,16 @@ pub fn find_in(mode: u8, row: usize, column: usize) -> Owner
 }
 
 // The same by the table of S-1, lent: who finds many cells reads it once.
-pub fn find_in_by(table: &[u16; 1152], mode: u8, row: usize, column: usize) -> Owner
+pub fn find_in_by(table: &[u16; 1152], mode: u8, row: usize, column: usize) -> Result<Owner, Answer>
     requires { table.now ≡ ks }
     ensures { (result ≡ found_in mode row column) × (values result ≡ values (found_in mode row column)) }
 {
     if !control::is_covered(mode) {
-        return Owner::Refused {
-            answer: Answer::ModeNotCovered,
-        };
+        return Err(Answer::ModeNotCovered);
     }
-    match queries::find_by(table, row, column) {
-        Found::P1 { bit } => owner_of(modes::main_of(mode), bit),
-        Found::Pids { frame, bit } => Owner::Pids { frame, bit },
-        Found::Refused { answer } => Owner::Refused { answer },
+    let found = queries::find_by(table, row, column)?;
+    match found {
+        Found::P1 { bit } => Ok(owner_of(modes::main_of(mode), bit)),
+        Found::Pids { frame, bit } => Ok(Owner::Pids { frame, bit }),
     }
 }

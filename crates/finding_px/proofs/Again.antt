@@ -4,6 +4,7 @@ use mathlib.Core.Path.{◌≡◌, refl, sym, ap, subst, ◌∙◌}
 use mathlib.Core.Bool.{Bool, true, false}
 use Prim.Native.Nat.{ℕ, ◌+◌, ◌-◌, ◌≤◌, ◌<◌, min}
 use native.Mathlib.Omega.{arith}
+use Rattle.std.specs.Prelude.{Ok}
 use Rattle.control.specs.Modes.{covered}
 use Rattle.runs.specs.declared.Extended.{Extended}
 use Rattle.runs.specs.declared.Extended.TheVariants.{P3, P4}
@@ -20,8 +21,7 @@ use Rattle.queries.specs.declared.finder_px.FoundPx.TheVariants as finder
 use Rattle.queries.specs.FinderPX as PX
 use Rattle.queries.specs.FinderPX.{found_px, frame_coded}
 use Rattle.queries.specs.Sheets.{channel_number}
-use Rattle.locating.specs.declared.locator_px.LocatedPx.TheVariants.{At}
-use Rattle.locating.specs.LocatorPX.{located_px}
+use Rattle.locating.specs.LocatorPX.{at_cell, located_px}
 use Rattle.locating.specs.BothWays.{BothWaysPX}
 use Rattle.locating.proofs.AgainPX.{both-ways-px, in-range}
 use Rattle.finding_px.specs.declared.finder.FoundPxIn.TheVariants.{Coded, Fill}
@@ -92,21 +92,21 @@ module _ (mode : ℕ) (is : covered mode ≡ true) where
         → found_px_in (state_at mode z t) 4 pair row column ≡ in_second k (min (last_age k) t) pair row column
     found-second-at pair row column n = sym (found-second (state_at mode z t) 4 pair row column is-valid (main_of mode) refl n)
 
-    pub is-coded : (e : Extended) (pair row column n frame i : ℕ) → found_px_in (state_at mode z t) (channel_number e) pair row column ≡ Coded n frame i
-        → found_px (state_at old z t) (channel_number e) pair row column ≡ finder.Coded n frame i
+    pub is-coded : (e : Extended) (pair row column n frame i : ℕ) → found_px_in (state_at mode z t) (channel_number e) pair row column ≡ Ok (Coded n frame i)
+        → found_px (state_at old z t) (channel_number e) pair row column ≡ Ok (finder.Coded n frame i)
     is-coded P3 pair row column n frame i f = coded-from _ n frame i (sym (older-found 3 pair row column (px1-older k)) ∙ f)
     is-coded P4 pair row column n frame i f = go (named k 4 4) refl
       where
-        go : (b : Bool) → named k 4 4 ≡ b → found_px (state_at old z t) 4 pair row column ≡ finder.Coded n frame i
+        go : (b : Bool) → named k 4 4 ≡ b → found_px (state_at old z t) 4 pair row column ≡ Ok (finder.Coded n frame i)
         go true q = absurd (not-coded k (min (last_age k) t) pair row column n frame i (sym (found-second-at pair row column q) ∙ f))
         go false q = coded-from _ n frame i (sym (older-found 4 pair row column q) ∙ f)
 
-    pub is-fill : (e : Extended) (pair row column : ℕ) → found_px_in (state_at mode z t) (channel_number e) pair row column ≡ Fill
-        → found_px (state_at old z t) (channel_number e) pair row column ≡ finder.Fill
+    pub is-fill : (e : Extended) (pair row column : ℕ) → found_px_in (state_at mode z t) (channel_number e) pair row column ≡ Ok Fill
+        → found_px (state_at old z t) (channel_number e) pair row column ≡ Ok finder.Fill
     is-fill P3 pair row column f = fill-from _ (sym (older-found 3 pair row column (px1-older k)) ∙ f)
     is-fill P4 pair row column f = go (named k 4 4) refl
       where
-        go : (b : Bool) → named k 4 4 ≡ b → found_px (state_at old z t) 4 pair row column ≡ finder.Fill
+        go : (b : Bool) → named k 4 4 ≡ b → found_px (state_at old z t) 4 pair row column ≡ Ok finder.Fill
         go true q = absurd (not-fill k (min (last_age k) t) pair row column (sym (found-second-at pair row column q) ∙ f))
         go false q = fill-from _ (sym (older-found 4 pair row column q) ∙ f)
 
@@ -114,7 +114,7 @@ module _ (mode : ℕ) (is : covered mode ≡ true) where
 
   every-bit : (e : Extended) (z t frame i : ℕ) → z < 8 → frame < 8 → i < frame_coded (kind_of mode e)
       → (later : ℕ) × (pair : ℕ) × (row : ℕ) × (column : ℕ)
-      × (located_px_in (state_at mode z t) (channel_number e) frame i ≡ At later pair row column)
+      × (located_px_in (state_at mode z t) (channel_number e) frame i ≡ Ok (at_cell later pair row column))
       × (later ≤ 2) × (pair < 8) × (row < 64) × (column < PX.columns_of (kind_of mode e))
   every-bit e z t frame i lz lf lb =
       let same = alike-kind (main_of mode) mode refl e in
@@ -130,17 +130,17 @@ module _ (mode : ℕ) (is : covered mode ≡ true) where
       go Mp6 q = one-has-none
 
   found-there : (e : Extended) (z z' t frame i n pair row column : ℕ) → z < 8 → z' < 8
-      → located_px_in (state_at mode z t) (channel_number e) frame i ≡ At n pair row column
-      → found_px_in (state_at mode z' (t + n)) (channel_number e) pair row column ≡ Coded n frame i
+      → located_px_in (state_at mode z t) (channel_number e) frame i ≡ Ok (at_cell n pair row column)
+      → found_px_in (state_at mode z' (t + n)) (channel_number e) pair row column ≡ Ok (Coded n frame i)
   found-there P3 z z' t frame i n pair row column lz lz' f =
       older-found z' (t + n) lz' 3 pair row column (px1-older k)
       ∙ ap as_in ((old-ways P3).there z z' t frame i n pair row column lz lz' (sym (older-located z t lz P3 frame i) ∙ f))
   found-there P4 z z' t frame i n pair row column lz lz' f = go (named k 4 4) refl
     where
-      there : located_px (state_at old z t) 4 frame i ≡ At n pair row column
+      there : located_px (state_at old z t) 4 frame i ≡ Ok (at_cell n pair row column)
       there = sym (older-located z t lz P4 frame i) ∙ f
 
-      go : (b : Bool) → named k 4 4 ≡ b → found_px_in (state_at mode z' (t + n)) 4 pair row column ≡ Coded n frame i
+      go : (b : Bool) → named k 4 4 ≡ b → found_px_in (state_at mode z' (t + n)) 4 pair row column ≡ Ok (Coded n frame i)
       go true q =
           let l = (in-range old (alike-covered (main_of mode) mode is) plain P4 z t lz frame i n pair row column there).1 in
           let none : i < 0 = subst (λ (x : Kind). i < frame_coded x) (no-p4 q) l in
@@ -149,8 +149,8 @@ module _ (mode : ℕ) (is : covered mode ≡ true) where
           older-found z' (t + n) lz' 4 pair row column q ∙ ap as_in ((old-ways P4).there z z' t frame i n pair row column lz lz' there)
 
   located-back : (e : Extended) (z z' t pair row column n frame i : ℕ) → z < 8 → z' < 8
-      → found_px_in (state_at mode z t) (channel_number e) pair row column ≡ Coded n frame i
-      → (n ≤ t) × (located_px_in (state_at mode z' (t - n)) (channel_number e) frame i ≡ At n pair row column)
+      → found_px_in (state_at mode z t) (channel_number e) pair row column ≡ Ok (Coded n frame i)
+      → (n ≤ t) × (located_px_in (state_at mode z' (t - n)) (channel_number e) frame i ≡ Ok (at_cell n pair row column))
   located-back e z z' t pair row column n frame i lz lz' f =
       let (l, g) = (old-ways e).back z z' t pair row column n frame i lz lz' (is-coded z t lz e pair row column n frame i f) in
       (l, older-located z' (t - n) lz' e frame i ∙ g)

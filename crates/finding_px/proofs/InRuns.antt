@@ -6,6 +6,7 @@ use Prim.Native.Nat.{ℕ, ◌+◌, ◌-◌, ◌*◌, ◌%◌, ◌≤◌, ◌<◌
 use native.Mathlib.Decide.{dec_lt, ℕ_discrete}
 use native.Mathlib.Omega.{arith}
 use lib.Dec.{eqb}
+use Rattle.std.specs.Prelude.{Ok, Err}
 use Rattle.bits.specs.Bits.{bit_at}
 use Rattle.coding.specs.declared.Rate.TheVariants.{Half}
 use Rattle.coding.specs.Channel.{channel}
@@ -29,15 +30,14 @@ use Rattle.runs.specs.Runs.{SenderRun, count, frame_at, matrices_at}
 use Rattle.runs.proofs.Sender.{covered_of}
 use Rattle.runs.proofs.Shown.{coded-shown, fill-shown, p1'-shown, delay-zeros-shown}
 use Rattle.runs.proofs.States.{valid-at}
-use Rattle.queries.specs.declared.finder_px.FoundPx.TheVariants as finder
 use Rattle.queries.specs.FinderPX as PX
 use Rattle.queries.specs.FinderPX.{kind_of_number, found_px, frame_coded, told}
 use Rattle.queries.specs.Sheets.{channel_number}
 use Rattle.queries.proofs.CasesPX as px
 use Rattle.queries.proofs.Origins as origins
 use Rattle.queries.proofs.Sheets.{number_is}
-use Rattle.locating.specs.declared.locator_px.LocatedPx.TheVariants.{At}
-use Rattle.locating.specs.LocatorPX.{located_px}
+use Rattle.queries.proofs.Valued.{ok-is}
+use Rattle.locating.specs.LocatorPX.{at_cell, located_px}
 use Rattle.locating.proofs.CasesPX as located
 use Rattle.finding_px.specs.declared.finder.FoundPxIn.TheVariants.{Coded, Fill, Second, DelayZero}
 use Rattle.finding_px.specs.Second.{bit_of, cell_of, coded_of, columns_of}
@@ -76,10 +76,10 @@ module _ (s : State) (is : main_of s.mode ≡ Plain) where
 record Inside (s : State) (k : Kind) (channel pair row column : ℕ) : Type 0 where
   sends : table_row k < 2
   cell : PX.cell_of k pair row column < coded_bits (table_row k)
-  says : told k s.half s.age (PX.cell_of k pair row column) ≡ found_px s channel pair row column
+  says : Ok (told k s.half s.age (PX.cell_of k pair row column)) ≡ found_px s channel pair row column
 
 module _ (s : State) (v : valid s ≡ true) (channel : ℕ) (k : Kind) (k-is : k ≡ kind_of_number s.mode channel) (pair row column : ℕ) where
-  inside : ((r : Answer) → found_px s channel pair row column ≡ finder.Refused r → ⊥) → Inside s k channel pair row column
+  inside : ((r : Answer) → found_px s channel pair row column ≡ Err r → ⊥) → Inside s k channel pair row column
   inside accepted = go (ℕ_discrete (PX.columns_of k) 0) (dec_lt pair 8) (dec_lt row 64) (dec_lt column (PX.columns_of k))
     where
       go : Dec (PX.columns_of k ≡ 0) → Dec (pair < 8) → Dec (row < 64) → Dec (column < PX.columns_of k) → Inside s k channel pair row column
@@ -119,42 +119,42 @@ module _ (mode : ℕ) (a : SenderRun mode) (t : ℕ) (h : t < count mode a) wher
     abbrev k : Kind
     k = kind_of mode e
 
-    at : ((r : Answer) → found_px (state_at old z t) (channel_number e) pair row column ≡ finder.Refused r → ⊥)
+    at : ((r : Answer) → found_px (state_at old z t) (channel_number e) pair row column ≡ Err r → ⊥)
         → Inside (state_at old z t) k (channel_number e) pair row column
     at =
         inside (state_at old z t) (valid-at old (alike-covered (main_of mode) mode is) z lz t) (channel_number e) k
         (alike-kind (main_of mode) mode refl e ∙ number_is old plain e) pair row column
 
-    coded_in : (n frame i : ℕ) → found_px_in (state_at mode z t) (channel_number e) pair row column ≡ Coded n frame i
+    coded_in : (n frame i : ℕ) → found_px_in (state_at mode z t) (channel_number e) pair row column ≡ Ok (Coded n frame i)
         → (n ≤ t)
         × (bit_at (matrix_of mode (matrices_at mode a t) e) (PX.cell_of (kind_of mode e) pair row column)
         ≡ Chain.coded_of (kind_of mode e) (frame_of (frame_at mode a (t - n)) e) (frame * frame_coded (kind_of mode e) + i))
     coded_in n frame i f =
         let g = is-coded mode is z t lz e pair row column n frame i f in
         let x = at (λ r q. let z : ◌≡◌ {A = ℕ} 0 1 = cc in omega arith) in
-        let (en, le, ej) = px.coded-means k (t % 2) (min (last_age (main_of old)) t) (PX.cell_of k pair row column) n frame i (x.says ∙ g) in
+        let (en, le, ej) = px.coded-means k (t % 2) (min (last_age (main_of old)) t) (PX.cell_of k pair row column) n frame i (ok-is (x.says ∙ g)) in
         let nt : n ≤ t = omega arith in
         (nt, rw (en, ej) (coded-shown mode a t h e x.sends (PX.cell_of k pair row column) x.cell (omega arith)))
 
-    fill-in : found_px_in (state_at mode z t) (channel_number e) pair row column ≡ Fill
+    fill-in : found_px_in (state_at mode z t) (channel_number e) pair row column ≡ Ok Fill
         → bit_at (matrix_of mode (matrices_at mode a t) e) (PX.cell_of (kind_of mode e) pair row column) ≡ 0
     fill-in f =
         let g = is-fill mode is z t lz e pair row column f in
         let x = at (λ r q. let z : ◌≡◌ {A = ℕ} 0 1 = cc in omega arith) in
         fill-shown mode a t h e x.sends (PX.cell_of k pair row column) x.cell
         (subst (λ (m : Main). min (last_age m) t < earlier (table_row k) (t % 2) (PX.cell_of k pair row column)) plain
-        (px.fill-means k (t % 2) (min (last_age (main_of old)) t) (PX.cell_of k pair row column) (x.says ∙ g)))
+        (px.fill-means k (t % 2) (min (last_age (main_of old)) t) (PX.cell_of k pair row column) (ok-is (x.says ∙ g))))
 
   -- in a mode without P1' the finder names no bit of it
-  none-second : (z pair row column frame i : ℕ) → main ≡ Plain → found_px_in (state_at mode z t) 4 pair row column ≡ Second frame i → ⊥
+  none-second : (z pair row column frame i : ℕ) → main ≡ Plain → found_px_in (state_at mode z t) 4 pair row column ≡ Ok (Second frame i) → ⊥
   none-second z pair row column frame i p f =
       second_from (found_px (state_at mode z t) 4 pair row column) frame i (sym (as-found (state_at mode z t) p 4 pair row column) ∙ f)
 
-  none-zeros : (z pair row column : ℕ) → main ≡ Plain → found_px_in (state_at mode z t) 4 pair row column ≡ DelayZero → ⊥
+  none-zeros : (z pair row column : ℕ) → main ≡ Plain → found_px_in (state_at mode z t) 4 pair row column ≡ Ok DelayZero → ⊥
   none-zeros z pair row column p f = zeros-from (found_px (state_at mode z t) 4 pair row column) (sym (as-found (state_at mode z t) p 4 pair row column) ∙ f)
 
   module _ (z pair row column : ℕ) (lz : z < 8) where
-    second-in : (frame i : ℕ) → found_px_in (state_at mode z t) 4 pair row column ≡ Second frame i
+    second-in : (frame i : ℕ) → found_px_in (state_at mode z t) 4 pair row column ≡ Ok (Second frame i)
         → (3 ≤ t)
         × (bit_at (p1'_in mode (matrices_at mode a t)) (cell_of main pair row column)
         ≡ channel Half (p1'_bits main) (bit_at (frame_at mode a (t - 3)).p1) (frame * coded_of main + i))
@@ -171,7 +171,7 @@ module _ (mode : ℕ) (a : SenderRun mode) (t : ℕ) (h : t < count mode a) wher
               ∙ ap₂ (λ (u v : ℕ). channel Half (p1'_bits main) (bit_at (frame_at mode a (t - 3)).p1) (u * coded_of main + v)) ep eb,
         )
 
-    zeros-in : found_px_in (state_at mode z t) 4 pair row column ≡ DelayZero → bit_at (p1'_in mode (matrices_at mode a t)) (cell_of main pair row column) ≡ 0
+    zeros-in : found_px_in (state_at mode z t) 4 pair row column ≡ Ok DelayZero → bit_at (p1'_in mode (matrices_at mode a t)) (cell_of main pair row column) ≡ 0
     zeros-in f =
         let two : main ≡ Plain → ⊥ = λ p. none-zeros z pair row column p f in
         let (lt, lp, lr, lc) = zeros-says mode is two z t pair row column lz f in
@@ -199,7 +199,7 @@ unfolding kind_of_number
 six-unused mode = cond_both (eqb mode 5)
 
 pub none-located : (mode : ℕ) → covered mode ≡ true → main_of mode ≡ Plain → (z t : ℕ) → z < 8 → (frame i n pair row column : ℕ)
-    → located_px_in (state_at mode z t) 6 frame i ≡ At n pair row column → ⊥
+    → located_px_in (state_at mode z t) 6 frame i ≡ Ok (at_cell n pair row column) → ⊥
 none-located mode is p z t lz frame i n pair row column f =
     let v = valid-at mode is z lz t in
     let r = located.channel-refused (state_at mode z t) 6 frame i v Unused (six-unused mode) 0 refl refl ∙ sym (as-located (state_at mode z t) p 6 frame i) ∙ f in
@@ -208,7 +208,7 @@ none-located mode is p z t lz frame i n pair row column f =
 
 module _ (mode : ℕ) (a : SenderRun mode) (t : ℕ) where
   coded-bit-in : (e : Extended) (z frame i n pair row column : ℕ) → z < 8
-      → located_px_in (state_at mode z t) (channel_number e) frame i ≡ At n pair row column
+      → located_px_in (state_at mode z t) (channel_number e) frame i ≡ Ok (at_cell n pair row column)
       → t + n < count mode a
       → bit_at (matrix_of mode (matrices_at mode a (t + n)) e) (PX.cell_of (kind_of mode e) pair row column)
       ≡ Chain.coded_of (kind_of mode e) (frame_of (frame_at mode a t) e) (frame * frame_coded (kind_of mode e) + i)
@@ -219,7 +219,7 @@ module _ (mode : ℕ) (a : SenderRun mode) (t : ℕ) where
       ∙ ap (λ (u : ℕ). Chain.coded_of (kind_of mode e) (frame_of (frame_at mode a u) e) (frame * frame_coded (kind_of mode e) + i)) same
 
   second-bit-in : (z frame i n pair row column : ℕ) → z < 8
-      → located_px_in (state_at mode z t) 6 frame i ≡ At n pair row column
+      → located_px_in (state_at mode z t) 6 frame i ≡ Ok (at_cell n pair row column)
       → t + n < count mode a
       → bit_at (p1'_in mode (matrices_at mode a (t + n))) (cell_of (main_of mode) pair row column)
       ≡ channel Half (p1'_bits (main_of mode)) (bit_at (frame_at mode a t).p1) (frame * coded_of (main_of mode) + i)

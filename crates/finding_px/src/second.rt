@@ -1,12 +1,12 @@
 // P1' in PX2 (sections 10.4.2.3 and 10.4.2.4): Interleaver I turned round.
-ghost use Rattle.std.specs.Prelude.{◌≡◌, ◌<◌, ◌≤◌, get_or};
+ghost use Rattle.std.specs.Prelude.{◌≡◌, ◌<◌, ◌≤◌};
 ghost use Rattle.interleaving.specs.InverseI.{k_at};
 ghost use Rattle.interleaving.specs.Matrix.{position_at};
-ghost use Rattle.interleaving.specs.PX2.{v8};
 ghost use Rattle.runs.specs.MainChannels.{delay_frames, p1'_row};
 ghost use Rattle.runs.specs.declared.Main.TheVariants.{Mp5, Mp6};
 ghost use Rattle.finding_px.specs.Second.{bit_of, columns_of, named};
 
+use crate::writing::partition;
 use runs::Main;
 
 // Whether a channel is the one of this number, in a mode that has P1'.
@@ -62,16 +62,6 @@ fn index_of(row: usize, column: usize) -> usize
     288 * turn + (99 * row + 32 * column + 256 * turn) % 288
 }
 
-// The turn of each partition in MP6.
-const TURNS: [usize; 8] = [0, 1, 3, 2, 4, 5, 7, 6];
-
-fn turn_of(partition: usize) -> usize
-    requires { partition < 8 }
-    ensures { (result ≡ get_or v8 partition 0) × (result < 8) }
-{
-    TURNS[partition]
-}
-
 // MP5: the coded bit of a P1' frame that stands in a row and a column of its matrix.
 fn narrow_bit(row: usize, column: usize) -> usize
     requires { (row < 64) × (column < 144) }
@@ -81,14 +71,14 @@ fn narrow_bit(row: usize, column: usize) -> usize
     8 * k + 2 * (column / 36) + (row / 32 + k) % 2
 }
 
-// MP6: the same.
+// MP6: the same. v is its own inverse, so that it gives the turn of a partition too.
 fn wide_bit(row: usize, column: usize) -> usize
     requires { (row < 64) × (column < 288) }
     ensures { result ≡ bit_of Mp6 (position_at 36 row column) }
 {
     let p = column / 36;
     let k = index_of(row % 32, column % 36);
-    let turn = turn_of(p);
+    let turn = partition(p);
     16 * k + 8 * ((row / 32 + p) % 2) + turn
 }
 

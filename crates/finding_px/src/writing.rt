@@ -1,8 +1,8 @@
 // Interleaver I for P1' (sections 10.4.2.3 and 10.4.2.4), bit by bit: how a coded bit of a frame is written.
-ghost use Rattle.std.specs.Prelude.{◌≡◌, ◌<◌, get_or};
+ghost use Rattle.std.specs.Prelude.{◌≡◌, ◌<◌, ◌≤◌, get_or};
 ghost use Rattle.interleaving.specs.PX.{v4};
 ghost use Rattle.interleaving.specs.PX2.{v8, frame_bits};
-ghost use Rattle.finding_px.specs.Writing.{p1'_writing};
+ghost use Rattle.finding_px.specs.Writing.{p1'_writing, written};
 
 use locating::Writing;
 use pm::Position;
@@ -32,24 +32,20 @@ fn partition_of_4(s: usize) -> usize
 }
 
 // The partition whose turn is s, in MP6.
-fn partition(s: usize) -> usize
+pub fn partition(s: usize) -> usize
     requires { s < 8 }
     ensures { (result ≡ get_or v8 s 0) × (result < 8) }
 {
     V8[s]
 }
 
-// 10.2.3, MP5: of bit i of a frame.
-fn narrow(frame: usize, i: usize) -> Writing
-    requires { (frame < 8) × (i < 9216) }
-    ensures { result ≡ p1'_writing 0 frame i }
+// 10.2.3.3: how bit i, of the number k, is written in the block b and the partition p; its matrix begins at the cell `start`, and a row of it has `width` cells.
+fn written(i: usize, k: usize, b: usize, p: usize, start: usize, width: usize) -> Writing
+    requires { (k < 1152) × (b < 2) × (p < 8) × (start ≤ 129024) × (width ≤ 288) }
+    ensures { result ≡ written i k b p start width }
 {
-    let p = partition_of_4(i / M[0] % J[0]);
-    let k = i / (J[0] * B[0]);
-    let b = (i + k) % B[0];
     let row = k * 11 % 32;
     let column = (k * 11 + k / 288) % C[0];
-    let cell = frame * N[0] + ((32 * b + row) * (J[0] * C[0]) + (C[0] * p + column));
     let position = Position {
         block: b,
         row,
@@ -60,8 +56,18 @@ fn narrow(frame: usize, i: usize) -> Writing
         step: i,
         k,
         position,
-        cell,
+        cell: start + ((32 * b + row) * width + (C[0] * p + column)),
     }
+}
+
+// 10.2.3, MP5: of bit i of a frame.
+fn narrow(frame: usize, i: usize) -> Writing
+    requires { (frame < 8) × (i < 9216) }
+    ensures { result ≡ p1'_writing 0 frame i }
+{
+    let p = partition_of_4(i / M[0] % J[0]);
+    let k = i / (J[0] * B[0]);
+    written(i, k, (i + k) % B[0], p, frame * N[0], J[0] * C[0])
 }
 
 // 10.2.3, MP6: of bit i of a frame.
@@ -72,21 +78,7 @@ fn wide(frame: usize, i: usize) -> Writing
     let p = partition(i / M[1] % J[1]);
     let k = i / (J[1] * B[1]);
     let b = (i / J[1] + p * 7) % B[1];
-    let row = k * 11 % 32;
-    let column = (k * 11 + k / 288) % C[1];
-    let cell = frame * N[1] + ((32 * b + row) * (J[1] * C[1]) + (C[1] * p + column));
-    let position = Position {
-        block: b,
-        row,
-        partition: p,
-        column,
-    };
-    Writing {
-        step: i,
-        k,
-        position,
-        cell,
-    }
+    written(i, k, b, p, frame * N[1], J[1] * C[1])
 }
 
 // How a coded bit of one of the eight P1' frames is written: row 0 is for MP5, row 1 for MP6.

@@ -16,6 +16,7 @@ use Rattle.runs.proofs.Readable.{start-clear}
 use Rattle.layout.specs.Inputs.{frames_in}
 use Rattle.text.specs.Lines.{lines}
 use Rattle.sheetlines.specs.Entries.{entry_of, turn_of}
+use Rattle.std.specs.Prelude.{Option}
 use Rattle.sheetlines.specs.declared.questions.Question.{Question}
 use Rattle.sheetlines.specs.declared.entries.Cell.{Cell}
 use Rattle.sheetlines.specs.declared.entries.CodedBit.{CodedBit}
@@ -100,7 +101,7 @@ module _ (mode n : ℕ) (without3 without4 : Bool) (input : List ℕ) (small : B
   unfolding matrices_at signals_sent
   matrices-are t = ap (λ (cs : List Call). (get_or (map signal_of cs) t no_signal).matrices) all-sent
 
-  bit_is : (t : ℕ) → t < n → (q : Question) → turn_of n (entry_of mode n q) ≡ t
+  bit_is : (t : ℕ) → t < n → (q : Option Question) → turn_of n (entry_of mode n q) ≡ t
       → value_in (matrices_at mode run t) (entry_of mode n q) ≡ coded_bit mode (frames_at mode n3 n4 B) (entry_of mode n q)
   bit_is t h q e = asked-value mode w.mode-older run t (subst (λ (k : ℕ). t < k) (sym run_length) h) (frames_at mode n3 n4 B) (λ u l. frame_is u (omega arith)) n h q e
 
@@ -108,7 +109,7 @@ module _ (mode n : ℕ) (without3 without4 : Bool) (input : List ℕ) (small : B
     abbrev working : Entry → List ℕ
     working = work_text work mode n3 n4 B
 
-    value-is : (t : ℕ) → t < n → (q : Question) → turn_of n (entry_of mode n q) ≡ t
+    value-is : (t : ℕ) → t < n → (q : Option Question) → turn_of n (entry_of mode n q) ≡ t
         → valued working n (value_in (get_or (map signal_of (sent mode n n3 n4 B)) t no_signal).matrices) (entry_of mode n q) ≡ valued working n (coded_bit mode (frames_at mode n3 n4 B)) (entry_of mode n q)
     value-is t h q e =
         ap (λ (x : ℕ). value_text n (entry_of mode n q) x ++ working (entry_of mode n q))
@@ -136,7 +137,7 @@ module _ (mode n : ℕ) (without3 without4 : Bool) (input : List ℕ) (small : B
   handed-is u l = frame_is u l
 
   -- the working below an answer whose bit is sent comes to the answer's value
-  pub worked-value : (q : Question) (coded : CodedBit) (cell : Cell) → entry_of mode n q ≡ Stands coded cell → cell.sent < n
+  pub worked-value : (q : Option Question) (coded : CodedBit) (cell : Cell) → entry_of mode n q ≡ Stands coded cell → cell.sent < n
       → SumsTo (bit_of mode (frames_at mode n3 n4 B) coded) (working_of mode n3 n4 B coded)
   unfolding working_of coded_bit turn_of
   worked-value q coded cell e h =

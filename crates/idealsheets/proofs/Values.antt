@@ -7,9 +7,11 @@ use native.Mathlib.Omega.{arith}
 use lib.Dec.{eqb, ltb}
 use lib.ListN.{length}
 use borrow.Author.Tests.{eqb-true}
+use Rattle.std.specs.Prelude.{Result, Ok, Err}
 use Rattle.bits.specs.Bits.{bit_at}
 use Rattle.coding.specs.declared.Rate.TheVariants.{TwoFifths}
 use Rattle.coding.specs.Channel.{channel}
+use Rattle.runs.specs.declared.Answer.{Answer}
 use Rattle.runs.specs.declared.Answer.TheVariants.{StateNotValid, WrongLength}
 use Rattle.runs.specs.declared.Extended.{Extended}
 use Rattle.runs.specs.declared.Extended.TheVariants.{P3, P4}
@@ -25,24 +27,23 @@ use Rattle.runs.proofs.Older.{older-p4, older-px2}
 use Rattle.runs.proofs.PX.{matrix-length}
 use Rattle.runs.proofs.Sender.{matrices-at}
 use Rattle.queries.specs.declared.finder.Found.{Found}
-use Rattle.queries.specs.declared.finder.Found.TheVariants.{P1 as found-p1, Pids as found-pids, Refused as pm-refused}
+use Rattle.queries.specs.declared.finder.Found.TheVariants.{P1 as found-p1, Pids as found-pids}
 use Rattle.queries.specs.declared.finder_px.FoundPx.{FoundPx}
-use Rattle.queries.specs.declared.finder_px.FoundPx.TheVariants.{Coded, Fill as found-fill, Refused as px-refused}
+use Rattle.queries.specs.declared.finder_px.FoundPx.TheVariants.{Coded, Fill as found-fill}
 use Rattle.queries.specs.Finder.{found}
 use Rattle.queries.specs.FinderPX.{cell_of, found_px, frame_coded, kind_of_number}
 use Rattle.queries.specs.Sheets.{Sheet, channel_number}
 use Rattle.queries.proofs.Sheets.{sheets}
 use Rattle.locating.specs.declared.locator.Located.{Located}
-use Rattle.locating.specs.declared.locator.Located.TheVariants.{At, Refused as not-located}
 use Rattle.locating.specs.declared.locator_px.LocatedPx.{LocatedPx}
-use Rattle.locating.specs.declared.locator_px.LocatedPx.TheVariants.{At as AtPX, Refused as not-located-px}
 use Rattle.locating.specs.Locator.{located}
-use Rattle.locating.specs.LocatorPX.{located_px}
+use Rattle.locating.specs.LocatorPX.{at_cell as at_cell-px, located_px}
 use Rattle.locating.specs.Sheets.{LocatedSheet}
 use Rattle.locating.proofs.Sheets.{located-sheets}
 use Rattle.sheetlines.specs.Entries.{bit_entry, entry_of, in_pm, pm_entry, pm_placed, px_entry, px_placed, turn_of}
+use Rattle.std.specs.Prelude.{Option, Some, None}
 use Rattle.sheetlines.specs.declared.questions.Question.{Question}
-use Rattle.sheetlines.specs.declared.questions.Question.TheVariants.{Bit, Pm, Px, Wrong}
+use Rattle.sheetlines.specs.declared.questions.Question.TheVariants.{Bit, Pm, Px}
 use Rattle.sheetlines.specs.declared.entries.Entry.{Entry}
 use Rattle.sheetlines.specs.declared.entries.Entry.TheVariants.{Refused}
 use Rattle.sheetlines.proofs.Ranges.{by-channel}
@@ -125,21 +126,21 @@ module _ (mode : ℕ) (o : older mode ≡ true) (a : SenderRun mode) (t : ℕ) (
   pids-is u cell i e v =
       v ∙ ap (λ (f : Frames). channel TwoFifths 80 (bit_at f.pids) i) (agree t (omega arith)) ∙ ap (λ (k : ℕ). channel TwoFifths 80 (bit_at (F k).pids) i) (sym e)
 
-  pm-found : (u row column : ℕ) (f : Found) → found row column ≡ f → Right (pm_entry u row column f)
+  pm-found : (u row column : ℕ) (f : Result Found Answer) → found row column ≡ f → Right (pm_entry u row column f)
   unfolding value_in coded_bit bit_of turn_of
-  pm-found u row column (found-p1 bit) e q = p1-is u (row * 720 + column) bit (sent-here u q) (S.p1-cell row column bit e)
-  pm-found u row column (found-pids frame bit) e q =
+  pm-found u row column (Ok (found-p1 bit)) e q = p1-is u (row * 720 + column) bit (sent-here u q) (S.p1-cell row column bit e)
+  pm-found u row column (Ok (found-pids frame bit)) e q =
       pids-is u (row * 720 + column) (frame * 200 + bit) (sent-here u q) (S.pids-cell row column frame bit e)
-  pm-found u row column (pm-refused r) e q = refl
+  pm-found u row column (Err r) e q = refl
 
-  pm-located : (u c frame bit : ℕ) (l : Located) → located c frame bit ≡ l → Right (pm_placed u c frame bit l)
+  pm-located : (u c frame bit : ℕ) (l : Result Located Answer) → located c frame bit ≡ l → Right (pm_placed u c frame bit l)
   unfolding value_in coded_bit bit_of turn_of
-  pm-located u c frame bit (At p row column) e q =
-      by-channel (λ (k f : ℕ). value_in X (in_pm u k f bit row column) ≡ coded_bit mode F (in_pm u k f bit row column)) bit row column p
-      (λ d. p1-is u (row * 720 + column) bit (sent-here u q) (L.p1-bit bit row column p d))
-      (λ f d. pids-is u (row * 720 + column) (f * 200 + bit) (sent-here u q) (L.pids-bit f bit row column p d))
+  pm-located u c frame bit (Ok cell) e q =
+      by-channel (λ (k f : ℕ). value_in X (in_pm u k f bit cell.row cell.column) ≡ coded_bit mode F (in_pm u k f bit cell.row cell.column)) bit cell.row cell.column cell.position
+      (λ d. p1-is u (cell.row * 720 + cell.column) bit (sent-here u q) (L.p1-bit bit cell.row cell.column cell.position d))
+      (λ f d. pids-is u (cell.row * 720 + cell.column) (f * 200 + bit) (sent-here u q) (L.pids-bit f bit cell.row cell.column cell.position d))
       c frame e
-  pm-located u c frame bit (not-located r) e q = refl
+  pm-located u c frame bit (Err r) e q = refl
 
   -- ---- PX
 
@@ -149,17 +150,17 @@ module _ (mode : ℕ) (o : older mode ≡ true) (a : SenderRun mode) (t : ℕ) (
       bit_at (matrix_of mode X e) (cell_of (kind_of_number mode (channel_number e)) pair row column)
       ≡ coded_of (kind_of mode e) (frame_of (F from) e) (frame * frame_coded (kind_of mode e) + bit)
 
-  coded-found : (e : Extended) (u pair row column k frame bit : ℕ) → u ≡ t → found_px (state_at mode 0 u) (channel_number e) pair row column ≡ Coded k frame bit
+  coded-found : (e : Extended) (u pair row column k frame bit : ℕ) → u ≡ t → found_px (state_at mode 0 u) (channel_number e) pair row column ≡ Ok (Coded k frame bit)
       → Cell e (u - k) frame bit pair row column
   coded-found e u pair row column k frame bit same f =
-      let here = subst (λ (v : ℕ). found_px (state_at mode 0 v) (channel_number e) pair row column ≡ Coded k frame bit) same f in
+      let here = subst (λ (v : ℕ). found_px (state_at mode 0 v) (channel_number e) pair row column ≡ Ok (Coded k frame bit)) same f in
       ap (λ (k : Kind). bit_at (matrix_of mode X e) (cell_of k pair row column)) (sym (number_is mode o e))
       ∙ (S.coded-cell e 0 pair row column k frame bit (omega arith) here).1
       ∙ ap (λ (x : Frames). coded_of (kind_of mode e) (frame_of x e) (frame * frame_coded (kind_of mode e) + bit)) (agree (t - k) (omega arith))
       ∙ ap (λ (v : ℕ). coded_of (kind_of mode e) (frame_of (F (v - k)) e) (frame * frame_coded (kind_of mode e) + bit)) (sym same)
 
   coded-located : (e : Extended) (u frame bit later pair row column : ℕ) → u + later ≡ t
-      → located_px (state_at mode 0 u) (channel_number e) frame bit ≡ AtPX later pair row column → Cell e u frame bit pair row column
+      → located_px (state_at mode 0 u) (channel_number e) frame bit ≡ Ok (at_cell-px later pair row column) → Cell e u frame bit pair row column
   coded-located e u frame bit later pair row column same f =
       ap (λ (k : Kind). bit_at (matrix_of mode X e) (cell_of k pair row column)) (sym (number_is mode o e))
       ∙ ap (λ (v : ℕ). bit_at (matrix_of mode (matrices_at mode a v) e) (cell_of (kind_of mode e) pair row column)) (sym same)
@@ -167,37 +168,37 @@ module _ (mode : ℕ) (o : older mode ≡ true) (a : SenderRun mode) (t : ℕ) (
       ∙ ap (λ (x : Frames). coded_of (kind_of mode e) (frame_of x e) (frame * frame_coded (kind_of mode e) + bit)) (agree u (omega arith))
 
   -- in PX1, and in PX2
-  px1-found : (u pair row column : ℕ) (f : FoundPx) → found_px (state_at mode 0 u) 3 pair row column ≡ f → Right (px_entry mode 3 u pair row column f)
+  px1-found : (u pair row column : ℕ) (f : Result FoundPx Answer) → found_px (state_at mode 0 u) 3 pair row column ≡ f → Right (px_entry mode 3 u pair row column f)
   unfolding value_in coded_bit bit_of turn_of
-  px1-found u pair row column (Coded k frame bit) e q = coded-found P3 u pair row column k frame bit (sent-here u q) e
-  px1-found u pair row column found-fill e q = refl
-  px1-found u pair row column (px-refused r) e q = refl
+  px1-found u pair row column (Ok (Coded k frame bit)) e q = coded-found P3 u pair row column k frame bit (sent-here u q) e
+  px1-found u pair row column (Ok found-fill) e q = refl
+  px1-found u pair row column (Err r) e q = refl
 
-  px2-found : (u pair row column : ℕ) (f : FoundPx) → found_px (state_at mode 0 u) 4 pair row column ≡ f → Right (px_entry mode 4 u pair row column f)
+  px2-found : (u pair row column : ℕ) (f : Result FoundPx Answer) → found_px (state_at mode 0 u) 4 pair row column ≡ f → Right (px_entry mode 4 u pair row column f)
   unfolding value_in coded_bit bit_of turn_of
-  px2-found u pair row column (Coded k frame bit) e q =
+  px2-found u pair row column (Ok (Coded k frame bit)) e q =
       ap (λ (b : List ℕ). bit_at b (cell_of (kind_of_number mode 4) pair row column)) (sym (px2-is mode o a t h)) ∙ coded-found P4 u pair row column k frame bit (sent-here u q) e
-  px2-found u pair row column found-fill e q = refl
-  px2-found u pair row column (px-refused r) e q = refl
+  px2-found u pair row column (Ok found-fill) e q = refl
+  px2-found u pair row column (Err r) e q = refl
 
-  px1-located : (u frame bit : ℕ) (l : LocatedPx) → located_px (state_at mode 0 u) 3 frame bit ≡ l → Right (px_placed mode 3 u frame bit l)
+  px1-located : (u frame bit : ℕ) (l : Result LocatedPx Answer) → located_px (state_at mode 0 u) 3 frame bit ≡ l → Right (px_placed mode 3 u frame bit l)
   unfolding value_in coded_bit bit_of turn_of
-  px1-located u frame bit (AtPX later pair row column) e q = coded-located P3 u frame bit later pair row column (sent-here (u + later) q) e
-  px1-located u frame bit (not-located-px r) e q = refl
+  px1-located u frame bit (Ok cell) e q = coded-located P3 u frame bit cell.later cell.pair cell.row cell.column (sent-here (u + cell.later) q) e
+  px1-located u frame bit (Err r) e q = refl
 
-  px2-located : (u frame bit : ℕ) (l : LocatedPx) → located_px (state_at mode 0 u) 4 frame bit ≡ l → Right (px_placed mode 4 u frame bit l)
+  px2-located : (u frame bit : ℕ) (l : Result LocatedPx Answer) → located_px (state_at mode 0 u) 4 frame bit ≡ l → Right (px_placed mode 4 u frame bit l)
   unfolding value_in coded_bit bit_of turn_of
-  px2-located u frame bit (AtPX later pair row column) e q =
-      ap (λ (b : List ℕ). bit_at b (cell_of (kind_of_number mode 4) pair row column)) (sym (px2-is mode o a t h))
-      ∙ coded-located P4 u frame bit later pair row column (sent-here (u + later) q) e
-  px2-located u frame bit (not-located-px r) e q = refl
+  px2-located u frame bit (Ok cell) e q =
+      ap (λ (b : List ℕ). bit_at b (cell_of (kind_of_number mode 4) cell.pair cell.row cell.column)) (sym (px2-is mode o a t h))
+      ∙ coded-located P4 u frame bit cell.later cell.pair cell.row cell.column (sent-here (u + cell.later) q) e
+  px2-located u frame bit (Err r) e q = refl
 
   -- any other channel is refused
   other-found : (c u pair row column : ℕ) → kind_of_number mode c ≡ Unused → Right (px_entry mode c u pair row column (found_px (state_at mode 0 u) c pair row column))
   unfolding found_px
   other-found c u pair row column e = rw e (go (valid (state_at mode 0 u)))
     where
-      go : (b : Bool) → Right (px_entry mode c u pair row column (cond b (px-refused (WrongLength 0)) (px-refused StateNotValid)))
+      go : (b : Bool) → Right (px_entry mode c u pair row column (cond b (Err (WrongLength 0)) (Err StateNotValid)))
       go true = refused-right
       go false = refused-right
 
@@ -205,7 +206,7 @@ module _ (mode : ℕ) (o : older mode ≡ true) (a : SenderRun mode) (t : ℕ) (
   unfolding located_px
   other-located c u frame bit e = rw e (go (valid (state_at mode 0 u)))
     where
-      go : (b : Bool) → Right (px_placed mode c u frame bit (cond b (not-located-px (WrongLength 0)) (not-located-px StateNotValid)))
+      go : (b : Bool) → Right (px_placed mode c u frame bit (cond b (Err (WrongLength 0)) (Err StateNotValid)))
       go true = refused-right
       go false = refused-right
 
@@ -236,9 +237,9 @@ module _ (mode : ℕ) (o : older mode ≡ true) (a : SenderRun mode) (t : ℕ) (
   if-sent true e r = r
   if-sent false e r = refused-right
 
-  pub asked-value : (q : Question) → Right (entry_of mode n q)
+  pub asked-value : (q : Option Question) → Right (entry_of mode n q)
   unfolding entry_of
-  asked-value (Pm u row column) = if-sent (ltb u n) (pm_entry u row column (found row column)) (pm-found u row column (found row column) refl)
-  asked-value (Px u c pair row column) = if-sent (ltb u n) (px_entry mode c u pair row column (found_px (state_at mode 0 u) c pair row column)) (px-found u c pair row column)
-  asked-value (Bit u c frame bit) = if-sent (ltb u n) (bit_entry mode c u frame bit) (bit-right c u frame bit)
-  asked-value Wrong = refused-right
+  asked-value (Some (Pm u row column)) = if-sent (ltb u n) (pm_entry u row column (found row column)) (pm-found u row column (found row column) refl)
+  asked-value (Some (Px u c pair row column)) = if-sent (ltb u n) (px_entry mode c u pair row column (found_px (state_at mode 0 u) c pair row column)) (px-found u c pair row column)
+  asked-value (Some (Bit u c frame bit)) = if-sent (ltb u n) (bit_entry mode c u frame bit) (bit-right c u frame bit)
+  asked-value None = refused-right

@@ -6,9 +6,11 @@ use Prim.Native.Nat.{ℕ, ◌+◌, ◌-◌, ◌*◌, ◌/◌, ◌≤◌, ◌<◌
 use native.Mathlib.Omega.{arith}
 use lib.Dec.{ltb}
 use lib.ListN.{length-replicate, replicate}
+use Rattle.std.specs.Prelude.{Result, Ok, Err}
 use Rattle.bits.specs.Bits.{bit_at}
 use Rattle.interleaving.specs.Matrix.{position_at}
 use Rattle.interleaving.specs.declared.Position.{Position}
+use Rattle.runs.specs.declared.Answer.{Answer}
 use Rattle.runs.specs.declared.Answer.TheVariants.{StateNotValid, WrongLength}
 use Rattle.runs.specs.declared.Extended.{Extended}
 use Rattle.runs.specs.declared.Extended.TheVariants.{P3, P4}
@@ -21,24 +23,23 @@ use Rattle.runs.specs.Runs.{SenderRun, count, frame_at, matrices_at}
 use Rattle.runs.specs.Starting.{state_at, valid}
 use Rattle.runs.proofs.Filled.{or-zeros-right}
 use Rattle.queries.specs.declared.finder.Found.{Found}
-use Rattle.queries.specs.declared.finder.Found.TheVariants.{P1 as found-p1, Pids as found-pids, Refused as pm-refused}
+use Rattle.queries.specs.declared.finder.Found.TheVariants.{P1 as found-p1, Pids as found-pids}
 use Rattle.queries.specs.declared.finder_px.FoundPx.{FoundPx}
-use Rattle.queries.specs.declared.finder_px.FoundPx.TheVariants.{Coded, Fill as found-fill, Refused as px-refused}
+use Rattle.queries.specs.declared.finder_px.FoundPx.TheVariants.{Coded, Fill as found-fill}
 use Rattle.queries.specs.Finder.{found}
 use Rattle.queries.specs.FinderPX.{cell_of, found_px, kind_of_number}
 use Rattle.queries.specs.Sheets.{channel_number}
 use Rattle.locating.specs.declared.locator.Located.{Located}
-use Rattle.locating.specs.declared.locator.Located.TheVariants.{At, Refused as not-located}
 use Rattle.locating.specs.declared.locator_px.LocatedPx.{LocatedPx}
-use Rattle.locating.specs.declared.locator_px.LocatedPx.TheVariants.{At as AtPX, Refused as not-located-px}
 use Rattle.locating.specs.BothWays.{located_again}
-use Rattle.locating.specs.Locator.{located}
-use Rattle.locating.specs.LocatorPX.{located_px}
+use Rattle.locating.specs.Locator.{at_cell, located}
+use Rattle.locating.specs.LocatorPX.{at_cell as at_cell-px, located_px}
 use Rattle.locating.proofs.AgainPM.{both_ways}
 use Rattle.locating.proofs.AgainPX.{both-ways-px}
 use Rattle.sheetlines.specs.Entries.{bit_entry, entry_of, in_pm, pm_entry, pm_placed, px_entry, px_placed}
+use Rattle.std.specs.Prelude.{Option, Some, None}
 use Rattle.sheetlines.specs.declared.questions.Question.{Question}
-use Rattle.sheetlines.specs.declared.questions.Question.TheVariants.{Bit, Pm, Px, Wrong}
+use Rattle.sheetlines.specs.declared.questions.Question.TheVariants.{Bit, Pm, Px}
 use Rattle.sheetlines.specs.declared.entries.CodedBit.{CodedBit}
 use Rattle.sheetlines.specs.declared.entries.Entry.{Entry}
 use Rattle.sheetlines.specs.declared.entries.Entry.TheVariants.{Stands, Fill, Refused}
@@ -97,42 +98,42 @@ module _ (mode : ℕ) (o : older mode ≡ true) (a : SenderRun mode) (t : ℕ) (
 
   -- ---- PM
 
-  p1-sums : (bit row column : ℕ) (p : Position) → located 1 0 bit ≡ At p row column → Comes (in_pm t 1 0 bit row column)
+  p1-sums : (bit row column : ℕ) (p : Position) → located 1 0 bit ≡ Ok (at_cell p row column) → Comes (in_pm t 1 0 bit row column)
   unfolding value_in channel_in filled
   p1-sums bit row column p e q =
       let c = (worked-sheets mode (older-main mode o) a t h).p1-bit 0 bit row column p (omega arith) e in
       subst (λ (f : Frames). SumsTo (bit_at X.pm (row * 720 + column)) (worked (state_at mode 0 t) 1 f.p1 0 bit)) (agree t (omega arith)) (sums-to _ _ (state_at mode 0 t) 1 (frame_at mode a t).p1 0 bit c)
 
-  pids-sums : (frame bit row column : ℕ) (p : Position) → located 2 frame bit ≡ At p row column → Comes (in_pm t 2 frame bit row column)
+  pids-sums : (frame bit row column : ℕ) (p : Position) → located 2 frame bit ≡ Ok (at_cell p row column) → Comes (in_pm t 2 frame bit row column)
   unfolding value_in channel_in filled
   pids-sums frame bit row column p e q =
       let c = (worked-sheets mode (older-main mode o) a t h).pids-bit 0 frame bit row column p (omega arith) e in
       subst (λ (f : Frames). SumsTo (bit_at X.pm (row * 720 + column)) (worked (state_at mode 0 t) 2 f.pids frame bit)) (agree t (omega arith)) (sums-to _ _ (state_at mode 0 t) 2 (frame_at mode a t).pids frame bit c)
 
-  back : (row column : ℕ) (f : Found) → found row column ≡ f → (row < 512) × (column < 720) → located_again f ≡ At (position_at 36 row column) row column
+  back : (row column : ℕ) (f : Result Found Answer) → found row column ≡ f → (row < 512) × (column < 720) → located_again f ≡ Ok (at_cell (position_at 36 row column) row column)
   back row column f e (r, c) = ap located_again (sym e) ∙ both_ways.back row column r c
 
   here : (P : ℕ → Type 0) (u : ℕ) → u ≡ t → P t → P u
   here P u e p = subst P (sym e) p
 
-  pm-found : (u row column : ℕ) (f : Found) → found row column ≡ f → Comes (pm_entry u row column f)
-  pm-found u row column (found-p1 bit) e = λ q.
+  pm-found : (u row column : ℕ) (f : Result Found Answer) → found row column ≡ f → Comes (pm_entry u row column f)
+  pm-found u row column (Ok (found-p1 bit)) e = λ q.
       here (λ (v : ℕ). v ≡ t → SumsTo (value_in X (in_pm v 1 0 bit row column)) (working_in (record { channel = 1; from = v; frame = 0; bit = bit }))) u q
-      (p1-sums bit row column _ (back row column (found-p1 bit) e (p1-in-range row column bit e))) q
-  pm-found u row column (found-pids frame bit) e = λ q.
+      (p1-sums bit row column _ (back row column (Ok (found-p1 bit)) e (p1-in-range row column bit e))) q
+  pm-found u row column (Ok (found-pids frame bit)) e = λ q.
       here (λ (v : ℕ). v ≡ t → SumsTo (value_in X (in_pm v 2 frame bit row column)) (working_in (record { channel = 2; from = v; frame = frame; bit = bit }))) u q
-      (pids-sums frame bit row column _ (back row column (found-pids frame bit) e (pids-in-range row column frame bit e))) q
-  pm-found u row column (pm-refused r) e = tt
+      (pids-sums frame bit row column _ (back row column (Ok (found-pids frame bit)) e (pids-in-range row column frame bit e))) q
+  pm-found u row column (Err r) e = tt
 
-  pm-located : (u c frame bit : ℕ) (l : Located) → located c frame bit ≡ l → Comes (pm_placed u c frame bit l)
-  pm-located u c frame bit (At p row column) e = λ q.
-      here (λ (v : ℕ). v ≡ t → SumsTo (value_in X (in_pm v c frame bit row column)) (working_in (record { channel = c; from = v; frame = frame; bit = bit }))) u q
-      (by-channel (λ (k f : ℕ). Comes (in_pm t k f bit row column)) bit row column p (λ d. p1-sums bit row column p d) (λ f d. pids-sums f bit row column p d) c frame e) q
-  pm-located u c frame bit (not-located r) e = tt
+  pm-located : (u c frame bit : ℕ) (l : Result Located Answer) → located c frame bit ≡ l → Comes (pm_placed u c frame bit l)
+  pm-located u c frame bit (Ok cell) e = λ q.
+      here (λ (v : ℕ). v ≡ t → SumsTo (value_in X (in_pm v c frame bit cell.row cell.column)) (working_in (record { channel = c; from = v; frame = frame; bit = bit }))) u q
+      (by-channel (λ (k f : ℕ). Comes (in_pm t k f bit cell.row cell.column)) bit cell.row cell.column cell.position (λ d. p1-sums bit cell.row cell.column cell.position d) (λ f d. pids-sums f bit cell.row cell.column cell.position d) c frame e) q
+  pm-located u c frame bit (Err r) e = tt
 
   -- ---- PX
 
-  px-sums : (e : Extended) (from later frame bit pair row column : ℕ) → from + later ≡ t → located_px (state_at mode 0 from) (channel_number e) frame bit ≡ AtPX later pair row column
+  px-sums : (e : Extended) (from later frame bit pair row column : ℕ) → from + later ≡ t → located_px (state_at mode 0 from) (channel_number e) frame bit ≡ Ok (at_cell-px later pair row column)
       → SumsTo (bit_at (matrix_of mode X e) (cell_of (kind_of_number mode (channel_number e)) pair row column)) (worked (state_at mode 0 from) (channel_number e) (frame_of (G from) e) frame bit)
   unfolding worked filled
   px-sums e from later frame bit pair row column same f =
@@ -148,7 +149,7 @@ module _ (mode : ℕ) (o : older mode ≡ true) (a : SenderRun mode) (t : ℕ) (
       meant-of P3 = meant-filled mode o P3 (G from).p3
       meant-of P4 = meant-filled mode o P4 (G from).p4
 
-  px-back : (e : Extended) (u pair row column k frame bit : ℕ) → u ≡ t → found_px (state_at mode 0 u) (channel_number e) pair row column ≡ Coded k frame bit
+  px-back : (e : Extended) (u pair row column k frame bit : ℕ) → u ≡ t → found_px (state_at mode 0 u) (channel_number e) pair row column ≡ Ok (Coded k frame bit)
       → SumsTo (bit_at (matrix_of mode X e) (cell_of (kind_of_number mode (channel_number e)) pair row column)) (worked (state_at mode 0 (u - k)) (channel_number e) (frame_of (G (u - k)) e) frame bit)
   px-back e u pair row column k frame bit same f =
       let (l, g) = (both-ways-px mode (older-covered mode o) (older-main mode o) e).back 0 0 u pair row column k frame bit (omega arith) (omega arith) f in
@@ -157,36 +158,36 @@ module _ (mode : ℕ) (o : older mode ≡ true) (a : SenderRun mode) (t : ℕ) (
   in-px2 : (cell : ℕ) (w : Worked) → SumsTo (bit_at (matrix_of mode X P4) cell) w → SumsTo (bit_at X.px2 cell) w
   in-px2 cell w s = subst (λ (b : List ℕ). SumsTo (bit_at b cell) w) (px2-is mode o a t h) s
 
-  px1-found : (u pair row column : ℕ) (f : FoundPx) → found_px (state_at mode 0 u) 3 pair row column ≡ f → Comes (px_entry mode 3 u pair row column f)
+  px1-found : (u pair row column : ℕ) (f : Result FoundPx Answer) → found_px (state_at mode 0 u) 3 pair row column ≡ f → Comes (px_entry mode 3 u pair row column f)
   unfolding value_in channel_in
-  px1-found u pair row column (Coded k frame bit) e = λ q. px-back P3 u pair row column k frame bit q e
-  px1-found u pair row column found-fill e = tt
-  px1-found u pair row column (px-refused r) e = tt
+  px1-found u pair row column (Ok (Coded k frame bit)) e = λ q. px-back P3 u pair row column k frame bit q e
+  px1-found u pair row column (Ok found-fill) e = tt
+  px1-found u pair row column (Err r) e = tt
 
-  px2-found : (u pair row column : ℕ) (f : FoundPx) → found_px (state_at mode 0 u) 4 pair row column ≡ f → Comes (px_entry mode 4 u pair row column f)
+  px2-found : (u pair row column : ℕ) (f : Result FoundPx Answer) → found_px (state_at mode 0 u) 4 pair row column ≡ f → Comes (px_entry mode 4 u pair row column f)
   unfolding value_in channel_in
-  px2-found u pair row column (Coded k frame bit) e = λ q.
+  px2-found u pair row column (Ok (Coded k frame bit)) e = λ q.
       in-px2 _ (worked (state_at mode 0 (u - k)) 4 (G (u - k)).p4 frame bit) (px-back P4 u pair row column k frame bit q e)
-  px2-found u pair row column found-fill e = tt
-  px2-found u pair row column (px-refused r) e = tt
+  px2-found u pair row column (Ok found-fill) e = tt
+  px2-found u pair row column (Err r) e = tt
 
-  px1-located : (u frame bit : ℕ) (l : LocatedPx) → located_px (state_at mode 0 u) 3 frame bit ≡ l → Comes (px_placed mode 3 u frame bit l)
+  px1-located : (u frame bit : ℕ) (l : Result LocatedPx Answer) → located_px (state_at mode 0 u) 3 frame bit ≡ l → Comes (px_placed mode 3 u frame bit l)
   unfolding value_in channel_in
-  px1-located u frame bit (AtPX later pair row column) e = λ q. px-sums P3 u later frame bit pair row column q e
-  px1-located u frame bit (not-located-px r) e = tt
+  px1-located u frame bit (Ok cell) e = λ q. px-sums P3 u cell.later frame bit cell.pair cell.row cell.column q e
+  px1-located u frame bit (Err r) e = tt
 
-  px2-located : (u frame bit : ℕ) (l : LocatedPx) → located_px (state_at mode 0 u) 4 frame bit ≡ l → Comes (px_placed mode 4 u frame bit l)
+  px2-located : (u frame bit : ℕ) (l : Result LocatedPx Answer) → located_px (state_at mode 0 u) 4 frame bit ≡ l → Comes (px_placed mode 4 u frame bit l)
   unfolding value_in channel_in
-  px2-located u frame bit (AtPX later pair row column) e = λ q.
-      in-px2 _ (worked (state_at mode 0 u) 4 (G u).p4 frame bit) (px-sums P4 u later frame bit pair row column q e)
-  px2-located u frame bit (not-located-px r) e = tt
+  px2-located u frame bit (Ok cell) e = λ q.
+      in-px2 _ (worked (state_at mode 0 u) 4 (G u).p4 frame bit) (px-sums P4 u cell.later frame bit cell.pair cell.row cell.column q e)
+  px2-located u frame bit (Err r) e = tt
 
   -- any other channel is refused
   other-found : (c u pair row column : ℕ) → kind_of_number mode c ≡ Unused → Comes (px_entry mode c u pair row column (found_px (state_at mode 0 u) c pair row column))
   unfolding found_px
   other-found c u pair row column e = rw e (go (valid (state_at mode 0 u)))
     where
-      go : (b : Bool) → Comes (px_entry mode c u pair row column (cond b (px-refused (WrongLength 0)) (px-refused StateNotValid)))
+      go : (b : Bool) → Comes (px_entry mode c u pair row column (cond b (Err (WrongLength 0)) (Err StateNotValid)))
       go true = tt
       go false = tt
 
@@ -194,7 +195,7 @@ module _ (mode : ℕ) (o : older mode ≡ true) (a : SenderRun mode) (t : ℕ) (
   unfolding located_px
   other-located c u frame bit e = rw e (go (valid (state_at mode 0 u)))
     where
-      go : (b : Bool) → Comes (px_placed mode c u frame bit (cond b (not-located-px (WrongLength 0)) (not-located-px StateNotValid)))
+      go : (b : Bool) → Comes (px_placed mode c u frame bit (cond b (Err (WrongLength 0)) (Err StateNotValid)))
       go true = tt
       go false = tt
 
@@ -225,9 +226,9 @@ module _ (mode : ℕ) (o : older mode ≡ true) (a : SenderRun mode) (t : ℕ) (
   if-sent true e r = r
   if-sent false e r = tt
 
-  pub asked-comes : (n : ℕ) (q : Question) → Comes (entry_of mode n q)
+  pub asked-comes : (n : ℕ) (q : Option Question) → Comes (entry_of mode n q)
   unfolding entry_of
-  asked-comes n (Pm u row column) = if-sent (ltb u n) (pm_entry u row column (found row column)) (pm-found u row column (found row column) refl)
-  asked-comes n (Px u c pair row column) = if-sent (ltb u n) (px_entry mode c u pair row column (found_px (state_at mode 0 u) c pair row column)) (px-found u c pair row column)
-  asked-comes n (Bit u c frame bit) = if-sent (ltb u n) (bit_entry mode c u frame bit) (bit-comes c u frame bit)
-  asked-comes n Wrong = tt
+  asked-comes n (Some (Pm u row column)) = if-sent (ltb u n) (pm_entry u row column (found row column)) (pm-found u row column (found row column) refl)
+  asked-comes n (Some (Px u c pair row column)) = if-sent (ltb u n) (px_entry mode c u pair row column (found_px (state_at mode 0 u) c pair row column)) (px-found u c pair row column)
+  asked-comes n (Some (Bit u c frame bit)) = if-sent (ltb u n) (bit_entry mode c u frame bit) (bit-comes c u frame bit)
+  asked-comes n None = tt

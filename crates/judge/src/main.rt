@@ -23,8 +23,7 @@ fn judge_frames(
 {
     let begun = calls::start_reader(mode, memory3, memory4, delay);
     let mut state = begun.state;
-    let mut t: usize = 0;
-    while t < count {
+    for t in 0..count {
         let n = programs::read_full(rt, frame);
         let judged = judge_step::judge_bytes(
             mode,
@@ -41,7 +40,6 @@ fn judge_frames(
             return end;
         }
         state = judged.state;
-        t += 1;
     }
     judge_step::put_last(standard_input::is_more(rt), count, line)
 }

@@ -28,13 +28,13 @@ use Rattle.runs.specs.Causes.{first, judge}
 use Rattle.runs.specs.Chain.{Buffer, fill_bad, frame_bad, frames_of, p1_bad, p1_of, p2_bad, pids_bad}
 use Rattle.runs.specs.Paths.{delay_bad, oldest}
 use Rattle.runs.specs.Lengths.{kind_of, matrix_len, px2_len}
-use Rattle.runs.specs.Lent.{Matrices, Memory, Signal, p1'_in}
+use Rattle.runs.specs.Lent.{Frames, Matrices, Memory, Signal, p1'_in}
 use Rattle.runs.specs.Judged.{counted_first, due, fill_place, frame_place, main_bad, main_place}
 use Rattle.runs.specs.Reading.{push, pushed}
 use Rattle.runs.proofs.Answered.{not-success, success-is}
 use Rattle.runs.proofs.Beside.{first-beside-first, first-beside-second, first-beside-none}
 use Rattle.recover.specs.Rooms.{late_bad, past, pm_bad}
-use Rattle.runs.proofs.Bounds.{matrix-le, p1-frames-le, second-le}
+use Rattle.runs.proofs.Bounds.{p1-frames-le}
 use Rattle.recover.proofs.Mains.{late-none, lowest-beside, lowest-is-le}
 use Rattle.judging.specs.Stages.{Recovered, after, and_then, control_answer, fill_answer, fill_cells, fill_row, fourth, frames_answer, lower, pm_answer, px_answer, signal_answer}
 
@@ -173,10 +173,6 @@ p4-judged s m hk hx (er, ep) = (
   ep ∙ ap₂ (λ (k : Kind) (x : Buffer). frames_of k s.half (push m x)) hk hx,
 )
 
--- the bounds
-pub cells-le : (s : State) → fill_cells s ≤ 300000
-cells-le s = omega (arith, matrix-le (kind_of s.mode P3), matrix-le (kind_of s.mode P4), second-le (main_of s.mode))
-
 pub cells_are : (s : State) (px1 px2 : Buffer) → length px1 ≡ matrix_len (kind_of s.mode P3) → length px2 ≡ px2_len s.mode → (length px1 + length px2) * 8 ≡ fill_cells s
 cells_are s px1 px2 h1 h2 = omega (arith, h1, h2)
 
@@ -233,9 +229,9 @@ module _ (s : State) (m : Memory) where
       unfolding frames_answer frame_place judge
       frames-right h = rw (first-beside-none 8 8 _ _ (lowest-frame h3 e3) e4 right3 h)
 
-  pub recovered : {k3 : Kind} {p3 p4 : Buffer} → k3 ≡ kind_of s.mode P3
-      → p3 ≡ frames_of k3 s.half m.for3 → p4 ≡ frames_of (kind_of s.mode P4) s.half m.for4 → Recovered s m p3 p4
-  recovered h3 e3 e4 = (e3 ∙ ap (λ (k : Kind). frames_of k s.half m.for3) h3, e4)
+  pub recovered : (f : Frames) {k3 : Kind} → k3 ≡ kind_of s.mode P3
+      → f.p3 ≡ frames_of k3 s.half m.for3 → f.p4 ≡ frames_of (kind_of s.mode P4) s.half m.for4 → Recovered s m f
+  recovered f h3 e3 e4 = record { p3-is = e3 ∙ ap (λ (k : Kind). frames_of k s.half m.for3) h3; p4-is = e4 }
 
 -- one stage after the other
 pub stopped : (a b : Answer) → (number_of a ≡ 0 → ⊥) → a ≡ and_then a b
@@ -258,7 +254,7 @@ module _ (s : State) (m : Memory) (x : Matrices) (a : Answer) (e : a ≡ fill_an
       success-is a zero ∙ sym (ap (λ (b : Bool). cond b Success (frames_answer s (pushed s.mode m x))) (lt-ltb s.age 2 h))
       ∙ went_on a _ zero ∙ ap (λ (b : Answer). and_then b (cond (ltb s.age 2) Success (frames_answer s (pushed s.mode m x)))) e
 
-  pub old : number_of a ≡ 0 → 2 ≤ s.age → frames_answer s (after s m.for3 m.for4 x.px1 x.px2) ≡ px_answer s m x
+  pub old : number_of a ≡ 0 → 2 ≤ s.age → frames_answer s (after s m x) ≡ px_answer s m x
   unfolding px_answer pushed frames_answer frame_place
   old zero h =
       sym (ap (λ (b : Bool). cond b Success (frames_answer s (pushed s.mode m x))) (le-ltb s.age 2 h))

@@ -9,10 +9,10 @@ use Rattle.runs.specs.declared.State.{State}
 use Rattle.runs.specs.MainChannels.{main_of, p1'_len}
 use Rattle.runs.specs.Answers.{on_success}
 use Rattle.runs.specs.Causes.{at, first, judge}
-use Rattle.runs.specs.Chain.{Buffer, fill_bad, frames_of, pids_bad}
+use Rattle.runs.specs.Chain.{Buffer, fill_bad, frames_of, p1_of, p2_of, pids_bad, pids_of}
 use Rattle.runs.specs.Paths.{delay_bad}
 use Rattle.runs.specs.Lengths.{kind_of, frame_len, matrix_len, px2_len, reader_len}
-use Rattle.runs.specs.Lent.{Matrices, Memory, Signal, matrix_of, p1'_in}
+use Rattle.runs.specs.Lent.{Frames, Matrices, Memory, Signal, matrix_of, p1'_in}
 use Rattle.runs.specs.Judged.{counted_first, fill_place, frame_place, main_place}
 use Rattle.runs.specs.Reading.{push, pushed}
 
@@ -57,23 +57,30 @@ fill_row s x =
     (delay_bad (main_of s.mode) s.age (p1'_in s.mode x)))
 
 -- the buffers of both extended channels
-pub record Extends (s : State) (px1 px2 memory3 memory4 p3 p4 : Buffer) : Type 0 where
+pub record Extends (s : State) (m : Memory) (x : Matrices) (f : Frames) : Type 0 where
   pub half_lt : s.half < 2
-  pub px1-long : length px1 ≡ matrix_len (kind_of s.mode P3)
-  pub px2-long : length px2 ≡ px2_len s.mode
-  pub memory3-long : length memory3 ≡ reader_len (kind_of s.mode P3)
-  pub memory4-long : length memory4 ≡ reader_len (kind_of s.mode P4)
-  pub p3-long : length p3 ≡ frame_len (kind_of s.mode P3)
-  pub p4-long : length p4 ≡ frame_len (kind_of s.mode P4)
+  pub px1-long : length x.px1 ≡ matrix_len (kind_of s.mode P3)
+  pub px2-long : length x.px2 ≡ px2_len s.mode
+  pub memory3-long : length m.for3 ≡ reader_len (kind_of s.mode P3)
+  pub memory4-long : length m.for4 ≡ reader_len (kind_of s.mode P4)
+  pub p3-long : length f.p3 ≡ frame_len (kind_of s.mode P3)
+  pub p4-long : length f.p4 ≡ frame_len (kind_of s.mode P4)
 
 -- the matrices of P4
 abbrev pub fourth : State → Buffer → Buffer
 fourth s px2 = take (matrix_len (kind_of s.mode P4)) px2
 
 -- the last three matrices of both, after one more
-abbrev pub after : State → (memory3 memory4 px1 px2 : Buffer) → Memory
-after s memory3 memory4 px1 px2 = record { for3 = push memory3 px1; for4 = push memory4 (fourth s px2); delayed = [] }
+abbrev pub after : State → Memory → Matrices → Memory
+after s m x = record { for3 = push m.for3 x.px1; for4 = push m.for4 (fourth s x.px2); delayed = [] }
+
+-- P1, still scrambled, PIDS and P2, from PM
+pub record Brought (s : State) (x : Matrices) (f : Frames) : Type 0 where
+  pub p1-is : f.p1 ≡ p1_of (main_of s.mode) x.pm
+  pub pids-is : f.pids ≡ pids_of x.pm
+  pub p2-is : f.p2 ≡ p2_of (main_of s.mode) x.pm
 
 -- P3 and P4 of the L1 frame two earlier, from the last three matrices
-abbrev pub Recovered : State → Memory → (p3 p4 : Buffer) → Type 0
-Recovered s m p3 p4 = (p3 ≡ frames_of (kind_of s.mode P3) s.half m.for3) × (p4 ≡ frames_of (kind_of s.mode P4) s.half m.for4)
+pub record Recovered (s : State) (m : Memory) (f : Frames) : Type 0 where
+  pub p3-is : f.p3 ≡ frames_of (kind_of s.mode P3) s.half m.for3
+  pub p4-is : f.p4 ≡ frames_of (kind_of s.mode P4) s.half m.for4

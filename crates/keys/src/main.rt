@@ -9,32 +9,31 @@ use programs::Streams;
 fn take(rt: &impl Streams, run: u64, frame: u64, sum: &mut [u8], more: &mut [u8]) -> bool {
     let mut line = [0u8; 93];
     let n = programs::read_full(rt, more);
-    let added = keys_step::add_input(run, frame, &more[..n], sum, &mut line);
-    let length = added.length;
-    programs::say(rt, &line[..length]);
-    added.good
+    match keys_step::add_input(run, frame, &more[..n], sum, &mut line) {
+        Ok(()) => true,
+        Err(length) => {
+            programs::say(rt, &line[..length]);
+            false
+        }
+    }
 }
 
 // Sums an L1 frame of n runs and writes it. Answers whether to go on.
 fn turn(rt: &impl Streams, n: u64, frame: u64, sum: &mut [u8], more: &mut [u8]) -> bool {
-    let mut run: u64 = 0;
-    while run < n {
+    for run in 0..n {
         if !take(rt, run, frame, sum, more) {
             return false;
         }
-        run += 1;
     }
     programs::write_out(rt, sum)
 }
 
 // Sums L1 frames till one is refused, and answers whether `count` are written.
 fn sum_all(rt: &impl Streams, n: u64, count: u64, sum: &mut [u8], more: &mut [u8]) -> bool {
-    let mut frame: u64 = 0;
-    while frame < count {
+    for frame in 0..count {
         if !turn(rt, n, frame, sum, more) {
             return false;
         }
-        frame += 1;
     }
     true
 }
@@ -75,7 +74,7 @@ fn main(rt: HostRuntime) {
         return;
     }
     match argument_words::summing(&words[..n]) {
-        Summed::Run { mode, count, runs } => run(&rt, mode, count, runs),
-        Summed::Wrong => programs::usage(&rt, line),
+        Some(Summed { mode, count, runs }) => run(&rt, mode, count, runs),
+        None => programs::usage(&rt, line),
     }
 }

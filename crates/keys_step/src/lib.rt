@@ -1,16 +1,9 @@
 // The program `keys`: an input of an L1 frame, added to those before it (document 02, S-14).
 #![tactic(auto)]
 
-ghost use Rattle.std.specs.Prelude.{◌≡◌, ◌≤◌, length, take};
+ghost use Rattle.std.specs.Prelude.{◌≡◌, ◌≤◌, MatchResult, [], false, length, take, true};
 ghost use Rattle.io.specs.Counts.{IsPrefixLen};
 ghost use Rattle.keys_step.specs.Summed.{add_input, added_to, not_taken, step};
-
-// Whether an input was taken, and the length of the line that is said where it was not.
-#[derive(Clone, Copy)]
-pub struct Added {
-    pub good: bool,
-    pub length: usize,
-}
 
 // Puts which L1 frame of which run cannot be sent, and why.
 fn put_not_taken(out: &mut [u8], run: u64, frame: u64, why: &[u8]) -> usize
@@ -36,30 +29,27 @@ fn add_to(run: u64, input: &[u8], sum: &mut [u8])
     summing::add(input, sum);
 }
 
-// Adds the input of L1 frame `frame` of this run, and puts the line where a sender would not take it.
-pub fn add_input(run: u64, frame: u64, input: &[u8], sum: &mut [u8], line: &mut [u8]) -> Added
+// Adds the input of L1 frame `frame` of this run. Where a sender would not take it, puts the line that says so, and answers its length.
+pub fn add_input(
+    run: u64,
+    frame: u64,
+    input: &[u8],
+    sum: &mut [u8],
+    line: &mut [u8],
+) -> Result<(), usize>
     requires { 93 ≤ length line.old }
-    ensures { IsPrefixLen result.length line.new
-        × (step result.good sum.new (take result.length line.new) ≡ add_input run frame sum.old input.now) }
+    ensures { MatchResult result (λ _. step true sum.new [] ≡ add_input run frame sum.old input.now)
+        (λ n. IsPrefixLen n line.new × (step false sum.new (take n line.new) ≡ add_input run frame sum.old input.now)) }
 {
     if input.len() != sum.len() {
         let length = put_not_taken(line, run, frame, b" it ends early\n");
-        return Added {
-            good: false,
-            length,
-        };
+        return Err(length);
     }
     let number = run_input::number_of(input);
     if number > 7 {
         let length = put_not_taken(line, run, frame, b" its reserved number is above 7\n");
-        return Added {
-            good: false,
-            length,
-        };
+        return Err(length);
     }
     add_to(run, input, sum);
-    Added {
-        good: true,
-        length: 0,
-    }
+    Ok(())
 }

@@ -12,7 +12,7 @@ pub use locating::{Located, LocatedPx, Writing, locate, locate_px};
 pub use mapping::fill_vector;
 pub use modes::{reader_lengths, sender_lengths};
 pub use queries::{
-    Found, FoundPx, LookedUp, LookedUpFrame, Placed, Position, find, find_px, lookup, lookup_frame,
+    BlockNumbers, Found, FoundPx, FrameNumbers, Position, find, find_px, lookup, lookup_frame,
     place_of,
 };
 pub use reading::read;

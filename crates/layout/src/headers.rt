@@ -8,19 +8,13 @@ use runs::Answer;
 // The letters that a dump begins with: the one string that is compared and written.
 const MARK: [u8; 3] = *b"HDM";
 
-fn wide(byte: u8) -> usize
-    ensures { result ≡ byte }
-{
-    byte as usize
-}
-
 // The 16 bits at `at`, most significant byte first.
 pub fn word_at(dump: &[u8], at: usize) -> usize
     requires { at + 1 < length dump.now }
     ensures { result ≡ word (get_or dump.now at 0) (get_or dump.now (at + 1) 0) }
 {
-    let high = wide(dump[at]);
-    let low = wide(dump[at + 1]);
+    let high = usize::from(dump[at]);
+    let low = usize::from(dump[at + 1]);
     256 * high + low
 }
 

@@ -8,6 +8,8 @@ use mathlib.Core.Bool.{Bool, true, false, cond, ◌&&◌}
 use mathlib.Core.List.{List, [], ◌∷◌}
 use borrow.Author.Tests.{ltb-true, ltb-false}
 use lib.Dec.{ltb}
+use Rattle.std.specs.Prelude.{Result}
+use Rattle.runs.specs.declared.Answer.{Answer}
 use Rattle.queries.specs.Finder.{found}
 use Rattle.queries.specs.declared.finder.Found.{Found}
 use Rattle.queries.proofs.Placing.{found-row-out, found-column-out}
@@ -74,7 +76,7 @@ shown-printed number line bytes e =
     ∙ both number (is_number (before space bytes)) (is_number (after space bytes)) (value (before space bytes)) (value (after space bytes))
 
 -- what is printed for what was found is what the line's state tells
-pub told-shown : (number : ℕ) (line : Line) (row column : ℕ) (f : Found) → row ≡ known line.row → column ≡ known line.column
+pub told-shown : (number : ℕ) (line : Line) (row column : ℕ) (f : Result Found Answer) → row ≡ known line.row → column ≡ known line.column
     → f ≡ found row column → told number row column f ≡ shown number line
 unfolding shown
 told-shown number line row column f e g h = ap (told number row column) h ∙ ap₂ (asked number) e g

@@ -1,8 +1,9 @@
 -- Document 01: what the cell list program prints, as ASCII bytes.
-use Rattle.std.specs.Prelude.{ℕ, cond, ◌&&◌, List, ◌++◌}
+use Rattle.std.specs.Prelude.{ℕ, cond, ◌&&◌, List, ◌++◌, Result, Ok, Err}
+use Rattle.runs.specs.declared.Answer.{Answer}
 use Rattle.queries.specs.Finder.{found}
 use Rattle.queries.specs.declared.finder.Found.{Found}
-use Rattle.queries.specs.declared.finder.Found.TheVariants.{P1, Pids, Refused}
+use Rattle.queries.specs.declared.finder.Found.TheVariants.{P1, Pids}
 use Rattle.text.specs.Letters.{ascii}
 use Rattle.text.specs.Lines.{after, before, lines, space}
 use Rattle.text.specs.Numbers.{decimal, is_number, value}
@@ -21,10 +22,10 @@ cell row column channel frame bit =
     decimal row ++ ascii " " ++ decimal column ++ ascii " " ++ channel ++ ascii " " ++ decimal frame ++ ascii " " ++ decimal bit ++ ascii "\n"
 
 -- what is printed for each answer of the cell finder
-abbrev pub told : (number row column : ℕ) → Found → List ℕ
-told number row column (P1 bit) = cell row column named_p1 0 bit
-told number row column (Pids frame bit) = cell row column named_pids frame bit
-told number row column (Refused answer) = refused number
+abbrev pub told : (number row column : ℕ) → Result Found Answer → List ℕ
+told number row column (Ok (P1 bit)) = cell row column named_p1 0 bit
+told number row column (Ok (Pids frame bit)) = cell row column named_pids frame bit
+told number row column (Err answer) = refused number
 
 -- what is printed for a line: two numbers parted by the first space are a row and a column, any other line is refused
 unfoldable pub printed : (number : ℕ) (line : List ℕ) → List ℕ

@@ -70,10 +70,8 @@ pub fn list(p: Progress, block: &[u8], out: &mut [u8]) -> Progress
         number: p.number,
         end: 0,
     };
-    let mut i: usize = 0;
-    while i < block.len() {
-        q = take_byte(&table, q, block[i], out);
-        i += 1;
+    for b in block {
+        q = take_byte(&table, q, *b, out);
     }
     q
 }

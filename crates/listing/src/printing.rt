@@ -56,8 +56,8 @@ pub fn print(table: &[u16; 1152], out: &mut [u8], at: usize, line: Line, number:
     let row = number_of(first);
     let column = number_of(second);
     match queries::find_by(table, row, column) {
-        Found::P1 { bit } => cell(out, at, row, column, b"P1 ", 0, bit),
-        Found::Pids { frame, bit } => cell(out, at, row, column, b"PIDS ", frame, bit),
-        Found::Refused { answer: _ } => refuse(out, at, number),
+        Ok(Found::P1 { bit }) => cell(out, at, row, column, b"P1 ", 0, bit),
+        Ok(Found::Pids { frame, bit }) => cell(out, at, row, column, b"PIDS ", frame, bit),
+        Err(_) => refuse(out, at, number),
     }
 }

@@ -5,6 +5,7 @@ use Prim.Native.Nat.{ℕ, ◌+◌, ◌-◌, ◌*◌, ◌/◌, ◌%◌, ◌≤◌
 use native.Mathlib.Decide.{dec_lt, ℕ_discrete}
 use native.Mathlib.Nat.{mod-lt}
 use native.Mathlib.Omega.{arith}
+use Rattle.std.specs.Prelude.{Ok}
 use Rattle.control.specs.Modes.{covered}
 use Rattle.interleaving.specs.PX.{coded_bits, step_of, place, later}
 use Rattle.interleaving.specs.FinderPX.{earlier, coded_bit}
@@ -23,8 +24,8 @@ use Rattle.queries.specs.Sheets.{channel_number}
 use Rattle.queries.proofs.CasesPX as found
 use Rattle.queries.proofs.Origins.{rows-hold, frame-holds, used, cell-lt}
 use Rattle.queries.proofs.Sheets.{number_is}
-use Rattle.locating.specs.declared.locator_px.LocatedPx.TheVariants.{At}
-use Rattle.locating.specs.LocatorPX.{standing, located_px}
+use Rattle.queries.proofs.Valued.{ok-is}
+use Rattle.locating.specs.LocatorPX.{at_cell, standing, located_px}
 use Rattle.locating.specs.BothWays.{BothWaysPX}
 use Rattle.locating.proofs.CasesPX as located
 use Rattle.locating.proofs.Later as again
@@ -59,14 +60,14 @@ module _ (mode : ℕ) (is-covered : covered mode ≡ true) (is : main_of mode �
     is-valid : valid (state_at mode z t) ≡ true
     is-valid = valid-at mode is-covered z lz t
 
-    locates : (frame bit : ℕ) → frame < 8 → bit < fc → located_px (state_at mode z t) channel frame bit ≡ standing k (x t frame bit)
+    locates : (frame bit : ℕ) → frame < 8 → bit < fc → located_px (state_at mode z t) channel frame bit ≡ Ok (standing k (x t frame bit))
     locates frame bit lf lb =
         sym
         (located.inside (state_at mode z t) channel frame bit is-valid k (number_is mode is e) (columns_of k) refl
         (λ q. omega (arith, frame-holds k)) lf (omega (arith, frame-holds k)))
 
     -- only a coded bit of the eight frames is located
-    pub in-range : (frame bit n pair row column : ℕ) → located_px (state_at mode z t) channel frame bit ≡ At n pair row column → (frame < 8) × (bit < fc)
+    pub in-range : (frame bit n pair row column : ℕ) → located_px (state_at mode z t) channel frame bit ≡ Ok (at_cell n pair row column) → (frame < 8) × (bit < fc)
     in-range frame bit n pair row column f = go (ℕ_discrete (columns_of k) 0) (dec_lt frame 8) (dec_lt bit fc)
       where
         go : Dec (columns_of k ≡ 0) → Dec (frame < 8) → Dec (bit < fc) → (frame < 8) × (bit < fc)
@@ -85,13 +86,13 @@ module _ (mode : ℕ) (is-covered : covered mode ≡ true) (is : main_of mode �
             absurd (omega arith)
 
     finds : (pair row column : ℕ) → pair < 8 → row < 64 → column < columns_of k
-        → found_px (state_at mode z t) channel pair row column ≡ told k (t % 2) (min (last_age (main_of mode)) t) (cell_of k pair row column)
+        → found_px (state_at mode z t) channel pair row column ≡ Ok (told k (t % 2) (min (last_age (main_of mode)) t) (cell_of k pair row column))
     finds pair row column lp lr lc =
         sym
         (found.inside (state_at mode z t) channel pair row column is-valid k (number_is mode is e) (columns_of k) refl (λ q. omega arith) lp lr lc)
 
     -- and only a cell of the matrices is found to hold a coded bit
-    cell-range : (pair row column n frame bit : ℕ) → found_px (state_at mode z t) channel pair row column ≡ Coded n frame bit
+    cell-range : (pair row column n frame bit : ℕ) → found_px (state_at mode z t) channel pair row column ≡ Ok (Coded n frame bit)
         → (pair < 8) × (row < 64) × (column < columns_of k)
     cell-range pair row column n frame bit f = go (ℕ_discrete (columns_of k) 0) (dec_lt pair 8) (dec_lt row 64) (dec_lt column (columns_of k))
       where
@@ -117,12 +118,12 @@ module _ (mode : ℕ) (is-covered : covered mode ≡ true) (is : main_of mode �
   -- ---- there
 
   coded-there : (z z' t frame bit n pair row column : ℕ) → z < 8 → z' < 8
-      → located_px (state_at mode z t) channel frame bit ≡ At n pair row column
-      → found_px (state_at mode z' (t + n)) channel pair row column ≡ Coded n frame bit
+      → located_px (state_at mode z t) channel frame bit ≡ Ok (at_cell n pair row column)
+      → found_px (state_at mode z' (t + n)) channel pair row column ≡ Ok (Coded n frame bit)
   coded-there z z' t frame bit n pair row column lz lz' f =
       let (lf, lb) = in-range z t lz frame bit n pair row column f in
       let u = has-row bit lb in
-      let st = standing-says k u (x t frame bit) n pair row column (sym (locates z t lz frame bit lf lb) ∙ f) in
+      let st = standing-says k u (x t frame bit) n pair row column (ok-is (sym (locates z t lz frame bit lf lb) ∙ f)) in
       let lh : t % 2 < 2 = omega arith in
       let lj : frame * fc + bit < N = located.bit-inside k frame bit lf lb in
       let few = again.few (table_row k) (t % 2) (frame * fc + bit) u lh lj in
@@ -135,16 +136,16 @@ module _ (mode : ℕ) (is-covered : covered mode ≡ true) (is : main_of mode �
       ap₂ (λ (h c : ℕ). coded_bit (table_row k) h c) (sym half) st.cell-is ∙ ej in
       let old : n ≤ min (last_age (main_of mode)) (t + n) = omega (arith, two-le (main_of mode), few, st.later-is) in
       finds z' (t + n) lz' pair row column st.pair_lt st.row_lt st.column-lt
-      ∙ told-coded k ((t + n) % 2) (min (last_age (main_of mode)) (t + n)) (cell_of k pair row column) n (frame * fc + bit) e1 e2 old
-      ∙ ap₂ (Coded n) (div-of fc frame bit _ refl lb) (mod-of fc frame bit _ refl lb)
+      ∙ ap Ok (told-coded k ((t + n) % 2) (min (last_age (main_of mode)) (t + n)) (cell_of k pair row column) n (frame * fc + bit) e1 e2 old)
+      ∙ ap₂ (λ f i. Ok (Coded n f i)) (div-of fc frame bit _ refl lb) (mod-of fc frame bit _ refl lb)
 
   -- the cell of the internal matrix that the bit is written to has the number of the step that reads it there
-  pub written-to : (z t frame bit n pair row column : ℕ) → z < 8 → located_px (state_at mode z t) channel frame bit ≡ At n pair row column
+  pub written-to : (z t frame bit n pair row column : ℕ) → z < 8 → located_px (state_at mode z t) channel frame bit ≡ Ok (at_cell n pair row column)
       → place (table_row k) (step_of (table_row k) (t % 2) (frame * fc + bit)) ≡ step_of (table_row k) ((t + n) % 2) (cell_of k pair row column)
   written-to z t frame bit n pair row column lz f =
       let (lf, lb) = in-range z t lz frame bit n pair row column f in
       let u = has-row bit lb in
-      let st = standing-says k u (x t frame bit) n pair row column (sym (locates z t lz frame bit lf lb) ∙ f) in
+      let st = standing-says k u (x t frame bit) n pair row column (ok-is (sym (locates z t lz frame bit lf lb) ∙ f)) in
       let lh : t % 2 < 2 = omega arith in
       let lj : frame * fc + bit < N = located.bit-inside k frame bit lf lb in
       let half : (t % 2 + x t frame bit / N) % 2 ≡ (t + n) % 2 = omega (arith, st.later-is) in
@@ -153,8 +154,8 @@ module _ (mode : ℕ) (is-covered : covered mode ≡ true) (is : main_of mode �
   -- ---- and back
 
   cell-back : (z z' t pair row column n frame bit : ℕ) → z < 8 → z' < 8
-      → found_px (state_at mode z t) channel pair row column ≡ Coded n frame bit
-      → (n ≤ t) × (located_px (state_at mode z' (t - n)) channel frame bit ≡ At n pair row column)
+      → found_px (state_at mode z t) channel pair row column ≡ Ok (Coded n frame bit)
+      → (n ≤ t) × (located_px (state_at mode z' (t - n)) channel frame bit ≡ Ok (at_cell n pair row column))
   cell-back z z' t pair row column n frame bit lz lz' f =
       let s = state_at mode z t in
       let (lp, lr, lc) = cell-range z t lz pair row column n frame bit f in
@@ -162,7 +163,7 @@ module _ (mode : ℕ) (is-covered : covered mode ≡ true) (is : main_of mode �
       let lh : t % 2 < 2 = omega arith in
       let cell : ℕ = cell_of k pair row column in
       let l : cell_of k pair row column < N = cell-lt k (columns_of k) (pair * 64 + row) column refl (omega arith) lc in
-      let says = sym (finds z t lz pair row column lp lr lc) ∙ f in
+      let says = ok-is (sym (finds z t lz pair row column lp lr lc) ∙ f) in
       let (en, le, ej) = found.coded-means k (t % 2) (min (last_age (main_of mode)) t) (cell_of k pair row column) n frame bit says in
       let (ef, eb) = coded-parts k (t % 2) (min (last_age (main_of mode)) t) (cell_of k pair row column) n frame bit says in
       let bl = bit-lt (table_row k) (t % 2) (cell_of k pair row column) u lh l in
@@ -175,11 +176,11 @@ module _ (mode : ℕ) (is-covered : covered mode ≡ true) (is : main_of mode �
       ap₂ (λ (h j : ℕ). later (table_row k) h j) half ej
       ∙ stands-later (table_row k) (t % 2) (cell_of k pair row column) u lh l
       ∙ ap (λ (m : ℕ). m * N + cell_of k pair row column) (sym en) in
-      (nt, locates z' (t - n) lz' frame bit lf lb ∙ says-standing k u n pair row column lp lr lc (x (t - n) frame bit) at l)
+      (nt, locates z' (t - n) lz' frame bit lf lb ∙ ap Ok (says-standing k u n pair row column lp lr lc (x (t - n) frame bit) at l))
 
   every-bit : (z t frame bit : ℕ) → z < 8 → frame < 8 → bit < fc
       → (n : ℕ) × (pair : ℕ) × (row : ℕ) × (column : ℕ)
-      × (located_px (state_at mode z t) channel frame bit ≡ At n pair row column)
+      × (located_px (state_at mode z t) channel frame bit ≡ Ok (at_cell n pair row column))
       × (n ≤ 2) × (pair < 8) × (row < 64) × (column < columns_of k)
   every-bit z t frame bit lz lf lb =
       let u = has-row bit lb in
@@ -191,7 +192,7 @@ module _ (mode : ℕ) (is-covered : covered mode ≡ true) (is : main_of mode �
         _,
         _,
         _,
-        locates z t lz frame bit lf lb ∙ standing-is k u (x t frame bit),
+        locates z t lz frame bit lf lb ∙ ap Ok (standing-is k u (x t frame bit)),
         omega arith,
         st.pair_lt,
         st.row_lt,

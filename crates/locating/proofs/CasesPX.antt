@@ -4,6 +4,7 @@ use mathlib.Core.Bool.{true, false}
 use Prim.Native.Nat.{ℕ, ◌+◌, ◌*◌, ◌/◌, ◌%◌, ◌<◌, ◌≤◌}
 use native.Mathlib.Omega.{arith}
 use borrow.Author.Tests.{eq-eqb, ne_eqb, lt-ltb, le-ltb}
+use Rattle.std.specs.Prelude.{Ok, Err}
 use Rattle.interleaving.specs.PX.{coded_bits, later}
 use Rattle.interleaving.proofs.Mod.{digits_lt}
 use Rattle.runs.specs.declared.Answer.TheVariants.{StateNotValid, WrongLength}
@@ -13,32 +14,31 @@ use Rattle.runs.specs.Lengths.{table_row}
 use Rattle.runs.specs.Starting.{valid}
 use Rattle.queries.specs.FinderPX.{kind_of_number, columns_of, frame_coded}
 use Rattle.queries.proofs.Origins.{rows-hold, frame-holds, columns-le}
-use Rattle.locating.specs.declared.locator_px.LocatedPx.TheVariants.{At, Refused}
-use Rattle.locating.specs.LocatorPX.{standing, located_px}
+use Rattle.locating.specs.LocatorPX.{at_cell, standing, located_px}
 
 module _ (s : State) (channel frame bit : ℕ) where
-  pub state-refused : valid s ≡ false → Refused StateNotValid ≡ located_px s channel frame bit
+  pub state-refused : valid s ≡ false → Err StateNotValid ≡ located_px s channel frame bit
   unfolding located_px
   state-refused v = rw v
 
   -- k is how the mode sends the channel, in rows of n cells
   module _ (v : valid s ≡ true) (k : Kind) (k-is : k ≡ kind_of_number s.mode channel) (n : ℕ) (n-is : n ≡ columns_of k) where
-    pub channel-refused : n ≡ 0 → Refused (WrongLength 0) ≡ located_px s channel frame bit
+    pub channel-refused : n ≡ 0 → Err (WrongLength 0) ≡ located_px s channel frame bit
     unfolding located_px
     channel-refused z = rw (v, ← k-is, ← n-is, eq-eqb n 0 z)
 
     module _ (ne : n ≡ 0 → ⊥) where
-      pub frame_refused : 8 ≤ frame → Refused (WrongLength 1) ≡ located_px s channel frame bit
+      pub frame_refused : 8 ≤ frame → Err (WrongLength 1) ≡ located_px s channel frame bit
       unfolding located_px
       frame_refused h = rw (v, ← k-is, ← n-is, ne_eqb n 0 ne, le-ltb frame 8 h)
 
-      pub bit-refused : frame < 8 → 64 * n ≤ bit → Refused (WrongLength 2) ≡ located_px s channel frame bit
+      pub bit-refused : frame < 8 → 64 * n ≤ bit → Err (WrongLength 2) ≡ located_px s channel frame bit
       unfolding located_px
       bit-refused lf h =
           let l : frame_coded k ≤ bit = omega (arith, frame-holds k) in
           rw (v, ← k-is, ← n-is, ne_eqb n 0 ne, lt-ltb frame 8 lf, le-ltb bit (frame_coded k) l)
 
-      pub inside : frame < 8 → bit < 64 * n → standing k (later (table_row k) s.half (frame * frame_coded k + bit)) ≡ located_px s channel frame bit
+      pub inside : frame < 8 → bit < 64 * n → Ok (standing k (later (table_row k) s.half (frame * frame_coded k + bit))) ≡ located_px s channel frame bit
       unfolding located_px
       inside lf h =
           let l : bit < frame_coded k = omega (arith, frame-holds k) in
@@ -66,7 +66,7 @@ module _ (k : Kind) (half frame bit row c x : ℕ) (row_is : row ≡ table_row k
   named : later (table_row k) half (frame * frame_coded k + bit) ≡ x
   named = rw (one, ← row_is, x-is)
 
-  pub standing-told : At (x / (8 * (64 * c))) (x % (8 * (64 * c)) / c / 64) (x % (8 * (64 * c)) / c % 64) (x % (8 * (64 * c)) % c)
+  pub standing-told : at_cell (x / (8 * (64 * c))) (x % (8 * (64 * c)) / c / 64) (x % (8 * (64 * c)) / c % 64) (x % (8 * (64 * c)) % c)
       ≡ standing k (later (table_row k) half (frame * frame_coded k + bit))
   unfolding standing
   standing-told = rw (named, all, ← c-is)

@@ -1,5 +1,5 @@
 -- Cells of the eight matrices of PX by block pair, row and column, and what the finder and the locator say of one. Assumes nothing.
-use mathlib.Core.Path.{◌≡◌, refl, ap, ◌∙◌}
+use mathlib.Core.Path.{◌≡◌, refl, sym, ap, ◌∙◌}
 use Prim.Native.Nat.{ℕ, ◌+◌, ◌*◌, ◌/◌, ◌%◌, ◌≤◌, ◌<◌}
 use native.Mathlib.Decide.{dec_lt}
 use native.Mathlib.Nat.{div-add-mod', mod-lt}
@@ -13,8 +13,8 @@ use Rattle.runs.specs.Lengths.{table_row}
 use Rattle.queries.specs.declared.finder_px.FoundPx.TheVariants.{Coded}
 use Rattle.queries.specs.FinderPX.{columns_of, cell_of, frame_coded, told}
 use Rattle.queries.proofs.Origins.{rows-hold, has-columns}
-use Rattle.locating.specs.declared.locator_px.LocatedPx.TheVariants.{At}
-use Rattle.locating.specs.LocatorPX.{standing}
+use Rattle.locating.specs.declared.locator_px.LocatedPx.{LocatedPx}
+use Rattle.locating.specs.LocatorPX.{at_cell, standing}
 
 -- ---- cells in rows of c: the cell m of the eight matrices, and the cell of a block pair, a row and a column
 
@@ -57,19 +57,19 @@ module _ (k : Kind) (u : table_row k < 2) where
       let p : 0 < coded_bits (table_row k) = omega (arith, rows-hold k, has-columns k u) in
       omega (arith, mod-lt x p, rows-hold k)
 
-  pub standing-is : (x : ℕ) → let n = coded_bits (table_row k) in let c = columns_of k in standing k x ≡ At (x / n) (x % n / c / 64) (x % n / c % 64) (x % n % c)
+  pub standing-is : (x : ℕ) → let n = coded_bits (table_row k) in let c = columns_of k in standing k x ≡ at_cell (x / n) (x % n / c / 64) (x % n / c % 64) (x % n % c)
   unfolding standing
   standing-is x = refl
 
-  pub standing-says : (x n pair row column : ℕ) → standing k x ≡ At n pair row column → Stands x n pair row column
+  pub standing-says : (x n pair row column : ℕ) → standing k x ≡ at_cell n pair row column → Stands x n pair row column
   unfolding standing
   standing-says x n pair row column e =
       let m : ℕ = x % coded_bits (table_row k) in
       let d = digits (columns_of k) (x % coded_bits (table_row k)) (has-columns k u) (cells_in x) in
-      let en : n ≡ x / coded_bits (table_row k) = cc in
-      let ep : pair ≡ x % coded_bits (table_row k) / columns_of k / 64 = cc in
-      let er : row ≡ x % coded_bits (table_row k) / columns_of k % 64 = cc in
-      let ec : column ≡ x % coded_bits (table_row k) % columns_of k = cc in
+      let en : n ≡ x / coded_bits (table_row k) = ap (λ (s : LocatedPx). s.later) (sym e) in
+      let ep : pair ≡ x % coded_bits (table_row k) / columns_of k / 64 = ap (λ (s : LocatedPx). s.pair) (sym e) in
+      let er : row ≡ x % coded_bits (table_row k) / columns_of k % 64 = ap (λ (s : LocatedPx). s.row) (sym e) in
+      let ec : column ≡ x % coded_bits (table_row k) % columns_of k = ap (λ (s : LocatedPx). s.column) (sym e) in
       record {
         later-is = en;
         cell-is = rw (ep, er, ec) d.cell;
@@ -80,7 +80,7 @@ module _ (k : Kind) (u : table_row k < 2) where
 
   pub says-standing : (n pair row column : ℕ) → pair < 8 → row < 64 → column < columns_of k
       → (x : ℕ) → x ≡ n * coded_bits (table_row k) + cell_of k pair row column → cell_of k pair row column < coded_bits (table_row k)
-      → standing k x ≡ At n pair row column
+      → standing k x ≡ at_cell n pair row column
   unfolding standing
   says-standing n pair row column lp lr lc x e l =
       let (p, r, c) = undigits (columns_of k) pair row column lr lc in

@@ -3,6 +3,7 @@
 use mathlib.Core.Path.{◌≡◌, sym, ap, ◌∙◌}
 use Prim.Native.Nat.{ℕ, ◌+◌, ◌-◌, ◌*◌, ◌<◌}
 use native.Mathlib.Omega.{arith}
+use Rattle.std.specs.Prelude.{Ok}
 use Rattle.bits.specs.Bits.{bit_at}
 use Rattle.interleaving.specs.declared.Position.{Position}
 use Rattle.runs.specs.declared.Extended.{Extended}
@@ -19,10 +20,8 @@ use Rattle.queries.specs.Finder.{found}
 use Rattle.queries.specs.FinderPX.{cell_of, frame_coded}
 use Rattle.queries.specs.Sheets.{channel_number}
 use Rattle.queries.proofs.Sheets.{sheets}
-use Rattle.locating.specs.declared.locator.Located.TheVariants.{At}
-use Rattle.locating.specs.declared.locator_px.LocatedPx.TheVariants.{At as AtPX}
-use Rattle.locating.specs.Locator.{located}
-use Rattle.locating.specs.LocatorPX.{located_px}
+use Rattle.locating.specs.Locator.{at_cell, located}
+use Rattle.locating.specs.LocatorPX.{at_cell as at_cell-px, located_px}
 use Rattle.locating.specs.BothWays.{found_again}
 use Rattle.locating.specs.Sheets.{LocatedSheet}
 use Rattle.locating.proofs.AgainPM.{both_ways}
@@ -30,17 +29,17 @@ use Rattle.locating.proofs.AgainPX.{both-ways-px}
 use Rattle.locating.proofs.CasesPM.{p1-range, pids-range}
 
 -- the finder names the bit that is located in a cell of PM
-p1-found : (bit row column : ℕ) (p : Position) → located 1 0 bit ≡ At p row column → found row column ≡ P1 bit
+p1-found : (bit row column : ℕ) (p : Position) → located 1 0 bit ≡ Ok (at_cell p row column) → found row column ≡ Ok (P1 bit)
 p1-found bit row column p e = sym (ap found_again e) ∙ both_ways.p1-there bit (p1-range bit row column p e)
 
-pids-found : (frame bit row column : ℕ) (p : Position) → located 2 frame bit ≡ At p row column → found row column ≡ Pids frame bit
+pids-found : (frame bit row column : ℕ) (p : Position) → located 2 frame bit ≡ Ok (at_cell p row column) → found row column ≡ Ok (Pids frame bit)
 pids-found frame bit row column p e =
     let (lf, lb) = pids-range frame bit row column p e in
     sym (ap found_again e) ∙ both_ways.pids-there frame bit lf lb
 
 module _ (mode : ℕ) (is : main_of mode ≡ Plain) (a : SenderRun mode) (t : ℕ) where
   coded_in : (e : Extended) (z frame bit n pair row column : ℕ) → z < 8
-      → located_px (state_at mode z t) (channel_number e) frame bit ≡ AtPX n pair row column
+      → located_px (state_at mode z t) (channel_number e) frame bit ≡ Ok (at_cell-px n pair row column)
       → t + n < count mode a
       → bit_at (matrix_of mode (matrices_at mode a (t + n)) e) (cell_of (kind_of mode e) pair row column)
       ≡ coded_of (kind_of mode e) (frame_of (frame_at mode a t) e) (frame * frame_coded (kind_of mode e) + bit)

@@ -8,15 +8,10 @@ use runs::Answer;
 
 // The position of a coded bit of P1 or PIDS, and its row and column of PM.
 #[derive(Clone, Copy)]
-pub enum Located {
-    At {
-        position: Position,
-        row: usize,
-        column: usize,
-    },
-    Refused {
-        answer: Answer,
-    },
+pub struct Located {
+    pub position: Position,
+    pub row: usize,
+    pub column: usize,
 }
 
 // A position with its row and column of the matrix.
@@ -26,7 +21,7 @@ fn standing(position: Position) -> Located
 {
     let row = 32 * position.block + position.row;
     let column = 36 * position.partition + position.column;
-    Located::At {
+    Located {
         position,
         row,
         column,
@@ -34,41 +29,33 @@ fn standing(position: Position) -> Located
 }
 
 // A coded bit of P1, whose one transfer frame is frame 0.
-fn locate_p1(frame: usize, bit: usize) -> Located
+fn locate_p1(frame: usize, bit: usize) -> Result<Located, Answer>
     ensures { result ≡ in_p1 frame bit }
 {
     if frame >= 1 {
-        return Located::Refused {
-            answer: Answer::WrongLength(1),
-        };
+        return Err(Answer::WrongLength(1));
     }
     if bit >= 365440 {
-        return Located::Refused {
-            answer: Answer::WrongLength(2),
-        };
+        return Err(Answer::WrongLength(2));
     }
-    standing(pm::p1_position(bit))
+    Ok(standing(pm::p1_position(bit)))
 }
 
 // A coded bit of one of the sixteen PIDS frames.
-fn locate_pids(frame: usize, bit: usize) -> Located
+fn locate_pids(frame: usize, bit: usize) -> Result<Located, Answer>
     ensures { result ≡ in_pids frame bit }
 {
     if frame >= 16 {
-        return Located::Refused {
-            answer: Answer::WrongLength(1),
-        };
+        return Err(Answer::WrongLength(1));
     }
     if bit >= 200 {
-        return Located::Refused {
-            answer: Answer::WrongLength(2),
-        };
+        return Err(Answer::WrongLength(2));
     }
-    standing(pm::pids_position(frame * 200 + bit))
+    Ok(standing(pm::pids_position(frame * 200 + bit)))
 }
 
 // Tells into which cell of PM a coded bit goes: of P1 (channel 1) or PIDS (channel 2), of this transfer frame of the L1 frame.
-pub fn locate(channel: u8, frame: usize, bit: usize) -> Located
+pub fn locate(channel: u8, frame: usize, bit: usize) -> Result<Located, Answer>
     ensures { (result ≡ located channel frame bit) × (values result ≡ values (located channel frame bit)) }
 {
     if channel == 1 {
@@ -77,7 +64,5 @@ pub fn locate(channel: u8, frame: usize, bit: usize) -> Located
     if channel == 2 {
         return locate_pids(frame, bit);
     }
-    Located::Refused {
-        answer: Answer::WrongLength(0),
-    }
+    Err(Answer::WrongLength(0))
 }

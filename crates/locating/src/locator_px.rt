@@ -10,16 +10,11 @@ use runs::{Answer, Kind, State};
 
 // The cell of a coded bit of P3 or P4: so many L1 frames later than its own, in the matrix of this block pair.
 #[derive(Clone, Copy)]
-pub enum LocatedPx {
-    At {
-        later: usize,
-        pair: usize,
-        row: usize,
-        column: usize,
-    },
-    Refused {
-        answer: Answer,
-    },
+pub struct LocatedPx {
+    pub later: usize,
+    pub pair: usize,
+    pub row: usize,
+    pub column: usize,
 }
 
 // Where the coded bit j of an L1 frame stands in its matrix and the two that follow, laid end to end: n coded bits are an L1 frame's.
@@ -46,7 +41,7 @@ fn standing(kind: Kind, half: usize, frame: usize, bit: usize) -> LocatedPx
     let x = later(modes::table_row(kind), n, half, frame * coded + bit);
     let cell = x % n;
     let y = cell / c;
-    LocatedPx::At {
+    LocatedPx {
         later: x / n,
         pair: y / 64,
         row: y % 64,
@@ -55,31 +50,23 @@ fn standing(kind: Kind, half: usize, frame: usize, bit: usize) -> LocatedPx
 }
 
 // Tells in which matrix of PX1 (channel 3) or PX2 (channel 4) a coded bit of P3 or P4 is sent, and in which cell of it: of this transfer frame of the L1 frame that comes next.
-pub fn locate_px(state: State, channel: u8, frame: usize, bit: usize) -> LocatedPx
+pub fn locate_px(state: State, channel: u8, frame: usize, bit: usize) -> Result<LocatedPx, Answer>
     ensures { (result ≡ located_px state channel frame bit) × (values result ≡ values (located_px state channel frame bit)) }
 {
     if !calls::is_valid(state) {
-        return LocatedPx::Refused {
-            answer: Answer::StateNotValid,
-        };
+        return Err(Answer::StateNotValid);
     }
     let kind = queries::kind_of_number(state.mode, channel);
     let c = queries::columns(kind);
     if c == 0 {
-        return LocatedPx::Refused {
-            answer: Answer::WrongLength(0),
-        };
+        return Err(Answer::WrongLength(0));
     }
     if frame >= 8 {
-        return LocatedPx::Refused {
-            answer: Answer::WrongLength(1),
-        };
+        return Err(Answer::WrongLength(1));
     }
     if bit >= 64 * c {
-        return LocatedPx::Refused {
-            answer: Answer::WrongLength(2),
-        };
+        return Err(Answer::WrongLength(2));
     }
     let half = state.half as usize;
-    standing(kind, half, frame, bit)
+    Ok(standing(kind, half, frame, bit))
 }

@@ -1,7 +1,7 @@
 // Section 12: the output vector of a symbol.
 ghost use Rattle.std.specs.Prelude.{◌≡◌, true, ◌+◌, ◌*◌, ◌<◌, length, set};
 ghost use Rattle.bits.specs.Bits.{bit_at};
-ghost use Rattle.calls.specs.Called.{signal};
+ghost use Rattle.calls.specs.Called.{signal, signal_behind};
 ghost use Rattle.modes.specs.Sizes.{sizes};
 ghost use Rattle.runs.specs.Causes.{wrong};
 ghost use Rattle.runs.specs.Lengths.{kind_of};
@@ -11,11 +11,26 @@ ghost use Rattle.mapping.specs.Readable.{Fillable, Readable, wanted, within};
 ghost use Rattle.subcarriers.specs.Slots.{mode_at};
 ghost use Rattle.mapping.specs.Vector.{admitted, filled, imaginary_parts, point_at, point_for, real_parts, scale_at, vector, width};
 
+use calls::Signal;
 use causes::number;
 use modes::{first_wrong, kind_of, matrix_len};
 use points::{Point, constellation, is_usable};
 use runs::{Answer, Extended, Kind};
 use subcarriers::{Source, is_mapped, mode_number, source_of};
+
+// The cells of a row of PX1 and of PX2.
+#[derive(Clone, Copy)]
+struct Widths {
+    px1: usize,
+    px2: usize,
+}
+
+// The scales of the two sidebands.
+#[derive(Clone, Copy)]
+struct Scales {
+    lower: f32,
+    upper: f32,
+}
 
 // The point of two adjacent cells.
 fn pair(cells: &[u8], n: usize, scale: f32) -> Point
@@ -35,37 +50,27 @@ fn single(cells: &[u8], n: usize, scale: f32) -> Point
 }
 
 // The point of what an element carries.
-fn carried(
-    source: Source,
-    scale: f32,
-    symbol: usize,
-    width1: usize,
-    width2: usize,
-    pm: &[u8],
-    px1: &[u8],
-    px2: &[u8],
-    control: &[u8],
-) -> Point
-    requires { Readable symbol width1 width2 (signal pm.now px1.now px2.now control.now) × (within width1 width2 source ≡ true) }
-    ensures { result ≡ point_for symbol width1 width2 (signal pm.now px1.now px2.now control.now) source scale }
+fn carried(source: Source, scale: f32, symbol: usize, widths: Widths, signal: &Signal) -> Point
+    requires { Readable symbol widths.px1 widths.px2 (signal_behind signal.now) × (within widths.px1 widths.px2 source ≡ true) }
+    ensures { result ≡ point_for symbol widths.px1 widths.px2 (signal_behind signal.now) source scale }
 {
     match source {
         Source::Unused => Point { re: 0.0, im: 0.0 },
-        Source::Pm(c) => pair(pm, symbol * 720 + c, scale),
-        Source::Px1(c) => pair(px1, symbol * width1 + c, scale),
-        Source::Px2(c) => pair(px2, symbol * width2 + c, scale),
-        Source::Control(c) => single(control, symbol * 64 + c, scale),
+        Source::Pm(c) => pair(signal.pm, symbol * 720 + c, scale),
+        Source::Px1(c) => pair(signal.px1, symbol * widths.px1 + c, scale),
+        Source::Px2(c) => pair(signal.px2, symbol * widths.px2 + c, scale),
+        Source::Control(c) => single(signal.control, symbol * 64 + c, scale),
     }
 }
 
 // The scale of element k's sideband.
-fn scale_at(lower: f32, upper: f32, k: usize) -> f32
-    ensures { result ≡ scale_at lower upper k }
+fn scale_at(scales: Scales, k: usize) -> f32
+    ensures { result ≡ scale_at scales.lower scales.upper k }
 {
     if k < 546 {
-        return lower;
+        return scales.lower;
     }
-    upper
+    scales.upper
 }
 
 // Element k of the vector, in the mode of that number.
@@ -73,22 +78,17 @@ fn element(
     n: usize,
     k: usize,
     symbol: usize,
-    width1: usize,
-    width2: usize,
-    lower: f32,
-    upper: f32,
-    pm: &[u8],
-    px1: &[u8],
-    px2: &[u8],
-    control: &[u8],
+    widths: Widths,
+    scales: Scales,
+    signal: &Signal,
 ) -> Point
-    requires { (n < 4) × (k < 1093) × (width1 ≡ width (kind_of (mode_at n) P3)) × (width2 ≡ width (kind_of (mode_at n) P4))
-        × Readable symbol width1 width2 (signal pm.now px1.now px2.now control.now) }
-    ensures { result ≡ point_at (mode_at n) symbol lower upper (signal pm.now px1.now px2.now control.now) k }
+    requires { (n < 4) × (k < 1093) × (widths.px1 ≡ width (kind_of (mode_at n) P3)) × (widths.px2 ≡ width (kind_of (mode_at n) P4))
+        × Readable symbol widths.px1 widths.px2 (signal_behind signal.now) }
+    ensures { result ≡ point_at (mode_at n) symbol scales.lower scales.upper (signal_behind signal.now) k }
 {
     let s = source_of(n, k);
-    let scale = scale_at(lower, upper, k);
-    carried(s, scale, symbol, width1, width2, pm, px1, px2, control)
+    let scale = scale_at(scales, k);
+    carried(s, scale, symbol, widths, signal)
 }
 
 // The cells of a row.
@@ -115,36 +115,29 @@ fn store(point: Point, k: usize, re: &mut [f32], im: &mut [f32])
 fn fill_points(
     mode: u8,
     symbol: usize,
-    lower: f32,
-    upper: f32,
-    pm: &[u8],
-    px1: &[u8],
-    px2: &[u8],
-    control: &[u8],
+    scales: Scales,
+    signal: &Signal,
     re: &mut [f32],
     im: &mut [f32],
 )
-    requires { Fillable mode symbol (signal pm.now px1.now px2.now control.now) re.old im.old }
-    ensures { (re.new ≡ real_parts mode symbol lower upper (signal pm.now px1.now px2.now control.now))
-        × (im.new ≡ imaginary_parts mode symbol lower upper (signal pm.now px1.now px2.now control.now)) }
+    requires { Fillable mode symbol (signal_behind signal.now) re.old im.old }
+    ensures { (re.new ≡ real_parts mode symbol scales.lower scales.upper (signal_behind signal.now))
+        × (im.new ≡ imaginary_parts mode symbol scales.lower scales.upper (signal_behind signal.now)) }
 {
     let n = mode_number(mode);
-    let width1 = width_of(kind_of(mode, Extended::P3));
-    let width2 = width_of(kind_of(mode, Extended::P4));
-    let mut k: usize = 0;
-    while k < 1093 {
-        let p = element(
-            n, k, symbol, width1, width2, lower, upper, pm, px1, px2, control,
-        );
+    let px1 = width_of(kind_of(mode, Extended::P3));
+    let px2 = width_of(kind_of(mode, Extended::P4));
+    let widths = Widths { px1, px2 };
+    for k in 0..1093 {
+        let p = element(n, k, symbol, widths, scales, signal);
         store(p, k, re, im);
-        k += 1;
     }
 }
 
 // The answer from the mode, the lengths lent beside those wanted, the symbol and the scales.
-fn admit(mode: u8, symbol: usize, lower: f32, upper: f32, have: &[usize], want: &[usize]) -> Answer
+fn admit(mode: u8, symbol: usize, scales: Scales, have: &[usize], want: &[usize]) -> Answer
     requires { length have.now ≡ length want.now }
-    ensures { result ≡ admitted mode symbol lower upper (wrong 0 (sizes have.now want.now)) }
+    ensures { result ≡ admitted mode symbol scales.lower scales.upper (wrong 0 (sizes have.now want.now)) }
 {
     if !is_mapped(mode) {
         return Answer::ModeNotCovered;
@@ -156,10 +149,10 @@ fn admit(mode: u8, symbol: usize, lower: f32, upper: f32, have: &[usize], want: 
     if symbol >= 512 {
         return Answer::SymbolTooHigh;
     }
-    if !is_usable(lower) {
+    if !is_usable(scales.lower) {
         return Answer::ScaleNotUsable(0);
     }
-    if !is_usable(upper) {
+    if !is_usable(scales.upper) {
         return Answer::ScaleNotUsable(1);
     }
     Answer::Success
@@ -200,10 +193,17 @@ pub fn fill_vector(
         im.len(),
     ];
     let want = lengths(mode);
-    let answer = admit(mode, symbol, lower, upper, &have, &want);
+    let scales = Scales { lower, upper };
+    let answer = admit(mode, symbol, scales, &have, &want);
     if number(answer) != 0 {
         return answer;
     }
-    fill_points(mode, symbol, lower, upper, pm, px1, px2, control, re, im);
+    let signal = Signal {
+        pm,
+        px1,
+        px2,
+        control,
+    };
+    fill_points(mode, symbol, scales, &signal, re, im);
     answer
 }

@@ -209,12 +209,10 @@ pub fn first_wrong(have: &[usize], want: &[usize]) -> usize
     requires { length have.now ≡ length want.now }
     ensures { placed (length have.now) result ≡ wrong 0 (sizes have.now want.now) }
 {
-    let mut i: usize = 0;
-    while i < have.len() {
+    for i in 0..have.len() {
         if have[i] != want[i] {
             return i;
         }
-        i += 1;
     }
-    i
+    have.len()
 }

@@ -1,17 +1,14 @@
 // nearest BUDGET: reads lines of 200 cells, and prints for each the nearest PIDS frame in hexadecimal, its distance and its margin (document 02, S-12).
 #![tactic(auto)]
 
-use operands::Operand;
 use programs::Streams;
 
 // Reads a line and writes what is printed for it. Answers whether to go on.
 fn turn(rt: &impl Streams, budget: usize, number: u64) -> bool {
     let mut text = [0u8; 201];
-    let line = standard_input::read_line(rt, &mut text);
-    if !line.came {
+    let Some(n) = standard_input::read_line(rt, &mut text) else {
         return false;
-    }
-    let n = line.length;
+    };
     let mut out = [0u8; 92];
     let end = celltext::print_nearest(budget, number, &text[..n], &mut out);
     programs::write_out(rt, &out[..end])
@@ -19,12 +16,10 @@ fn turn(rt: &impl Streams, budget: usize, number: u64) -> bool {
 
 // Goes through the lines, numbered from 1. A proved loop has to end, so it counts to a number that no run reaches.
 fn answer_all(rt: &impl Streams, budget: usize) {
-    let mut number: u64 = 1;
-    while number < 281474976710656 {
+    for number in 1..281474976710656 {
         if !turn(rt, budget, number) {
             return;
         }
-        number += 1;
     }
 }
 
@@ -51,7 +46,7 @@ fn main(rt: HostRuntime) {
         return;
     }
     match argument_words::number(&words[..n]) {
-        Operand::Number(budget) => run(&rt, budget as usize),
-        Operand::NotDecimal => programs::usage(&rt, line),
+        Some(budget) => run(&rt, budget as usize),
+        None => programs::usage(&rt, line),
     }
 }

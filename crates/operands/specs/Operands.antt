@@ -1,7 +1,5 @@
 -- An argument of a program: decimal digits, at least one. A number above the limit stands as the limit, 2^32: 200 years have fewer L1 frames.
-use Rattle.std.specs.Prelude.{ℕ, ◌+◌, ◌-◌, ◌*◌, min, Bool, cond, not, ◌&&◌, List, [], ◌∷◌, ltb}
-use Rattle.operands.specs.declared.Operand.{Operand}
-use Rattle.operands.specs.declared.Operand.TheVariants.{Number, NotDecimal}
+use Rattle.std.specs.Prelude.{ℕ, ◌+◌, ◌-◌, ◌*◌, min, Bool, cond, not, ◌&&◌, List, [], ◌∷◌, ltb, Option, Some, None}
 
 abbrev pub limit : ℕ
 limit = 4294967296
@@ -11,10 +9,10 @@ unfoldable pub is_digit : ℕ → Bool
 is_digit byte = not (ltb byte 48) && ltb byte 58
 
 -- the digits that follow a number
-unfoldable pub after : ℕ → List ℕ → Operand
-after n [] = Number n
-after n (byte ∷ text) = cond (is_digit byte) (after (min limit (10 * n + (byte - 48))) text) NotDecimal
+unfoldable pub after : ℕ → List ℕ → Option ℕ
+after n [] = Some n
+after n (byte ∷ text) = cond (is_digit byte) (after (min limit (10 * n + (byte - 48))) text) None
 
-unfoldable pub operand_of : List ℕ → Operand
-operand_of [] = NotDecimal
+unfoldable pub operand_of : List ℕ → Option ℕ
+operand_of [] = None
 operand_of (byte ∷ text) = after 0 (byte ∷ text)

@@ -4,19 +4,14 @@
 ghost use Rattle.std.specs.Prelude.{◌≡◌, ◌+◌, ◌-◌, ◌*◌, ◌≤◌, min};
 ghost use Rattle.operands.specs.Operands.{is_digit, limit, operand_of};
 
-#[derive(Clone, Copy)]
-pub enum Operand {
-    Number(u64),
-    NotDecimal,
-}
+// The greatest number that is told apart.
+const LIMIT: u64 = 4_294_967_296;
 
+#[tactic(auto, unfolding(crate::specs::Operands::is_digit))]
 fn is_digit(byte: u8) -> bool
     ensures { result ≡ is_digit byte }
 {
-    if byte < 48 {
-        return false;
-    }
-    byte < 58
+    matches!(byte, b'0'..=b'9')
 }
 
 // The number with one more digit, the limit at most.
@@ -24,29 +19,22 @@ fn push(n: u64, byte: u8) -> u64
     requires { (n ≤ limit) × (48 ≤ byte) }
     ensures { result ≡ min limit (10 * n + (byte - 48)) }
 {
-    let next = 10 * n + (byte - 48) as u64;
-    if next < 4_294_967_296 {
-        return next;
-    }
-    4_294_967_296
+    LIMIT.min(10 * n + u64::from(byte - b'0'))
 }
 
-// An argument as a number.
-pub fn decimal(text: &[u8]) -> Operand
+// An argument as a number, if it is decimal.
+pub fn decimal(text: &[u8]) -> Option<u64>
     ensures { result ≡ operand_of text.now }
 {
-    if text.len() == 0 {
-        return Operand::NotDecimal;
+    if text.is_empty() {
+        return None;
     }
     let mut n: u64 = 0;
-    let mut i: usize = 0;
-    while i < text.len() {
-        let byte = text[i];
-        if !is_digit(byte) {
-            return Operand::NotDecimal;
+    for byte in text {
+        if !is_digit(*byte) {
+            return None;
         }
-        n = push(n, byte);
-        i += 1;
+        n = push(n, *byte);
     }
-    Operand::Number(n)
+    Some(n)
 }

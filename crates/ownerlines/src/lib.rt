@@ -109,10 +109,8 @@ pub fn answer(mode: u8, p: Progress, block: &[u8], line: &mut [u8], out: &mut [u
         number: p.number,
         end: 0,
     };
-    let mut i: usize = 0;
-    while i < block.len() {
-        q = take_byte(&table, mode, q, block[i], line, out);
-        i += 1;
+    for b in block {
+        q = take_byte(&table, mode, q, *b, line, out);
     }
     q
 }

@@ -3,7 +3,6 @@
 
 ghost use Rattle.std.specs.Prelude.{◌≡◌, ◌+◌, ◌^◌, ◌≤◌, ◌<◌, length};
 
-use operands::Operand;
 use ownerlines::Progress;
 use programs::Streams;
 
@@ -55,7 +54,10 @@ fn answer_block(
     }
 }
 
-// Answers the input from block to block. A proved loop has to end, so it counts its turns down, from a number that no run uses up.
+// As many blocks as no run uses up: a proved loop has to end.
+const BLOCKS: u64 = 281474976710656;
+
+// Answers the input from block to block.
 fn answer_all(
     rt: &(impl Streams + AllocGlobal),
     mode: u8,
@@ -67,16 +69,12 @@ fn answer_all(
     ensures { (result.held ≤ 4096) × (length line.new ≡ 4096) × (length out.new ≡ 819200) }
 {
     let mut at = at;
-    let mut turns: u64 = 281474976710656;
-    let mut more = true;
-    while more {
-        if turns == 0 {
+    for block in 0..BLOCKS {
+        let turn = answer_block(rt, mode, at, line, out);
+        at = turn.at;
+        if !turn.more {
             return at;
         }
-        turns -= 1;
-        let t = answer_block(rt, mode, at, line, out);
-        at = t.at;
-        more = t.more;
     }
     at
 }
@@ -110,7 +108,7 @@ fn main(rt: HostRuntime) {
         return;
     }
     match argument_words::number(&words[..n]) {
-        Operand::Number(mode) => run_in(&rt, mode, line),
-        Operand::NotDecimal => programs::usage(&rt, line),
+        Some(mode) => run_in(&rt, mode, line),
+        None => programs::usage(&rt, line),
     }
 }

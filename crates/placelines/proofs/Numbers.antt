@@ -2,18 +2,16 @@
 use mathlib.Core.Path.{◌≡◌, refl, sym, ap, ◌∙◌}
 use mathlib.Core.Bool.{Bool, true, false, cond, ◌&&◌, true≢false}
 use mathlib.Core.List.{List}
-use Prim.Native.Nat.{ℕ, zero, suc, ◌+◌, ◌-◌, ◌<◌, ◌≤◌, min}
+use Prim.Native.Nat.{ℕ, zero, suc, ◌+◌, ◌-◌, ◌<◌, ◌≤◌}
 use native.Mathlib.Decide.{ℕ_discrete}
 use native.Mathlib.Numerals.{add-one}
 use native.Mathlib.Omega.{arith}
-use borrow.Author.Tests.{lt-ltb, le-ltb, ltb-true}
-use lib.Dec.{ltb}
+use borrow.Author.Tests.{lt-ltb, le-ltb}
 use lib.ListN.{length, take, drop, drop_of_length-le, length-drop}
 use lib.Seq.{drop-drop, take_all}
+use Rattle.std.specs.Prelude.{Option, Some, None, is_some, unwrap_or}
 use Rattle.text.specs.Lines.{after, before, space}
 use Rattle.text.proofs.Ends.{after-dropped}
-use Rattle.operands.specs.declared.Operand.{Operand}
-use Rattle.operands.specs.declared.Operand.TheVariants.{Number, NotDecimal}
 use Rattle.operands.specs.Operands.{operand_of}
 use Rattle.placelines.specs.Read.{after_spaces, is_read, number_at, value_of, word_at}
 
@@ -44,20 +42,16 @@ spaces-more line at next k e h = e ∙ ap (after space) h ∙ rw (add-one k)
 
 -- ---- a line that is read
 
-and_both : (a b : Bool) → (a && b) ≡ true → (a ≡ true) × (b ≡ true)
-and_both true b h = (refl, h)
-and_both false b h = absurd (true≢false (sym h))
-
 pub read_none : (line : List ℕ) → is_read 0 line ≡ true
 unfolding is_read
 read_none line = refl
 
-pub read_more : (line : List ℕ) (k : ℕ) → is_read k line ≡ true → number_at k line < 256 → is_read (k + 1) line ≡ true
+pub read_more : (line : List ℕ) (k : ℕ) → is_read k line ≡ true → is_some (number_at k line) ≡ true → is_read (k + 1) line ≡ true
 unfolding is_read
-read_more line k h l = rw (add-one k, h, lt-ltb (number_at k line) 256 l)
+read_more line k h l = rw (add-one k, h, l)
 
 -- one word that is no number refuses the line
-pub not-read : (line : List ℕ) (k n : ℕ) → k < n → 256 ≤ number_at k line → is_read n line ≡ false
+pub not-read : (line : List ℕ) (k n : ℕ) → k < n → is_some (number_at k line) ≡ false → is_read n line ≡ false
 unfolding is_read
 not-read line k zero l h = absurd (omega arith)
 not-read line k (suc n) l h = go (ℕ_discrete k n) (λ m. not-read line k n m h)
@@ -66,30 +60,30 @@ not-read line k (suc n) l h = go (ℕ_discrete k n) (λ m. not-read line k n m h
     and-false true = refl
     and-false false = refl
 
-    go : Dec (k ≡ n) → (k < n → is_read n line ≡ false) → (is_read n line && ltb (number_at n line) 256) ≡ false
-    go (yes e) before = ap (λ (t : Bool). is_read n line && t) (le-ltb (number_at n line) 256 (rw (sym e) h)) ∙ and-false (is_read n line)
-    go (no m) before = ap (λ (t : Bool). t && ltb (number_at n line) 256) (before (omega arith))
+    go : Dec (k ≡ n) → (k < n → is_read n line ≡ false) → (is_read n line && is_some (number_at n line)) ≡ false
+    go (yes e) before = ap (λ (t : Bool). is_read n line && t) (ap (λ (m : ℕ). is_some (number_at m line)) (sym e) ∙ h) ∙ and-false (is_read n line)
+    go (no m) before = ap (λ (t : Bool). t && is_some (number_at n line)) (before (omega arith))
 
-pub read_at : (line : List ℕ) (n : ℕ) → is_read n line ≡ true → (k : ℕ) → k < n → number_at k line < 256
+read_at : (line : List ℕ) (n : ℕ) → is_read n line ≡ true → (k : ℕ) → k < n → is_some (number_at k line) ≡ true
 unfolding is_read
 read_at line zero h k l = absurd (omega arith)
 read_at line (suc n) h k l = go (ℕ_discrete k n) (λ m. read_at line n (and_both (is_read n line) _ h).0 k m)
   where
-    go : Dec (k ≡ n) → (k < n → number_at k line < 256) → number_at k line < 256
-    go (yes e) before = rw e (ltb-true (number_at n line) 256 (and_both (is_read n line) _ h).1)
+    and_both : (a b : Bool) → (a && b) ≡ true → (a ≡ true) × (b ≡ true)
+    and_both true b h = (refl, h)
+    and_both false b h = absurd (true≢false (sym h))
+
+    go : Dec (k ≡ n) → (k < n → is_some (number_at k line) ≡ true) → is_some (number_at k line) ≡ true
+    go (yes e) before = ap (λ (m : ℕ). is_some (number_at m line)) e ∙ (and_both (is_read n line) _ h).1
     go (no m) before = before (omega arith)
 
--- ---- the number of a word
-
-module _ (word : List ℕ) (read : Operand) (e : read ≡ operand_of word) where
-  pub value-small : (n : ℕ) → read ≡ Number n → n < 256 → n ≡ value_of (operand_of word)
-  value-small n k h = let m : n ≡ min n 256 = omega arith in m ∙ sym (ap value_of (sym e ∙ k))
-
-  pub value-great : (n : ℕ) → read ≡ Number n → 256 ≤ n → 256 ≡ value_of (operand_of word)
-  value-great n k h = let m : 256 ≡ min n 256 = omega arith in m ∙ sym (ap value_of (sym e ∙ k))
-
-  pub value_none : read ≡ NotDecimal → 256 ≡ value_of (operand_of word)
-  value_none k = sym (ap value_of (sym e ∙ k))
+-- of a line that is read it does not matter what stands for no number
+pub read_value : (line : List ℕ) → is_read 16 line ≡ true → (k : ℕ) → k < 16 → unwrap_or (number_at k line) 0 ≡ unwrap_or (number_at k line) 256
+read_value line h k l = go (number_at k line) (read_at line 16 h k l)
+  where
+    go : (o : Option ℕ) → is_some o ≡ true → unwrap_or o 0 ≡ unwrap_or o 256
+    go (Some n) e = refl
+    go None e = absurd (true≢false (sym e))
 
 -- ---- number k of a line, by the text after k spaces
 

@@ -4,7 +4,7 @@ ghost use Rattle.operands.specs.Operands.{operand_of};
 ghost use Rattle.text.specs.Lines.{after, space};
 ghost use Rattle.placelines.specs.Read.{after_spaces, eight_at, is_read, number_at, value_of};
 
-use operands::Operand;
+use operands::decimal;
 
 // Where the text after the next space begins: at the line's end, where there is none.
 fn past_space(line: &[u8], at: usize) -> usize
@@ -23,31 +23,25 @@ fn past_spaces(line: &[u8], k: usize) -> usize
     ensures { (result ≤ length line.now) × (drop result line.now ≡ after_spaces k line.now) }
 {
     let mut at: usize = 0;
-    let mut i: usize = 0;
-    while i < k {
+    for i in 0..k {
         at = past_space(line, at);
-        i += 1;
     }
     at
 }
 
-// The number of a word, 256 where it is greater or no number.
-fn value(word: &[u8]) -> usize
+// The number of a word, if it is one that a byte holds.
+fn value(word: &[u8]) -> Option<u8>
     ensures { result ≡ value_of (operand_of word.now) }
 {
-    match operands::decimal(word) {
-        Operand::Number(n) => {
-            if n < 256 {
-                return n as usize;
-            }
-            256
-        }
-        Operand::NotDecimal => 256,
+    let n = decimal(word)?;
+    if n < 256 {
+        return Some(n as u8);
     }
+    None
 }
 
 // Number k of a line.
-fn number_at(line: &[u8], k: usize) -> usize
+fn number_at(line: &[u8], k: usize) -> Option<u8>
     ensures { result ≡ number_at k line.now }
 {
     let at = past_spaces(line, k);
@@ -61,12 +55,10 @@ fn number_at(line: &[u8], k: usize) -> usize
 pub fn is_read(line: &[u8]) -> bool
     ensures { result ≡ is_read 16 line.now }
 {
-    let mut k: usize = 0;
-    while k < 16 {
-        if number_at(line, k) >= 256 {
+    for k in 0..16 {
+        if number_at(line, k).is_none() {
             return false;
         }
-        k += 1;
     }
     true
 }
@@ -77,10 +69,8 @@ pub fn eight_at(line: &[u8], k: usize) -> [u8; 8]
     ensures { result ≡ eight_at k line.now }
 {
     let mut numbers = [0u8; 8];
-    let mut d: usize = 0;
-    while d < 8 {
-        numbers[d] = number_at(line, k + d) as u8;
-        d += 1;
+    for d in 0..8 {
+        numbers[d] = number_at(line, k + d).unwrap_or(0);
     }
     numbers
 }

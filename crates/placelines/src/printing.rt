@@ -32,10 +32,8 @@ fn put_places(out: &mut [u8], at: usize, places: &[u8]) -> usize
     ensures { Put out.old out.new at result 64 (spelled_places 16 places.now) }
 {
     let mut end = at;
-    let mut k: usize = 0;
-    while k < 16 {
+    for k in 0..16 {
         end = put_byte(out, end, places[k], separator(k));
-        k += 1;
     }
     end
 }

@@ -156,10 +156,8 @@ fn first_cells() -> [u32; 320]
     ensures { FirstCells result }
 {
     let mut cells = [0u32; 320];
-    let mut t = 0;
-    while t < 320 {
+    for t in 0..320 {
         cells[t] = p1_cell(t) as u32;
-        t += 1;
     }
     cells
 }
@@ -177,12 +175,10 @@ fn scatter_pids_k(coded: &[u8], order: &[usize; 20], m: usize, start: usize, pm:
     requires { (length coded.now ≡ 400) × (length pm.old ≡ 46080) × (m < 160) × (start ≡ pids_start m) × (order.now ≡ v) }
     ensures { (f : ℕ → ℕ) → bit_at pm.old ≡ written pids_place (bit_at coded.now) (20 * m) f → bit_at pm.new ≡ written pids_place (bit_at coded.now) (20 * m + 20) f }
 {
-    let mut s = 0;
-    while s < 20 {
+    for s in 0..20 {
         let b = bits::get(coded, 20 * m + s);
         let p = partition_at(order, s);
         bits::put(pm, start + 36 * p, b);
-        s += 1;
     }
 }
 
@@ -192,11 +188,9 @@ fn scatter_pids(coded: &[u8], pm: &mut [u8])
     ensures { pm.new ≡ packed 46080 (written pids_place (bit_at coded.now) 3200 (bit_at pm.old)) }
 {
     let order = order();
-    let mut m = 0;
-    while m < 160 {
+    for m in 0..160 {
         let start = pids_start(m);
         scatter_pids_k(coded, &order, m, start, pm);
-        m += 1;
     }
 }
 
@@ -210,16 +204,15 @@ pub fn interleave(p1: &[u8], pids: &[u8], pm: &mut [u8])
 }
 
 // Reads the 20 bits from 20 m on of the coded PIDS bits, those of one block and one k; start is the cell of the first partition.
+// The loop of `scatter_pids_k` the other way: one for both would take the places by closures, and read no plainer.
 fn gather_pids_k(pm: &[u8], order: &[usize; 20], m: usize, start: usize, coded: &mut [u8])
     requires { (length pm.now ≡ 46080) × (length coded.old ≡ 400) × (m < 160) × (start ≡ pids_start m) × (order.now ≡ v) }
     ensures { (f : ℕ → ℕ) → bit_at coded.old ≡ written (λ i. i) (λ i. bit_at pm.now (pids_place i)) (20 * m) f → bit_at coded.new ≡ written (λ i. i) (λ i. bit_at pm.now (pids_place i)) (20 * m + 20) f }
 {
-    let mut s = 0;
-    while s < 20 {
+    for s in 0..20 {
         let p = partition_at(order, s);
         let b = bits::get(pm, start + 36 * p);
         bits::put(coded, 20 * m + s, b);
-        s += 1;
     }
 }
 
@@ -229,10 +222,8 @@ pub fn gather_pids(pm: &[u8], coded: &mut [u8])
     ensures { coded.new ≡ packed 400 (λ i. bit_at pm.now (pids_place i)) }
 {
     let order = order();
-    let mut m = 0;
-    while m < 160 {
+    for m in 0..160 {
         let start = pids_start(m);
         gather_pids_k(pm, &order, m, start, coded);
-        m += 1;
     }
 }

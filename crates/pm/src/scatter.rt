@@ -23,17 +23,15 @@ fn start_of(table: &[u16; 1152], r: usize, c: usize) -> usize
 
 // The nibbles of the row r of every block: of the 36 columns four at a time, of the 320 bits of their k in order.
 fn row_nibbles(spreads: &[u64; 256], table: &[u16; 1152], coded: &[u8], r: usize, out: &mut [u8])
-    requires { (length coded.now ≡ 45680) × Spreads spreads.now × (table.now ≡ ks) × (r < 32) × (length out.old ≡ 2880) }
+    requires { (length coded.now ≡ 45680) × Spreads 256 spreads.now × (table.now ≡ ks) × (r < 32) × (length out.old ≡ 2880) }
     ensures { Begins (nibble_for (bit_at coded.now) r) 2880 out.new }
 {
-    let mut x: usize = 0;
-    while x < 9 {
+    for x in 0..9 {
         let a = start_of(table, r, 4 * x);
         let b = start_of(table, r, 4 * x + 1);
         let c = start_of(table, r, 4 * x + 2);
         let d = start_of(table, r, 4 * x + 3);
         transposing::four_columns(40, spreads, coded, a, b, c, d, 320 * x, out);
-        x += 1;
     }
 }
 
@@ -42,18 +40,10 @@ fn shown_bits() -> [u16; 320]
     ensures { Shown result }
 {
     let mut found = [0u16; 320];
-    let mut i: usize = 0;
-    while i < 320 {
+    for i in 0..320 {
         found[i] = shown(i / 20, i % 20) as u16;
-        i += 1;
     }
     found
-}
-
-fn wide(x: u16) -> usize
-    ensures { result ≡ x }
-{
-    x as usize
 }
 
 // The place of the nibble z of two partitions side by side, which show the bits t and u of a k.
@@ -67,25 +57,15 @@ fn seat(t: usize, u: usize, z: usize) -> usize
     320 * (z - 9) + u
 }
 
-// Two nibbles as a byte.
-fn joined(high: u8, low: u8) -> u8
-    requires { (high < 16) × (low < 16) }
-    ensures { result ≡ 16 * high + low }
-{
-    16 * high + low
-}
-
 // Writes a row of two partitions side by side, which show the bits t and u of a k: nine bytes from place n on.
 fn write_pair(nibbles: &[u8; 2880], t: usize, u: usize, n: usize, pm: &mut [u8])
     requires { (t < 320) × (u < 320) × (n + 9 ≤ length pm.old) × ((q : ℕ) → get_or nibbles.now q 0 < 16) }
     ensures { (g : ℕ → ℕ) → ((y : ℕ) → y < 9 → g (n + y) ≡ 16 * get_or nibbles.now (seat_of t u (2 * y)) 0 + get_or nibbles.now (seat_of t u (2 * y + 1)) 0) → Changed n (n + 9) g pm.old pm.new }
 {
-    let mut y: usize = 0;
-    while y < 9 {
+    for y in 0..9 {
         let a = seat(t, u, 2 * y);
         let b = seat(t, u, 2 * y + 1);
-        pm[n + y] = joined(nibbles[a], nibbles[b]);
-        y += 1;
+        pm[n + y] = 16 * nibbles[a] + nibbles[b];
     }
 }
 
@@ -94,16 +74,14 @@ fn write_row(nibbles: &[u8; 2880], shown: &[u16; 320], r: usize, pm: &mut [u8])
     requires { (length pm.old ≡ 46080) × Shown shown.now × (r < 32) × ((q : ℕ) → get_or nibbles.now q 0 < 16) }
     ensures { (f : ℕ → ℕ) → Begins (nibble_for f r) 2880 nibbles.now → RowsDone f r pm.old → RowsDone f (r + 1) pm.new }
 {
-    let mut i: usize = 0;
-    while i < 160 {
+    for i in 0..160 {
         write_pair(
             nibbles,
-            wide(shown[2 * i]),
-            wide(shown[2 * i + 1]),
+            usize::from(shown[2 * i]),
+            usize::from(shown[2 * i + 1]),
             i / 10 * 2880 + 90 * r + i % 10 * 9,
             pm,
         );
-        i += 1;
     }
 }
 
@@ -116,10 +94,8 @@ pub fn scatter_p1(coded: &[u8], pm: &mut [u8])
     let table = index_table();
     let shown = shown_bits();
     let mut nibbles = [0u8; 2880];
-    let mut r: usize = 0;
-    while r < 32 {
+    for r in 0..32 {
         row_nibbles(&spreads, &table, coded, r, &mut nibbles);
         write_row(&nibbles, &shown, r, pm);
-        r += 1;
     }
 }

@@ -74,17 +74,10 @@ pub fn index_table() -> [u16; 1152]
     KS
 }
 
-// An entry as a number to count with.
-fn wide(x: u16) -> usize
-    ensures { result ≡ x }
-{
-    x as usize
-}
-
 // The k of the row r and the column c.
 pub fn k_at(table: &[u16; 1152], r: usize, c: usize) -> usize
     requires { (table.now ≡ ks) × (r < 32) × (c < 36) }
     ensures { (result ≡ k_for r c) × (result < 1152) }
 {
-    wide(table[36 * r + c])
+    usize::from(table[36 * r + c])
 }

@@ -6,14 +6,12 @@ use runs::State;
 
 // Whether row 31, the last eight bytes, of each control block is zero.
 fn is_row_31_zero(control: &[u8]) -> bool {
-    let mut i: usize = 0;
-    while i < control.len() {
+    for i in 0..control.len() {
         if i % 256 >= 248 {
             if control[i] != 0 {
                 return false;
             }
         }
-        i += 1;
     }
     true
 }

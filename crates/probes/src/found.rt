@@ -1,7 +1,7 @@
 // The cell finder, rows of a matrix, and the lookup of a control block.
 use crate::lent::turn_over;
 use crate::lines::{count, small, text, told};
-use layer1::{Found, LookedUp};
+use layer1::Found;
 use programs::Streams;
 
 fn find(rt: &impl Streams, row: usize, column: usize) {
@@ -10,17 +10,17 @@ fn find(rt: &impl Streams, row: usize, column: usize) {
     text(rt, b" ");
     count(rt, column);
     match layer1::find(row, column) {
-        Found::P1 { bit } => {
+        Ok(Found::P1 { bit }) => {
             text(rt, b": P1 0 ");
             count(rt, bit);
         }
-        Found::Pids { frame, bit } => {
+        Ok(Found::Pids { frame, bit }) => {
             text(rt, b": PIDS ");
             count(rt, frame);
             text(rt, b" ");
             count(rt, bit);
         }
-        Found::Refused { answer } => told(rt, answer),
+        Err(answer) => told(rt, answer),
     }
     text(rt, b"\n");
 }
@@ -82,19 +82,15 @@ pub fn px_rows(rt: &impl Streams) {
 // What a lookup tells of a block.
 fn look_up(rt: &impl Streams, block: &[u8]) {
     match layer1::lookup(block) {
-        LookedUp::Found {
-            mode,
-            count: number,
-            reserved,
-        } => {
+        Ok(said) => {
             text(rt, b": mode ");
-            small(rt, mode);
+            small(rt, said.mode);
             text(rt, b" count ");
-            small(rt, number);
+            small(rt, said.count);
             text(rt, b" number ");
-            small(rt, reserved);
+            small(rt, said.reserved);
         }
-        LookedUp::Refused { answer } => told(rt, answer),
+        Err(answer) => told(rt, answer),
     }
     text(rt, b"\n");
 }

@@ -3,14 +3,12 @@
 // Appends s to the first `at` bytes, and answers how many there are then.
 fn append(all: &mut [u8; 55298], at: usize, s: &[u8]) -> usize {
     let mut to = at;
-    let mut i: usize = 0;
-    while i < s.len() {
+    for b in s {
         if to >= 55298 {
             return to;
         }
-        all[to] = s[i];
+        all[to] = *b;
         to += 1;
-        i += 1;
     }
     to
 }

@@ -6,7 +6,7 @@ mod command_line;
 mod run_words;
 mod streams;
 
-pub use arguments::{Arguments, Sending};
+pub use arguments::{Run, Sending};
 pub use buffers::{sheet_input, sheet_text, within};
 pub use command_line::{gives_help, is_plain, read_words, usage};
 pub use run_words::{

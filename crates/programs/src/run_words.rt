@@ -1,8 +1,7 @@
 // The arguments of a run's program one by one, the program's own name the first.
 ghost use Rattle.io.specs.Counts.{IsPrefixLen};
 
-use arguments::{Arguments, Sending, arguments_of, sending_of};
-use operands::Operand;
+use arguments::{Run, Sending, arguments_of, sending_of};
 use std::env::{Env, FillError};
 
 // An argument of the program in the buffer, and how many bytes it has: none where there is none, or where it is longer than the buffer.
@@ -23,7 +22,7 @@ fn word_count(rt: &impl Env) -> usize {
 }
 
 // An argument of the program. One longer than the buffer is not taken as a number.
-pub fn operand(rt: &impl Env, i: usize) -> Operand {
+pub fn operand(rt: &impl Env, i: usize) -> Option<u64> {
     let mut text = io::buffer();
     let n = read_word(rt, i, &mut text);
     operands::decimal(&text[..n])
@@ -49,16 +48,16 @@ pub fn words_before(rt: &impl Env, word: &[u8]) -> usize {
 }
 
 // The arguments MODE and COUNT.
-fn mode_and_count(rt: &impl Env) -> Arguments {
+fn mode_and_count(rt: &impl Env) -> Option<Run> {
     let mode = operand(rt, 1);
     let count = operand(rt, 2);
     arguments_of(mode, count)
 }
 
 // The arguments MODE and COUNT of a program that must have been started with this many words.
-pub fn read_arguments(rt: &impl Env, words: usize) -> Arguments {
+pub fn read_arguments(rt: &impl Env, words: usize) -> Option<Run> {
     if word_count(rt) != words {
-        return Arguments::Wrong;
+        return None;
     }
     mode_and_count(rt)
 }
@@ -71,59 +70,51 @@ pub struct Without {
     pub words: usize,
 }
 
-// After MODE and COUNT `without P3`, `without P4`, `without P3 P4`, or nothing. Other words are too many: no program is started with none.
-pub fn read_without(rt: &impl Env) -> Without {
+// After MODE and COUNT `without P3`, `without P4`, `without P3 P4`, or nothing. Other words name none.
+pub fn read_without(rt: &impl Env) -> Option<Without> {
     if !argument_is(rt, 3, b"without") {
-        return Without {
+        return Some(Without {
             p3: false,
             p4: false,
             words: 3,
-        };
-    }
-    if argument_is(rt, 4, b"P3") {
-        if argument_is(rt, 5, b"P4") {
-            return Without {
-                p3: true,
-                p4: true,
-                words: 6,
-            };
-        }
-        return Without {
-            p3: true,
-            p4: false,
-            words: 5,
-        };
+        });
     }
     if argument_is(rt, 4, b"P4") {
-        return Without {
+        return Some(Without {
             p3: false,
             p4: true,
             words: 5,
-        };
+        });
     }
-    Without {
-        p3: false,
-        p4: false,
-        words: 0,
+    if !argument_is(rt, 4, b"P3") {
+        return None;
     }
+    let p4 = argument_is(rt, 5, b"P4");
+    Some(Without {
+        p3: true,
+        p4,
+        words: if p4 { 6 } else { 5 },
+    })
 }
 
 // The arguments MODE and COUNT of a sender's program, and which channels are without data, where these are `words` words.
-pub fn read_sending(rt: &impl Env, words: usize) -> Sending {
-    let without = read_without(rt);
-    if words != without.words {
-        return Sending::Wrong;
+pub fn read_sending(rt: &impl Env, words: usize) -> Option<Sending> {
+    let Without {
+        p3,
+        p4,
+        words: named,
+    } = read_without(rt)?;
+    if words != named {
+        return None;
     }
-    match mode_and_count(rt) {
-        Arguments::Run { mode, count } => sending_of(mode, count, without.p3, without.p4),
-        Arguments::Wrong => Sending::Wrong,
-    }
+    let Run { mode, count } = mode_and_count(rt)?;
+    sending_of(mode, count, p3, p4)
 }
 
 // The one argument of a program that must have been started with this many words.
-pub fn read_number(rt: &impl Env, words: usize) -> Operand {
+pub fn read_number(rt: &impl Env, words: usize) -> Option<u64> {
     if word_count(rt) != words {
-        return Operand::NotDecimal;
+        return None;
     }
     operand(rt, 1)
 }

@@ -36,6 +36,7 @@ pub fn read_full(rt: &impl Streams, buffer: &mut [u8]) -> usize
     ensures { IsPrefixLen result buffer.new }
 {
     let mut done: usize = 0;
+    // Not `read_exact`: where the input ends early, it does not say how many bytes came.
     while done < buffer.len() {
         let n = rt.read(&mut buffer[done..]).unwrap_or(0);
         if n == 0 {

@@ -43,10 +43,8 @@ fn nears() -> [u8; 32]
     ensures { Nears result }
 {
     let mut nears = [0u8; 32];
-    let mut q = 0;
-    while q < 32 {
+    for q in 0..32 {
         nears[q] = near4(q);
-        q += 1;
     }
     nears
 }
@@ -149,14 +147,12 @@ fn merge_turns(
     ensures { (m p : List ℕ) → Status kind half memory.old px.old m p (16 * g) → Status kind half memory.new px.new m p (16 * g + 16) }
 {
     let size = px_steps::block(kind) / 8;
-    let mut t = 0;
-    while t < 16 {
+    for t in 0..16 {
         let j = size * t + g;
         let o = px_steps::byte_of(kind, half, j);
         let q = px_steps::byte_of(kind, 1 - half, j);
         let m = near(nears, t, a, b);
         merge_byte(o, q, j, m, seen, memory, px);
-        t += 1;
     }
 }
 
@@ -167,13 +163,11 @@ fn merge(kind: usize, half: usize, memory: &mut [u8], px: &mut [u8])
 {
     let nears = nears();
     let size = px_steps::block(kind) / 8;
-    let mut g = 0;
-    while g < size {
+    for g in 0..size {
         let a = ahead(kind, 8 * g);
         let b = ahead(kind, 8 * g + 4);
         let seen = seen(kind, &nears, a, b, g);
         merge_turns(kind, half, &nears, a, b, seen, g, memory, px);
-        g += 1;
     }
 }
 
@@ -209,12 +203,10 @@ fn fill_in_byte(kind: usize, half: usize, px: &[u8], j: usize) -> usize
     if px[j] == 0 {
         return 8 * j + 8;
     }
-    let mut u = 0;
-    while u < 8 {
+    for u in 0..8 {
         if is_fill(kind, half, px, 8 * j + u) {
             return 8 * j + u;
         }
-        u += 1;
     }
     8 * j + 8
 }
@@ -224,13 +216,11 @@ pub fn first_fill(kind: usize, half: usize, px: &[u8]) -> usize
     requires { (kind < 2) × (half < 2) × (length px.now ≡ coded_bytes kind) }
     ensures { result ≡ first_fill kind half (bit_at px.now) }
 {
-    let mut j = 0;
-    while j < px.len() {
+    for j in 0..px.len() {
         let r = fill_in_byte(kind, half, px, j);
         if r < 8 * j + 8 {
             return r;
         }
-        j += 1;
     }
     8 * px.len()
 }

@@ -20,7 +20,6 @@ use Rattle.interleaving.specs.EquationsI as I
 use Rattle.interleaving.specs.TableI.{ks, k_for}
 use Rattle.interleaving.specs.PX.{v4}
 use Rattle.interleaving.specs.PX2.{partitions, runs, v8, order, frame_bits, place}
-use Rattle.interleaving.proofs.Block.{column-lt}
 use Rattle.interleaving.proofs.Matrix.{position-cell}
 use Rattle.interleaving.proofs.Mod.{mod-of, div-of}
 use Rattle.interleaving.proofs.PXKinds.{plain4, perm4}

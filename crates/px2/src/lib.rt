@@ -83,19 +83,11 @@ fn starts(m: usize) -> [u16; 1152]
     ensures { Starts m result }
 {
     let mut starts = [0u16; 1152];
-    let mut k: usize = 0;
-    while k < 1152 {
+    for k in 0..1152 {
         let n = place(k);
         starts[n] = (m * k) as u16;
-        k += 1;
     }
     starts
-}
-
-fn wide(x: u16) -> usize
-    ensures { result ≡ x }
-{
-    x as usize
 }
 
 // Where the group at the place n begins.
@@ -103,7 +95,7 @@ fn start(m: usize, starts: &[u16; 1152], n: usize) -> usize
     requires { (n < 1152) × Starts m starts.now }
     ensures { (result ≡ get_or starts.now n 0) × (result + m ≤ 1152 * m) }
 {
-    wide(starts[n])
+    usize::from(starts[n])
 }
 
 // The nibbles of the row of a block whose places are those from a on.
@@ -115,11 +107,10 @@ fn row_nibbles(
     a: usize,
     out: &mut [u8],
 )
-    requires { (a + 36 ≤ 1152) × (m ≤ 2) × (length coded.now ≡ 1152 * m) × Spreads spreads.now × Starts m starts.now × (length out.old ≡ 144) }
+    requires { (a + 36 ≤ 1152) × (m ≤ 2) × (length coded.now ≡ 1152 * m) × Spreads 256 spreads.now × Starts m starts.now × (length out.old ≡ 144) }
     ensures { Begins (row_of m (bit_at coded.now) starts.now a) (72 * m) out.new }
 {
-    let mut x: usize = 0;
-    while x < 9 {
+    for x in 0..9 {
         let n = a + 4 * x;
         let first = start(m, starts, n);
         let second = start(m, starts, n + 1);
@@ -136,7 +127,6 @@ fn row_nibbles(
             8 * (m * x),
             out,
         );
-        x += 1;
     }
 }
 
@@ -149,13 +139,6 @@ fn nibble(m: usize, nibbles: &[u8; 144], s: usize, t: usize, z: usize) -> u8
         return nibbles[8 * (m * z) + s];
     }
     nibbles[8 * (m * (z - 9)) + t]
-}
-
-// Two nibbles as a byte.
-fn joined(high: u8, low: u8) -> u8
-    ensures { high < 16 → low < 16 → result ≡ 16 * high + low }
-{
-    (high % 16) * 16 + low % 16
 }
 
 // Writes these nibbles, nine bytes, from the byte n of the matrix on, which begins at the byte first.
@@ -171,12 +154,10 @@ fn write_pair(
     requires { (s < 8 * m) × (t < 8 * m) × (m ≤ 2) × (first + n + 9 ≤ length px2.old) × (first + n + 9 ≤ 18432) }
     ensures { (f g : ℕ → ℕ) (starts l : List ℕ) (a : ℕ) → ((i : ℕ) → f i < 2) → Begins (row_of m f starts a) (72 * m) nibbles.now → ((e : ℕ) → e < 9 → g (n + e) ≡ 16 * pair_of f starts a s t (2 * e) + pair_of f starts a s t (2 * e + 1)) → Changed first n g l px2.old → Changed first (n + 9) g l px2.new }
 {
-    let mut e: usize = 0;
-    while e < 9 {
-        let x = nibble(m, nibbles, s, t, 2 * e);
-        let y = nibble(m, nibbles, s, t, 2 * e + 1);
-        px2[first + n + e] = joined(x, y);
-        e += 1;
+    for e in 0..9 {
+        let high = nibble(m, nibbles, s, t, 2 * e);
+        let low = nibble(m, nibbles, s, t, 2 * e + 1);
+        px2[first + n + e] = 16 * (high % 16) + low % 16;
     }
 }
 
@@ -190,7 +171,7 @@ fn write_row(
     y: usize,
     px2: &mut [u8],
 )
-    requires { (row < 2) × Spreads spreads.now × Starts (row + 1) starts.now × (length coded.now ≡ 1152 * (row + 1)) × (y < 64) × (first + 1152 * (row + 1) ≤ length px2.old) × (first + 1152 * (row + 1) ≤ 18432) }
+    requires { (row < 2) × Spreads 256 spreads.now × Starts (row + 1) starts.now × (length coded.now ≡ 1152 * (row + 1)) × (y < 64) × (first + 1152 * (row + 1) ≤ length px2.old) × (first + 1152 * (row + 1) ≤ 18432) }
     ensures { (l : List ℕ) → Changed first (18 * ((row + 1) * y)) (byte_in row (bit_at coded.now)) l px2.old → Changed first (18 * ((row + 1) * (y + 1))) (byte_in row (bit_at coded.now)) l px2.new }
 {
     let m = row + 1;
@@ -200,12 +181,10 @@ fn write_row(
     row_nibbles(m, spreads, starts, coded, C[0] * r, &mut nibbles);
     let n = pairs(row);
     let from = 18 * (m * y);
-    let mut q: usize = 0;
-    while q < n {
+    for q in 0..n {
         let s = turn(row, b, r, 2 * q);
         let t = turn(row, b, r, 2 * q + 1);
         write_pair(m, &nibbles, s, t, first, from + 9 * q, px2);
-        q += 1;
     }
 }
 
@@ -218,9 +197,7 @@ pub fn interleave(row: usize, f: usize, coded: &[u8], px2: &mut [u8])
     let spreads = transposing::spreads();
     let starts = starts(m);
     let first = f * frame_bytes(row);
-    let mut y: usize = 0;
-    while y < 64 {
+    for y in 0..64 {
         write_row(row, &spreads, &starts, coded, first, y, px2);
-        y += 1;
     }
 }

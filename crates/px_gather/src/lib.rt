@@ -44,10 +44,8 @@ fn parts(kind: usize) -> [usize; 8]
 {
     let mut parts = [0usize; 8];
     let m = px_steps::runs(kind);
-    let mut u = 0;
-    while u < 8 {
+    for u in 0..8 {
         parts[u] = px_steps::partition(kind, ((u + 2 * (m / 4)) % 8) >> (2 - kind));
-        u += 1;
     }
     parts
 }
@@ -59,11 +57,9 @@ fn counts(kind: usize) -> [usize; 8]
 {
     let mut counts = [0usize; 8];
     let m = px_steps::runs(kind);
-    let mut u = 0;
-    while u < 8 {
+    for u in 0..8 {
         let x = u + 2 * (m / 4);
         counts[u] = counter(kind, (x % 8) >> (2 - kind), x);
-        u += 1;
     }
     counts
 }
@@ -102,11 +98,9 @@ fn delays(kind: usize, parts: &[usize; 8], counts: &[usize; 8], g: usize) -> [us
     let mut delays = [0usize; 8];
     let n = 2 * px_steps::coded_bits(kind);
     let e = g * px_steps::runs(kind);
-    let mut u = 0;
-    while u < 8 {
+    for u in 0..8 {
         let c = cell_in_byte(kind, parts, counts, 0, e, u);
         delays[u] = later(n, 8 * g + u, c, 8 * g + u);
-        u += 1;
     }
     delays
 }
@@ -125,10 +119,8 @@ fn gather_byte(
 {
     let i = px_steps::block(kind) * t;
     let mut a: u8 = 0;
-    let mut u = 0;
-    while u < 8 {
-        a = (a << 1) | bits::get(three, i + delays[u]);
-        u += 1;
+    for delay in delays {
+        a = (a << 1) | bits::get(three, i + *delay);
     }
     a
 }
@@ -147,10 +139,8 @@ fn gather_turns(
     ensures by_index_2 { (t h : ℕ) → h < g → get_or coded.new (144 * «partitions-of» kind * t + h) 0 ≡ get_or coded.old (144 * «partitions-of» kind * t + h) 0 }
 {
     let size = px_steps::block(kind) / 8;
-    let mut t = 0;
-    while t < 16 {
+    for t in 0..16 {
         coded[size * t + g] = gather_byte(kind, half, delays, g, t, three);
-        t += 1;
     }
 }
 
@@ -162,10 +152,8 @@ pub fn gather(kind: usize, half: usize, three: &[u8], coded: &mut [u8])
     let parts = parts(kind);
     let counts = counts(kind);
     let size = px_steps::block(kind) / 8;
-    let mut g = 0;
-    while g < size {
+    for g in 0..size {
         let delays = delays(kind, &parts, &counts, g);
         gather_turns(kind, half, &delays, g, three, coded);
-        g += 1;
     }
 }

@@ -36,18 +36,9 @@ fn fill_lanes(kind: usize, lanes: &mut [u16; 1024])
     ensures { Begins (lane_at kind) (256 * «runs_of» kind) lanes.new }
 {
     let n = 256 * px_steps::runs(kind);
-    let mut i: usize = 0;
-    while i < n {
+    for i in 0..n {
         lanes[i] = lane(kind, i / 256, i % 256);
-        i += 1;
     }
-}
-
-// A byte as an index.
-fn wide(x: u8) -> usize
-    ensures { result ≡ x }
-{
-    x as usize
 }
 
 // The entry of a turn that stands at the place n of a partition's block, counted across its rows.
@@ -66,7 +57,7 @@ fn lane_of(kind: usize, lanes: &[u16; 1024], n: usize, d: usize, coded: &[u8]) -
     let t = (d + (1152 - n)) % 16;
     let j = px_steps::block(kind) / 8 * t + (n >> (2 - kind));
     let e = n & (px_steps::runs(kind) - 1);
-    lanes[256 * e + wide(coded[j])]
+    lanes[256 * e + usize::from(coded[j])]
 }
 
 // The columns from 4 z on of the row r, for each of sixteen blocks.
@@ -88,13 +79,11 @@ fn four_columns(
     let second = entry_in(n + 1);
     let third = entry_in(n + 2);
     let fourth = entry_in(n + 3);
-    let mut d: usize = 0;
-    while d < 16 {
+    for d in 0..16 {
         let a = lane_of(kind, lanes, first, d, coded);
         let b = lane_of(kind, lanes, second, d, coded);
         let c = lane_of(kind, lanes, third, d, coded);
         quads[16 * z + d] = 8 * a + 4 * b + 2 * c + lane_of(kind, lanes, fourth, d, coded);
-        d += 1;
     }
 }
 
@@ -104,10 +93,8 @@ fn row_quads(kind: usize, lanes: &[u16; 1024], r: usize, coded: &[u8], quads: &m
         × (length quads.old ≡ 144) }
     ensures { (length quads.new ≡ 144) × Begins (quad_at kind coded.now r) 144 quads.new }
 {
-    let mut z: usize = 0;
-    while z < 9 {
+    for z in 0..9 {
         four_columns(kind, lanes, r, z, coded, quads);
-        z += 1;
     }
 }
 
@@ -128,12 +115,10 @@ fn fresh_turns(kind: usize, quads: &[u16; 144], k: usize, g: usize, px: &mut [u8
         → Begins (quad_at kind l r) 144 quads.now → Laid kind l g px.old → Laid kind l (g + 1) px.new }
 {
     let size = px_steps::block(kind) / 8;
-    let mut t: usize = 0;
-    while t < 16 {
+    for t in 0..16 {
         let high = nibble(quads, 2 * k, t);
         let low = nibble(quads, 2 * k + 1, t);
         px[size * t + g] = 16 * high + low;
-        t += 1;
     }
 }
 
@@ -144,10 +129,8 @@ fn fresh_row(kind: usize, quads: &[u16; 144], r: usize, px: &mut [u8])
         → Laid kind l (9 * («partitions-of» kind / 2) * r) px.old → Laid kind l (9 * («partitions-of» kind / 2) * (r + 1)) px.new }
 {
     let w = 9 * (px_steps::partitions(kind) / 2);
-    let mut k: usize = 0;
-    while k < w {
+    for k in 0..w {
         fresh_turns(kind, quads, k, w * r + k, px);
-        k += 1;
     }
 }
 
@@ -159,10 +142,8 @@ pub fn fresh(kind: usize, coded: &[u8], px: &mut [u8])
     let mut lanes = [0u16; 1024];
     let mut quads = [0u16; 144];
     fill_lanes(kind, &mut lanes);
-    let mut r: usize = 0;
-    while r < 32 {
+    for r in 0..32 {
         row_quads(kind, &lanes, r, coded, &mut quads);
         fresh_row(kind, &quads, r, px);
-        r += 1;
     }
 }

@@ -24,7 +24,8 @@ const V2: [usize; 2] = [0, 1];
 
 const V4: [usize; 4] = [0, 1, 2, 3];
 
-// J, the number of partitions. This and the ones below are used for every bit: an index that is a number costs nothing, where one by kind copies the table.
+// J, the number of partitions. This and the ones below are used for every bit: an index that is a number costs nothing, where one by kind copies the table. One
+// function for the five would take two numbers and the kind, and read no plainer than the `if`.
 pub fn partitions(kind: usize) -> usize
     requires { kind < 2 }
     ensures { (result ≡ «partitions-of» kind) × (0 < result) × (result ≤ 4) }

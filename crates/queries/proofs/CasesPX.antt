@@ -6,6 +6,7 @@ use native.Mathlib.Decide.{dec_lt}
 use native.Mathlib.Nat.{div-add-mod'}
 use native.Mathlib.Omega.{arith}
 use borrow.Author.Tests.{eq-eqb, ne_eqb, lt-ltb, le-ltb}
+use Rattle.std.specs.Prelude.{Ok, Err}
 use Rattle.interleaving.specs.PX.{coded_bits, step_of, unreached}
 use Rattle.interleaving.specs.FinderPX.{origin, earlier, coded_bit}
 use Rattle.interleaving.proofs.FoundPX.{unreached-when}
@@ -14,36 +15,36 @@ use Rattle.runs.specs.declared.Kind.{Kind}
 use Rattle.runs.specs.declared.State.{State}
 use Rattle.runs.specs.Lengths.{table_row}
 use Rattle.runs.specs.Starting.{valid}
-use Rattle.queries.specs.declared.finder_px.FoundPx.TheVariants.{Coded, Fill, Refused}
+use Rattle.queries.specs.declared.finder_px.FoundPx.TheVariants.{Coded, Fill}
 use Rattle.queries.specs.FinderPX.{kind_of_number, columns_of, frame_coded, told, found_px}
 use Rattle.queries.proofs.Origins.{rows-hold, frame-holds}
 
 module _ (s : State) (channel pair row column : ℕ) where
-  pub state-refused : valid s ≡ false → Refused StateNotValid ≡ found_px s channel pair row column
+  pub state-refused : valid s ≡ false → Err StateNotValid ≡ found_px s channel pair row column
   unfolding found_px
   state-refused v = rw v
 
   -- k is how the mode sends the channel, in rows of n cells
   module _ (v : valid s ≡ true) (k : Kind) (k-is : k ≡ kind_of_number s.mode channel) (n : ℕ) (n-is : n ≡ columns_of k) where
-    pub channel-refused : n ≡ 0 → Refused (WrongLength 0) ≡ found_px s channel pair row column
+    pub channel-refused : n ≡ 0 → Err (WrongLength 0) ≡ found_px s channel pair row column
     unfolding found_px
     channel-refused z = rw (v, ← k-is, ← n-is, eq-eqb n 0 z)
 
     module _ (ne : n ≡ 0 → ⊥) where
-      pub pair-refused : 8 ≤ pair → Refused (WrongLength 1) ≡ found_px s channel pair row column
+      pub pair-refused : 8 ≤ pair → Err (WrongLength 1) ≡ found_px s channel pair row column
       unfolding found_px
       pair-refused h = rw (v, ← k-is, ← n-is, ne_eqb n 0 ne, le-ltb pair 8 h)
 
-      pub row-refused : pair < 8 → 64 ≤ row → Refused (WrongLength 2) ≡ found_px s channel pair row column
+      pub row-refused : pair < 8 → 64 ≤ row → Err (WrongLength 2) ≡ found_px s channel pair row column
       unfolding found_px
       row-refused lp h = rw (v, ← k-is, ← n-is, ne_eqb n 0 ne, lt-ltb pair 8 lp, le-ltb row 64 h)
 
-      pub column-refused : pair < 8 → row < 64 → n ≤ column → Refused (WrongLength 3) ≡ found_px s channel pair row column
+      pub column-refused : pair < 8 → row < 64 → n ≤ column → Err (WrongLength 3) ≡ found_px s channel pair row column
       unfolding found_px
       column-refused lp lr h = rw (v, ← k-is, ← n-is, ne_eqb n 0 ne, lt-ltb pair 8 lp, lt-ltb row 64 lr, le-ltb column n h)
 
       pub inside : pair < 8 → row < 64 → column < n
-          → told k s.half s.age ((pair * 64 + row) * columns_of k + column) ≡ found_px s channel pair row column
+          → Ok (told k s.half s.age ((pair * 64 + row) * columns_of k + column)) ≡ found_px s channel pair row column
       unfolding found_px
       inside lp lr lc = rw (v, ← k-is, ← n-is, ne_eqb n 0 ne, lt-ltb pair 8 lp, lt-ltb row 64 lr, lt-ltb column n lc)
 

@@ -1,7 +1,7 @@
 -- S-8: the lookup of an L1 frame's control accepts exactly the control of a covered mode and a number 0 to 7, and gives these. Assumes nothing.
 use mathlib.Core.Path.{◌≡◌, refl, sym, ap, ◌∙◌}
 use mathlib.Core.Logic.{◌≢◌}
-use mathlib.Core.Bool.{Bool, true, false, cond, not}
+use mathlib.Core.Bool.{Bool, true, false, not}
 use mathlib.Core.Option.{Option, none, some}
 use mathlib.Core.List.{List, ◌∷◌, ◌++◌}
 use Prim.Native.Nat.{ℕ, ◌<◌}
@@ -10,13 +10,13 @@ use native.Mathlib.Omega.{arith}
 use borrow.Author.Tests.{eq-eqb, ne_eqb, eqb-true}
 use lib.Dec.{eqb}
 use lib.ListN.{length}
+use Rattle.std.specs.Prelude.{Ok, Err}
 use Rattle.control.specs.Control.{control_of}
 use Rattle.control.specs.Departs.{number_in, strays}
 use Rattle.control.specs.Modes.{covered}
 use Rattle.control.proofs.Sent.{control-length}
-use Rattle.blockset.specs.LookupFrame.{looked_up_frame}
-use Rattle.blockset.specs.declared.LookedFrame.{LookedFrame}
-use Rattle.blockset.specs.declared.LookedFrame.TheVariants.{Of, Faulty, Unfit}
+use Rattle.blockset.specs.LookupFrame.{frame_numbers, looked_up_frame}
+use Rattle.blockset.specs.declared.SetFault.TheVariants.{Unfit}
 use Rattle.blockset.proofs.Mixed.{mixed, modes-mixed, numbers-mixed}
 use Rattle.blockset.proofs.Sets.{control-accepted, reading-accepted, accepted-covered, accepted-number, accepted-is}
 use Rattle.runs.specs.declared.Answer.{Answer}
@@ -33,10 +33,10 @@ use Rattle.runs.proofs.Answered.{not-success, success-is}
 use Rattle.runs.proofs.Refusals.{first-clear}
 use Rattle.calls.specs.Admitted.{first_cause}
 use Rattle.calls.proofs.Admitted.{clear, fits, valid-says}
-use Rattle.queries.specs.declared.blocks.LookedUpFrame.TheVariants.{Found, Refused}
 use Rattle.queries.specs.LookupFrame.{lookup_frame_of, told, values, Values}
+use Rattle.queries.proofs.CasesSet.{answer-of}
 
-pub other_length : (control : List ℕ) → (length control ≡ 4096 → ⊥) → lookup_frame_of control ≡ Refused (WrongLength 0)
+pub other_length : (control : List ℕ) → (length control ≡ 4096 → ⊥) → lookup_frame_of control ≡ Err (WrongLength 0)
 unfolding lookup_frame_of
 other_length control h = rw (ne_eqb (length control) 4096 h)
 
@@ -47,7 +47,7 @@ of_blocks control h = rw (eq-eqb (length control) 4096 h)
 -- ---- accepted
 
 -- The control of a covered mode and a number 0 to 7 is accepted with them.
-pub accepts : (m z : ℕ) → covered m ≡ true → z < 8 → lookup_frame_of (control_of m z) ≡ Found m z
+pub accepts : (m z : ℕ) → covered m ≡ true → z < 8 → lookup_frame_of (control_of m z) ≡ Ok (frame_numbers m z)
 accepts m z cov hz = of_blocks (control_of m z) (control-length m z) ∙ ap told (control-accepted m z cov hz)
 
 -- What is accepted is the control of the mode and the number that are given.
@@ -56,16 +56,10 @@ pub record Accepted (control : List ℕ) (m z : ℕ) : Type 0 where
   pub number-low : z < 8
   pub is : control ≡ control_of m z
 
-found-cases : (t : Bool) (x : LookedFrame) (m z : ℕ) → cond t (told x) (Refused (WrongLength 0)) ≡ Found m z → (t ≡ true) × (x ≡ Of m z)
-found-cases false x m z e = let z : ◌≡◌ {A = ℕ} 0 1 = cc in absurd (omega arith)
-found-cases true (Of m' z') m z e = let a : m' ≡ m = cc in let b : z' ≡ z = cc in (refl, λ i. Of (a i) (b i))
-found-cases true (Faulty block) m z e = let z : ◌≡◌ {A = ℕ} 0 1 = cc in absurd (omega arith)
-found-cases true (Unfit block) m z e = let z : ◌≡◌ {A = ℕ} 0 1 = cc in absurd (omega arith)
-
-pub accepted : (control : List ℕ) (m z : ℕ) → lookup_frame_of control ≡ Found m z → Accepted control m z
+pub accepted : (control : List ℕ) (m z : ℕ) → lookup_frame_of control ≡ Ok (frame_numbers m z) → Accepted control m z
 unfolding lookup_frame_of
 accepted control m z e =
-    let f = found-cases (eqb (length control) 4096) (looked_up_frame control) m z e in
+    let f = answer-of (eqb (length control) 4096) (looked_up_frame control) (frame_numbers m z) e in
     record {
       is-covered = accepted-covered control m z f.1;
       number-low = accepted-number control m z f.1;
@@ -106,7 +100,7 @@ module _ (s : State) (m : Memory) (l : Lent) where
 
   -- The control of every sending is accepted, with the mode and the number that were sent.
   pub accepts-sent : number_of (send_step s m l).answer ≡ 0
-      → lookup_frame_of (send_step s m l).lent.signal.control ≡ Found s.mode l.frames.reserved
+      → lookup_frame_of (send_step s m l).lent.signal.control ≡ Ok (frame_numbers s.mode l.frames.reserved)
   unfolding send_step sent signal_of filled
   accepts-sent e =
       let d = done-is (send_answer s m l) (sent s m l) (refused s m l (send_answer s m l)) refl e in
@@ -121,7 +115,7 @@ module _ (s : State) (m : Memory) (l : Lent) where
 
   -- What a reading accepts under 4 is accepted with its mode, whatever later cause it meets.
   pub accepts-read : (number_of (read_answer s m l) ≢ 2) × (number_of (read_answer s m l) ≢ 3) × (number_of (read_answer s m l) ≢ 4)
-      → lookup_frame_of control ≡ Found s.mode (number_in s.mode control)
+      → lookup_frame_of control ≡ Ok (frame_numbers s.mode (number_in s.mode control))
   unfolding read_answer lent_sizes
   accepts-read h =
       let c = clear-to-4 (valid s) _ _ _ h in
@@ -131,12 +125,12 @@ module _ (s : State) (m : Memory) (l : Lent) where
 
   -- A reading that succeeds returns the number that is given.
   pub accepts-returned : number_of (read_step s m l).answer ≡ 0
-      → lookup_frame_of control ≡ Found s.mode (read_step s m l).lent.frames.reserved
+      → lookup_frame_of control ≡ Ok (frame_numbers s.mode (read_step s m l).lent.frames.reserved)
   unfolding read_step received
   accepts-returned e =
       let d = done-is (read_answer s m l) (received s m l) (refused s m (unnumbered l) (read_answer s m l)) refl e in
       accepts-read (past (read_answer s m l) (ap number_of d.0))
-      ∙ ap (λ (r : Result). Found s.mode r.lent.frames.reserved) (sym d.1)
+      ∙ ap (λ (r : Result). Ok (frame_numbers s.mode r.lent.frames.reserved)) (sym d.1)
 
 -- ---- refused
 
@@ -147,7 +141,7 @@ no_frame number place = record { number = number; place = place; mode = 0; reser
 pub of-another-length : (control : List ℕ) → (length control ≡ 4096 → ⊥) → values (lookup_frame_of control) ≡ no_frame 3 0
 of-another-length control h = ap values (other_length control h)
 
-unfit-block : (control : List ℕ) (c : ℕ) → length control ≡ 4096 → looked_up_frame control ≡ Unfit c → values (lookup_frame_of control) ≡ no_frame 13 c
+unfit-block : (control : List ℕ) (c : ℕ) → length control ≡ 4096 → looked_up_frame control ≡ Err (Unfit c) → values (lookup_frame_of control) ≡ no_frame 13 c
 unfit-block control c l e = ap values (of_blocks control l ∙ ap told e)
 
 -- Blocks that pass one by one and not as a set: block 0 of MP1 before the others of MP3, and block 0 of number 1 before the others of number 0.

@@ -4,33 +4,31 @@ use Prim.Native.Nat.{ℕ, ◌<◌, ◌≤◌}
 use native.Mathlib.Decide.{dec_lt}
 use native.Mathlib.Omega.{arith}
 use borrow.Author.Tests.{lt-ltb, le-ltb}
+use Rattle.std.specs.Prelude.{Result, Ok, Err}
 use Rattle.interleaving.specs.declared.Position.{Position}
 use Rattle.interleaving.specs.Matrix.{Inside, position_at}
 use Rattle.interleaving.specs.FinderPM.{source}
 use Rattle.interleaving.proofs.PositionsPM.{positions-pm}
 use Rattle.runs.specs.declared.Answer.{Answer}
 use Rattle.runs.specs.declared.Answer.TheVariants.{WrongLength}
-use Rattle.queries.specs.declared.places.Placed.{Placed}
-use Rattle.queries.specs.declared.places.Placed.TheVariants.{At, Refused}
-use Rattle.queries.specs.declared.finder.Found.TheVariants.{Refused as NoCell}
 use Rattle.queries.specs.Places.{placed}
 use Rattle.queries.specs.Finder.{told, found_at, found}
 
 module _ (row column : ℕ) where
-  pub row_out : 512 ≤ row → Refused (WrongLength 0) ≡ placed row column
+  pub row_out : 512 ≤ row → Err (WrongLength 0) ≡ placed row column
   unfolding placed
   row_out h = rw (le-ltb row 512 h)
 
-  pub column-out : row < 512 → 720 ≤ column → Refused (WrongLength 1) ≡ placed row column
+  pub column-out : row < 512 → 720 ≤ column → Err (WrongLength 1) ≡ placed row column
   unfolding placed
   column-out h l = rw (lt-ltb row 512 h, le-ltb column 720 l)
 
-  pub within : row < 512 → column < 720 → At (position_at 36 row column) ≡ placed row column
+  pub within : row < 512 → column < 720 → Ok (position_at 36 row column) ≡ placed row column
   unfolding placed
   within h l = rw (lt-ltb row 512 h, lt-ltb column 720 l)
 
   -- only a row and a column of PM have a position
-  pub at-inside : (p : Position) → At p ≡ placed row column → Inside 20 16 36 p
+  pub at-inside : (p : Position) → Ok p ≡ placed row column → Inside 20 16 36 p
   at-inside p e = go (dec_lt row 512) (dec_lt column 720)
     where
       go : Dec (row < 512) → Dec (column < 720) → Inside 20 16 36 p
@@ -47,21 +45,21 @@ module _ (row column : ℕ) where
           let z : ◌≡◌ {A = ℕ} 0 1 = cc in
           absurd (omega arith)
 
-  pub found-at : (r : Placed) → r ≡ placed row column → found_at r ≡ found row column
+  pub found-at : (r : Result Position Answer) → r ≡ placed row column → found_at r ≡ found row column
   unfolding found
   found-at r e = ap found_at e
 
-  pub found_within : row < 512 → column < 720 → found row column ≡ told (source (position_at 36 row column))
+  pub found_within : row < 512 → column < 720 → found row column ≡ Ok (told (source (position_at 36 row column)))
   found_within h l = sym (found-at _ (within h l))
 
-  pub found-row-out : 512 ≤ row → found row column ≡ NoCell (WrongLength 0)
+  pub found-row-out : 512 ≤ row → found row column ≡ Err (WrongLength 0)
   found-row-out h = sym (found-at _ (row_out h))
 
-  pub found-column-out : row < 512 → 720 ≤ column → found row column ≡ NoCell (WrongLength 1)
+  pub found-column-out : row < 512 → 720 ≤ column → found row column ≡ Err (WrongLength 1)
   found-column-out h l = sym (found-at _ (column-out h l))
 
   -- a cell that the finder does not refuse is one of the 512 rows of 720
-  pub found_inside : ((a : Answer) → found row column ≡ NoCell a → ⊥) → (row < 512) × (column < 720)
+  pub found_inside : ((a : Answer) → found row column ≡ Err a → ⊥) → (row < 512) × (column < 720)
   found_inside accepted = go (dec_lt row 512) (dec_lt column 720)
     where
       go : Dec (row < 512) → Dec (column < 720) → (row < 512) × (column < 720)

@@ -6,6 +6,7 @@ use Prim.Native.Nat.{ℕ, ◌+◌, ◌-◌, ◌*◌, ◌%◌, ◌≤◌, ◌<◌
 use native.Mathlib.Decide.{dec_lt, ℕ_discrete}
 use native.Mathlib.Omega.{arith}
 use lib.Dec.{eqb}
+use Rattle.std.specs.Prelude.{Result, Ok, Err}
 use Rattle.bits.specs.Bits.{bit_at}
 use Rattle.coding.specs.declared.Rate.TheVariants.{TwoFifths}
 use Rattle.coding.specs.Channel.{channel}
@@ -32,13 +33,14 @@ use Rattle.runs.proofs.Shown.{p1-shown, pids-shown, coded-shown, fill-shown}
 use Rattle.runs.proofs.States.{valid-at}
 use Rattle.queries.specs.declared.finder.Found.TheVariants.{P1, Pids}
 use Rattle.queries.specs.declared.finder_px.FoundPx.{FoundPx}
-use Rattle.queries.specs.declared.finder_px.FoundPx.TheVariants.{Coded, Fill, Refused}
+use Rattle.queries.specs.declared.finder_px.FoundPx.TheVariants.{Coded, Fill}
 use Rattle.queries.specs.Finder.{found}
 use Rattle.queries.specs.FinderPX.{kind_of_number, columns_of, cell_of, frame_coded, told, found_px}
 use Rattle.queries.specs.Sheets.{Sheet, channel_number}
 use Rattle.queries.proofs.CasesPX as px
 use Rattle.queries.proofs.Origins.{used, cell-lt}
 use Rattle.queries.proofs.Placing.{found_inside}
+use Rattle.queries.proofs.Valued.{ok-is}
 use Rattle.queries.proofs.Stands.{found-stands}
 
 -- ---- PM
@@ -52,7 +54,7 @@ module _ (mode : ℕ) (is : main_of mode ≡ Plain) (a : SenderRun mode) (t : �
   p1-older i l =
       p1-shown mode a t h i (subst (λ (k : Main). i < p1_coded k) (sym is) l) ∙ ap (λ (k : Main). channel TwoFifths (p1_bits k) (bit_at (frame_at mode a t).p1) i) is
 
-  p1-in : (bit : ℕ) → found row column ≡ P1 bit
+  p1-in : (bit : ℕ) → found row column ≡ Ok (P1 bit)
       → bit_at (matrices_at mode a t).pm (row * 720 + column) ≡ channel TwoFifths 146176 (bit_at (frame_at mode a t).p1) bit
   p1-in bit e =
       let (lr, lc) = found_inside row column (λ r n. let z : ◌≡◌ {A = ℕ} 0 1 = cc in omega arith) in
@@ -67,7 +69,7 @@ module _ (mode : ℕ) (is : main_of mode ≡ Plain) (a : SenderRun mode) (t : �
             absurd (omega arith)
       ]
 
-  pids-in : (frame bit : ℕ) → found row column ≡ Pids frame bit
+  pids-in : (frame bit : ℕ) → found row column ≡ Ok (Pids frame bit)
       → bit_at (matrices_at mode a t).pm (row * 720 + column) ≡ channel TwoFifths 80 (bit_at (frame_at mode a t).pids) (frame * 200 + bit)
   pids-in frame bit e =
       let (lr, lc) = found_inside row column (λ r n. let z : ◌≡◌ {A = ℕ} 0 1 = cc in omega arith) in
@@ -102,10 +104,10 @@ number_is mode is P4 = rw (not_five mode is)
 record Inside (s : State) (k : Kind) (channel pair row column : ℕ) : Type 0 where
   sends : table_row k < 2
   cell : cell_of k pair row column < coded_bits (table_row k)
-  says : told k s.half s.age (cell_of k pair row column) ≡ found_px s channel pair row column
+  says : Ok (told k s.half s.age (cell_of k pair row column)) ≡ found_px s channel pair row column
 
 module _ (s : State) (v : valid s ≡ true) (channel : ℕ) (k : Kind) (k-is : k ≡ kind_of_number s.mode channel) (pair row column : ℕ) where
-  inside : ((r : Answer) → found_px s channel pair row column ≡ Refused r → ⊥) → Inside s k channel pair row column
+  inside : ((r : Answer) → found_px s channel pair row column ≡ Err r → ⊥) → Inside s k channel pair row column
   inside accepted = go (ℕ_discrete (columns_of k) 0) (dec_lt pair 8) (dec_lt row 64) (dec_lt column (columns_of k))
     where
       go : Dec (columns_of k ≡ 0) → Dec (pair < 8) → Dec (row < 64) → Dec (column < columns_of k) → Inside s k channel pair row column
@@ -122,27 +124,27 @@ module _ (s : State) (v : valid s ≡ true) (channel : ℕ) (k : Kind) (k-is : k
           }
 
 module _ (mode : ℕ) (is : main_of mode ≡ Plain) (a : SenderRun mode) (t : ℕ) (h : t < count mode a) (e : Extended) (z pair row column : ℕ) (lz : z < 8) where
-  abbrev named : FoundPx
+  abbrev named : Result FoundPx Answer
   named = found_px (state_at mode z t) (channel_number e) pair row column
 
-  at : ((r : Answer) → named ≡ Refused r → ⊥) → Inside (state_at mode z t) (kind_of mode e) (channel_number e) pair row column
+  at : ((r : Answer) → named ≡ Err r → ⊥) → Inside (state_at mode z t) (kind_of mode e) (channel_number e) pair row column
   at = inside (state_at mode z t) (valid-at mode (covered_of mode a) z lz t) (channel_number e) (kind_of mode e) (number_is mode is e) pair row column
 
-  coded_in : (n frame bit : ℕ) → named ≡ Coded n frame bit
+  coded_in : (n frame bit : ℕ) → named ≡ Ok (Coded n frame bit)
       → (n ≤ t)
       × (bit_at (matrix_of mode (matrices_at mode a t) e) (cell_of (kind_of mode e) pair row column)
       ≡ coded_of (kind_of mode e) (frame_of (frame_at mode a (t - n)) e) (frame * frame_coded (kind_of mode e) + bit))
   coded_in n frame bit f =
       let x = at (λ r q. let z : ◌≡◌ {A = ℕ} 0 1 = cc in omega arith) in
-      let (en, le, ej) = px.coded-means (kind_of mode e) (t % 2) (min (last_age (main_of mode)) t) (cell_of (kind_of mode e) pair row column) n frame bit (x.says ∙ f) in
+      let (en, le, ej) = px.coded-means (kind_of mode e) (t % 2) (min (last_age (main_of mode)) t) (cell_of (kind_of mode e) pair row column) n frame bit (ok-is (x.says ∙ f)) in
       (omega arith, rw (en, ej) (coded-shown mode a t h e x.sends (cell_of (kind_of mode e) pair row column) x.cell (omega arith)))
 
-  fill-in : named ≡ Fill → bit_at (matrix_of mode (matrices_at mode a t) e) (cell_of (kind_of mode e) pair row column) ≡ 0
+  fill-in : named ≡ Ok Fill → bit_at (matrix_of mode (matrices_at mode a t) e) (cell_of (kind_of mode e) pair row column) ≡ 0
   fill-in f =
       let x = at (λ r q. let z : ◌≡◌ {A = ℕ} 0 1 = cc in omega arith) in
       fill-shown mode a t h e x.sends (cell_of (kind_of mode e) pair row column) x.cell
       (subst (λ (k : Main). min (last_age k) t < earlier (table_row (kind_of mode e)) (t % 2) (cell_of (kind_of mode e) pair row column)) is
-      (px.fill-means (kind_of mode e) (t % 2) (min (last_age (main_of mode)) t) (cell_of (kind_of mode e) pair row column) (x.says ∙ f)))
+      (px.fill-means (kind_of mode e) (t % 2) (min (last_age (main_of mode)) t) (cell_of (kind_of mode e) pair row column) (ok-is (x.says ∙ f))))
 
 -- ---- the theorem
 

@@ -4,6 +4,7 @@ use mathlib.Core.Logic.{◌⊎◌, inl, inr}
 use Prim.Native.Nat.{ℕ, ◌+◌, ◌*◌, ◌/◌, ◌%◌, ◌<◌}
 use native.Mathlib.Nat.{div-add-mod'}
 use native.Mathlib.Omega.{arith}
+use Rattle.std.specs.Prelude.{Ok}
 use Rattle.interleaving.specs.declared.Position.{Position}
 use Rattle.interleaving.specs.Matrix.{Inside, position_at, cell_of}
 use Rattle.interleaving.specs.FinderPM.{source}
@@ -18,13 +19,13 @@ use Rattle.queries.proofs.Placing.{found_within}
 -- a P1 bit of its position and cell, or a bit of one of the sixteen PIDS frames
 pub record P1At (row column i : ℕ) : Type 0 where
   pub inside : i < 365440
-  pub named : found row column ≡ P1 i
+  pub named : found row column ≡ Ok (P1 i)
   pub position : p1_position i ≡ position_at 36 row column
   pub stands : p1_place i ≡ row * 720 + column
 
 pub record PidsAt (row column frame bit : ℕ) : Type 0 where
   pub inside : (frame < 16) × (bit < 200)
-  pub named : found row column ≡ Pids frame bit
+  pub named : found row column ≡ Ok (Pids frame bit)
   pub position : pids_position (frame * 200 + bit) ≡ position_at 36 row column
   pub stands : pids_place (frame * 200 + bit) ≡ row * 720 + column
 
@@ -46,7 +47,7 @@ found-stands row column h l =
     inside : Inside 20 16 36 p
     inside = positions-pm.inside row column h l
 
-    go : (s : Source) → Either 365440 3200 s → at p1_position pids_position s ≡ p → found row column ≡ told s
+    go : (s : Source) → Either 365440 3200 s → at p1_position pids_position s ≡ p → found row column ≡ Ok (told s)
         → ((i : ℕ) × P1At row column i) ⊎ ((frame : ℕ) × (bit : ℕ) × PidsAt row column frame bit)
     go (first i) e q n = inl (i, record { inside = e; named = n; position = q; stands = p1-cell row column i q })
     go (second i) e q n =

@@ -5,7 +5,7 @@ use mathlib.Core.List.{List}
 use Prim.Native.Nat.{ℕ, ◌<◌, ◌≤◌}
 use borrow.Author.Tests.{eq-eqb, ne_eqb}
 use lib.ListN.{length}
-use Rattle.control.specs.declared.Looked.TheVariants.{NotABlock}
+use Rattle.std.specs.Prelude.{None, Result, Ok}
 use Rattle.control.specs.Lookup.{looked_up}
 use Rattle.runs.specs.declared.Kind.{Kind}
 use Rattle.runs.specs.declared.State.{State}
@@ -24,6 +24,10 @@ use Rattle.queries.proofs.CasesPX.{state-refused, channel-refused, pair-refused,
 -- equal answers have equal values
 pub valued : {A B : Type 0} (values : A → B) {a b : A} → a ≡ b → (a ≡ b) × (values a ≡ values b)
 valued values e = (e, ap values e)
+
+-- what two equal successes hold is equal
+pub ok-is : {T E : Type 0} {a b : T} → ◌≡◌ {A = Result T E} (Ok a) (Ok b) → a ≡ b
+ok-is e = cc
 
 -- refused with this number and place, the finder gives no channel and zeros
 abbrev no_cell : (number place : ℕ) → finder.Values
@@ -79,6 +83,6 @@ pub of-another-length : (block : List ℕ) → (length block ≡ 256 → ⊥) �
 unfolding lookup_of
 of-another-length block h = rw (ne_eqb (length block) 256 h)
 
-pub of-no-mode-and-count : (block : List ℕ) → length block ≡ 256 → looked_up block ≡ NotABlock → lookup.values (lookup_of block) ≡ no_block 4 0
+pub of-no-mode-and-count : (block : List ℕ) → length block ≡ 256 → looked_up block ≡ None → lookup.values (lookup_of block) ≡ no_block 4 0
 unfolding lookup_of
 of-no-mode-and-count block l e = rw (eq-eqb (length block) 256 l, e)

@@ -16,9 +16,6 @@ pub enum FoundPx {
         bit: usize,
     },
     Fill,
-    Refused {
-        answer: Answer,
-    },
 }
 
 // How a mode sends the channel of a number, 3 for P3 and 4 for P4. The finder keeps to the older modes: MP5's P3 it does not know, and MP6 has neither.
@@ -86,37 +83,33 @@ fn content(kind: Kind, half: usize, age: usize, y: usize, column: usize) -> Foun
 }
 
 // Finds how many L1 frames earlier the coded bit was sent that stands in a cell of PX1 (channel 3) or PX2 (channel 4) of the L1 frame that comes next, and its transfer frame and coded bit in it.
-pub fn find_px(state: State, channel: u8, pair: usize, row: usize, column: usize) -> FoundPx
+pub fn find_px(
+    state: State,
+    channel: u8,
+    pair: usize,
+    row: usize,
+    column: usize,
+) -> Result<FoundPx, Answer>
     ensures { (result ≡ found_px state channel pair row column) × (values result ≡ values (found_px state channel pair row column)) }
 {
     if !calls::is_valid(state) {
-        return FoundPx::Refused {
-            answer: Answer::StateNotValid,
-        };
+        return Err(Answer::StateNotValid);
     }
     let kind = kind_of_number(state.mode, channel);
     let n = columns(kind);
     if n == 0 {
-        return FoundPx::Refused {
-            answer: Answer::WrongLength(0),
-        };
+        return Err(Answer::WrongLength(0));
     }
     if pair >= 8 {
-        return FoundPx::Refused {
-            answer: Answer::WrongLength(1),
-        };
+        return Err(Answer::WrongLength(1));
     }
     if row >= 64 {
-        return FoundPx::Refused {
-            answer: Answer::WrongLength(2),
-        };
+        return Err(Answer::WrongLength(2));
     }
     if column >= n {
-        return FoundPx::Refused {
-            answer: Answer::WrongLength(3),
-        };
+        return Err(Answer::WrongLength(3));
     }
     let half = state.half as usize;
     let age = state.age as usize;
-    content(kind, half, age, pair * 64 + row, column)
+    Ok(content(kind, half, age, pair * 64 + row, column))
 }

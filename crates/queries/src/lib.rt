@@ -6,8 +6,8 @@ mod finder;
 mod finder_px;
 mod places;
 
-pub use blocks::{LookedUp, LookedUpFrame, lookup, lookup_frame};
+pub use blocks::{BlockNumbers, FrameNumbers, lookup, lookup_frame};
 pub use finder::{Found, find, find_by};
 pub use finder_px::{FoundPx, columns, find_px, kind_of_number};
-pub use places::{Placed, place_of};
+pub use places::place_of;
 pub use pm::Position;

@@ -5,27 +5,15 @@ ghost use Rattle.queries.specs.Places.{placed, values};
 use pm::Position;
 use runs::Answer;
 
-// The position of a row and a column of PM, or the cell finder's refusal.
-#[derive(Clone, Copy)]
-pub enum Placed {
-    At { position: Position },
-    Refused { answer: Answer },
-}
-
-// Gives block, row in the block, partition and column in the partition of a row and a column of PM.
-pub fn place_of(row: usize, column: usize) -> Placed
+// Gives block, row in the block, partition and column in the partition of a row and a column of PM, or the cell finder's refusal.
+pub fn place_of(row: usize, column: usize) -> Result<Position, Answer>
     ensures { (result ≡ placed row column) × (values result ≡ values (placed row column)) }
 {
     if row >= 512 {
-        return Placed::Refused {
-            answer: Answer::WrongLength(0),
-        };
+        return Err(Answer::WrongLength(0));
     }
     if column >= 720 {
-        return Placed::Refused {
-            answer: Answer::WrongLength(1),
-        };
+        return Err(Answer::WrongLength(1));
     }
-    let position = pm::position_of(row, column);
-    Placed::At { position }
+    Ok(pm::position_of(row, column))
 }

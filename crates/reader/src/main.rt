@@ -7,13 +7,6 @@ use argument_words::Asked;
 use programs::Streams;
 use runs::State;
 
-// The state after an L1 frame, and whether to go on.
-#[derive(Clone, Copy)]
-struct Turned {
-    state: State,
-    go_on: bool,
-}
-
 // Whether to go on: after what was read and written, or, with the word `on`, after a refusal, unless the input has ended.
 fn goes_on(done: bool, good: bool, on: bool, whole: bool) -> bool {
     if done {
@@ -22,7 +15,7 @@ fn goes_on(done: bool, good: bool, on: bool, whole: bool) -> bool {
     on && whole
 }
 
-// Takes L1 frame `frame` from the input, reads it and writes what it returns.
+// Takes L1 frame `frame` from the input, reads it and writes what it returns. Answers the state after it, if the run goes on.
 fn turn(
     rt: &impl Streams,
     on: bool,
@@ -32,7 +25,7 @@ fn turn(
     memory3: &mut [u8],
     memory4: &mut [u8],
     delay: &mut [u8],
-) -> Turned {
+) -> Option<State> {
     let mut out = [0u8; 41313];
     let n = programs::read_full(rt, input);
     let whole = n == input.len();
@@ -49,10 +42,7 @@ fn turn(
     let done = step.done;
     let length = step.length;
     let good = messages::write_step(rt, done, &out[..length]);
-    Turned {
-        state: next,
-        go_on: goes_on(done, good, on, whole),
-    }
+    goes_on(done, good, on, whole).then_some(next)
 }
 
 // Reads L1 frames till the run ends or `count` are read.
@@ -67,14 +57,12 @@ fn read_all(
     delay: &mut [u8],
 ) {
     let mut state = start;
-    let mut frame: u64 = 0;
-    while frame < count {
+    for frame in 0..count {
         let turned = turn(rt, on, state, frame, input, memory3, memory4, delay);
-        if !turned.go_on {
+        let Some(next) = turned else {
             return;
-        }
-        state = turned.state;
-        frame += 1;
+        };
+        state = next;
     }
 }
 
@@ -132,12 +120,14 @@ fn main(rt: HostRuntime) {
         return;
     }
     match argument_words::reading(b"on\0", &words[..n]) {
-        Asked::Run {
-            mode,
-            count,
-            last,
-            ..
-        } => run(&rt, mode, count, last),
-        Asked::Wrong => programs::usage(&rt, line),
+        Some(
+            Asked {
+                mode,
+                count,
+                last,
+                ..
+            },
+        ) => run(&rt, mode, count, last),
+        None => programs::usage(&rt, line),
     }
 }

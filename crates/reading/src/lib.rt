@@ -5,7 +5,7 @@ ghost use Rattle.std.specs.Prelude.{◌≡◌};
 ghost use Rattle.runs.specs.Reading.{read_step};
 ghost use Rattle.calls.specs.Called.{lent, memory, read_gave};
 
-use calls::{ReadOutcome, admit};
+use calls::{FramesMut, MemoryMut, ReadOutcome, Signal, admit};
 use causes::number;
 use modes::reader_lengths;
 use runs::State;
@@ -63,24 +63,30 @@ pub fn read(
     let mut own2 = [0u8; 13664];
     let mut own3 = [0u8; 4608];
     let mut own4 = [0u8; 4608];
-    receiving::receive(
-        state,
+    let mut frames = FramesMut {
         p1,
         pids,
         p2,
         p3,
         p4,
+    };
+    let signal = Signal {
         pm,
         px1,
         px2,
         control,
-        memory3,
-        memory4,
-        delay,
-        &mut own1[..n1],
-        &mut own16,
-        &mut own2[..n2],
-        &mut own3[..n3],
-        &mut own4[..n4],
-    )
+    };
+    let mut memory = MemoryMut {
+        for3: memory3,
+        for4: memory4,
+        delayed: delay,
+    };
+    let mut own = FramesMut {
+        p1: &mut own1[..n1],
+        pids: &mut own16,
+        p2: &mut own2[..n2],
+        p3: &mut own3[..n3],
+        p4: &mut own4[..n4],
+    };
+    receiving::receive(state, &mut frames, &signal, &mut memory, &mut own)
 }

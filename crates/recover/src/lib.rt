@@ -7,7 +7,6 @@ ghost use Rattle.bits.specs.Tests.{lowest};
 ghost use Rattle.coding.specs.declared.Rate.TheVariants.{TwoFifths};
 ghost use Rattle.coding.specs.Buffers.{Buffers, uncoded_each};
 ghost use Rattle.coding.specs.Channel.{no_frame, unchannel};
-ghost use Rattle.runs.specs.declared.Kind.TheVariants.{Narrow, Wide};
 ghost use Rattle.runs.specs.MainChannels.{delay_frames, delay_len, p1_bits, p1_frames, p1_len, p2_bits, p2_len, p1'_len};
 ghost use Rattle.runs.specs.Chain.{fill_bad, frame_bad, frames_of, gathered, p1_coded, p1_of, p2_of, pids_bad, pids_of};
 ghost use Rattle.runs.specs.Paths.{delay_bad, oldest};
@@ -181,34 +180,20 @@ fn decode_px(
     decode_channel(Rate::Half, frames.len() / 8, 8, coded, scrambled, frames)
 }
 
-// The frames of a channel as MP2 has P3. The work arrays of each width stand in a function of their own, so that they share the stack.
-fn recover_narrow(kind: Kind, half: u8, memory: &[u8], px: &[u8], frames: &mut [u8]) -> usize
-    requires { (kind ≡ Narrow) × (half < 2) × (length memory.now ≡ reader_len kind) × (length px.now ≡ matrix_len kind) × (length frames.old ≡ frame_len kind) }
+// The frames of a channel, by work arrays of its lengths. Each width calls an instance of its own, so that the arrays of both share the stack.
+fn recover_by<const MATRICES: usize, const CODED: usize, const SCRAMBLED: usize>(
+    kind: Kind,
+    half: u8,
+    memory: &[u8],
+    px: &[u8],
+    frames: &mut [u8],
+) -> usize
+    requires { (table_row kind < 2) × (MATRICES ≡ reader_len kind) × (CODED ≡ matrix_len kind) × (SCRAMBLED ≡ frame_len kind) × (half < 2) × (length memory.now ≡ reader_len kind) × (length px.now ≡ matrix_len kind) × (length frames.old ≡ frame_len kind) }
     ensures { (result ≡ lowest 8 (frame_bad kind half («push-of» memory.now px.now))) × (frames.new ≡ frames_of kind half («push-of» memory.now px.now)) }
 {
-    let mut three = [0u8; 13824];
-    let mut coded = [0u8; 4608];
-    let mut scrambled = [0u8; 2304];
-    decode_px(
-        kind,
-        half,
-        memory,
-        px,
-        &mut three,
-        &mut coded,
-        &mut scrambled,
-        frames,
-    )
-}
-
-// The frames of a channel as MP3 and MP11 have P3 and P4.
-fn recover_wide(kind: Kind, half: u8, memory: &[u8], px: &[u8], frames: &mut [u8]) -> usize
-    requires { (kind ≡ Wide) × (half < 2) × (length memory.now ≡ reader_len kind) × (length px.now ≡ matrix_len kind) × (length frames.old ≡ frame_len kind) }
-    ensures { (result ≡ lowest 8 (frame_bad kind half («push-of» memory.now px.now))) × (frames.new ≡ frames_of kind half («push-of» memory.now px.now)) }
-{
-    let mut three = [0u8; 27648];
-    let mut coded = [0u8; 9216];
-    let mut scrambled = [0u8; 4608];
+    let mut three = [0u8; MATRICES];
+    let mut coded = [0u8; CODED];
+    let mut scrambled = [0u8; SCRAMBLED];
     decode_px(
         kind,
         half,
@@ -228,8 +213,8 @@ pub fn recover_px(kind: Kind, half: u8, memory: &[u8], px: &[u8], frames: &mut [
 {
     match kind {
         Kind::Unused => 8,
-        Kind::Narrow => recover_narrow(kind, half, memory, px, frames),
-        Kind::Wide => recover_wide(kind, half, memory, px, frames),
+        Kind::Narrow => recover_by::<13824, 4608, 2304>(kind, half, memory, px, frames),
+        Kind::Wide => recover_by::<27648, 9216, 4608>(kind, half, memory, px, frames),
     }
 }
 
@@ -252,14 +237,12 @@ pub fn first_fill(kind: Kind, age: u8, px: &[u8]) -> usize
 fn zero_bytes(x: &[u8]) -> usize
     ensures { (result ≤ length x.now) × ((j : ℕ) → j < result → get_or x.now j 0 ≡ 0) }
 {
-    let mut j: usize = 0;
-    while j < x.len() {
-        if x[j] != 0 {
+    for (j, b) in x.iter().enumerate() {
+        if *b != 0 {
             return j;
         }
-        j += 1;
     }
-    j
+    x.len()
 }
 
 // The lowest cell that is 1; as many as there are where there is none. Bytes of zeros are gone past at once.
@@ -268,12 +251,10 @@ fn first_one(x: &[u8]) -> usize
     ensures { result ≡ lowest (8 * length x.now) (is_one x.now) }
 {
     let n = x.len() * 8;
-    let mut c: usize = zero_bytes(x) * 8;
-    while c < n {
+    for c in zero_bytes(x) * 8..n {
         if bits::get(x, c) == 1 {
             return c;
         }
-        c += 1;
     }
     n
 }

@@ -6,11 +6,9 @@ use programs::Streams;
 // Reads a line and writes what is printed for it. Answers whether to go on.
 fn turn(rt: &impl Streams, number: u64) -> bool {
     let mut text = [0u8; 201];
-    let line = standard_input::read_line(rt, &mut text);
-    if !line.came {
+    let Some(n) = standard_input::read_line(rt, &mut text) else {
         return false;
-    }
-    let n = line.length;
+    };
     let mut out = [0u8; 92];
     let end = celltext::print_restored(number, &text[..n], &mut out);
     programs::write_out(rt, &out[..end])
@@ -18,12 +16,10 @@ fn turn(rt: &impl Streams, number: u64) -> bool {
 
 // Goes through the lines, numbered from 1. A proved loop has to end, so it counts to a number that no run reaches.
 fn answer_all(rt: &impl Streams) {
-    let mut number: u64 = 1;
-    while number < 281474976710656 {
+    for number in 1..281474976710656 {
         if !turn(rt, number) {
             return;
         }
-        number += 1;
     }
 }
 

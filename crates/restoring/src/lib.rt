@@ -11,12 +11,6 @@ ghost use Rattle.restoring.specs.Restored.{Settled, Restored};
 
 use runs::Answer;
 
-fn wide(x: u8) -> usize
-    ensures { result ≡ x }
-{
-    x as usize
-}
-
 // Whether the register e is in a set.
 fn holds(set: u64, e: usize) -> bool
     requires { e < 64 }
@@ -30,7 +24,7 @@ fn beyond(costs: &[u16; 8], all: &[u8; 128], kept: &[u64], j: usize, w: usize) -
     requires { (j < 80) × (w < 128) × Outputs all.now × (length kept.now ≡ 5184) }
     ensures { (cells : List ℕ) → Eight cells j costs.now → Reached cells (suc j) kept.now → result ≡ through cells j w }
 {
-    let y = wide(all[w]);
+    let y = usize::from(all[w]);
     if costs[y] != 0 {
         return 0;
     }
@@ -43,10 +37,8 @@ fn reach_last(kept: &mut [u64])
     requires { length kept.old ≡ 5184 }
     ensures { (cells : List ℕ) → Reached cells 80 kept.new }
 {
-    let mut r: usize = 0;
-    while r < 64 {
+    for r in 0..64 {
         kept[5120 + r] = 1u64 << r;
-        r += 1;
     }
 }
 
@@ -57,12 +49,10 @@ fn reach_step(cells: &[u8], all: &[u8; 128], j: usize, kept: &mut [u64])
 {
     let costs = trellis::eight(cells, j);
     let at = 64 * j;
-    let mut r: usize = 0;
-    while r < 64 {
+    for r in 0..64 {
         let zero = beyond(&costs, all, kept, j, 2 * r);
         let one = beyond(&costs, all, kept, j, 2 * r + 1);
         kept[at + r] = zero | one;
-        r += 1;
     }
 }
 
@@ -72,9 +62,7 @@ fn reach(cells: &[u8], all: &[u8; 128], kept: &mut [u64])
     ensures { Reached cells.now 0 kept.new }
 {
     reach_last(kept);
-    let mut j: usize = 80;
-    while 0 < j {
-        j -= 1;
+    for j in (0..80usize).rev() {
         reach_step(cells, all, j, kept);
     }
 }
@@ -84,12 +72,10 @@ fn next_closed(kept: &[u64], from: usize) -> usize
     requires { (from ≤ 64) × (length kept.now ≡ 5184) }
     ensures { (cells : List ℕ) → Reached cells 0 kept.now → NextClosed cells from result }
 {
-    let mut e = from;
-    while e < 64 {
+    for e in from..64 {
         if holds(kept[e], e) {
             return e;
         }
-        e += 1;
     }
     64
 }
@@ -117,15 +103,13 @@ fn follow(cells: &[u8], all: &[u8; 128], kept: &[u64], e: usize, out: &mut [u8])
     ensures { Followed cells.now e out.new result }
 {
     let mut r = e;
-    let mut j: usize = 0;
-    while j < 80 {
+    for j in 0..80 {
         let b = only_way(cells, all, kept, j, r, e);
         if b == 2 {
             return false;
         }
         bits::put(out, j, b);
         r = (2 * r + b as usize) % 64;
-        j += 1;
     }
     true
 }

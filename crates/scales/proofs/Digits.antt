@@ -1,7 +1,8 @@
 -- Digits walked from the first: whether they are a number of at most so many digits, and what they are worth. Assumes nothing.
-use Rattle.std.proofs.Common.{◌≡◌, ℕ, suc, ◌+◌, ◌-◌, ◌*◌, ◌^◌, ◌<◌, ◌≤◌, Bool, true, false, ◌&&◌, leb, List, [], ◌∷◌, length, get_or, drop, sym, refl, ap, ◌∙◌, subst, true≢false, mul-le-mul_right, mul_assoc, add-mul, pow-suc, add-one, arith, length-drop, drop_of_length-le, drop-cons, le-leb, leb-true}
+use Rattle.std.proofs.Common.{◌≡◌, ℕ, suc, ◌+◌, ◌-◌, ◌*◌, ◌^◌, ◌<◌, ◌≤◌, Bool, true, false, not, ◌&&◌, eqb, leb, List, [], ◌∷◌, length, get_or, drop, sym, refl, ap, ◌∙◌, subst, true≢false, mul-le-mul_right, mul_assoc, add-mul, pow-suc, add-one, arith, pow-add, length-drop, drop_of_length-le, drop-cons, leb-true}
 use native.Mathlib.Nat.{pow-le-pow_right}
-use borrow.Author.Tests.{lt-leb}
+use Rattle.std.proofs.Math.Nat.{mul-lt-mul_of_pos_right}
+use Rattle.std.proofs.Math.Dec.{eqb-suc-zero}
 use Rattle.text.specs.Numbers.{digits_alone, is_digit, is_number, value}
 use Rattle.scales.specs.Scales.{is_short}
 
@@ -9,55 +10,21 @@ pub both : (a b : Bool) → (a && b) ≡ true → (a ≡ true) × (b ≡ true)
 both true b h = (refl, h)
 both false b h = absurd (true≢false (sym h))
 
-pub and-false : (a : Bool) → (a && false) ≡ false
-and-false true = refl
-and-false false = refl
-
-and-true : (a : Bool) → (a && true) ≡ a
-and-true true = refl
-and-true false = refl
-
 -- ---- a byte is below the digits, above them or one of them
 
 module _ (b : ℕ) where
-  under-digits : b < 48 → is_digit b ≡ false
-  unfolding is_digit
-  under-digits h = rw (lt-leb 48 b h)
-
-  over-digits : 57 < b → is_digit b ≡ false
-  unfolding is_digit
-  over-digits h = rw (lt-leb b 57 h) (and-false (leb 48 b))
-
-  a-digit : 48 ≤ b → b ≤ 57 → is_digit b ≡ true
-  unfolding is_digit
-  a-digit h l = rw (le-leb 48 b h, le-leb b 57 l)
-
   digit-bounds : is_digit b ≡ true → (48 ≤ b) × (b ≤ 57)
   unfolding is_digit
   digit-bounds h = (leb-true 48 b (both (leb 48 b) (leb b 57) h).0, leb-true b 57 (both (leb 48 b) (leb b 57) h).1)
 
 -- ---- a number of at most so many digits
 
+pub number_is : (text : List ℕ) → is_number text ≡ (not (eqb (length text) 0) && digits_alone text)
+unfolding is_number
+number_is [] = refl
+number_is (b ∷ text) = rw (eqb-suc-zero (length text))
+
 module _ (most : ℕ) where
-  pub short_none : (text : List ℕ) → length text ≡ 0 → false ≡ is_short most text
-  unfolding is_short is_number
-  short_none [] e = refl
-  short_none (b ∷ text) e = absurd (omega arith)
-
-  pub short-long : (text : List ℕ) → most < length text → false ≡ is_short most text
-  unfolding is_short
-  short-long text h = sym (ap (λ (t : Bool). is_number text && t) (lt-leb (length text) most h) ∙ and-false (is_number text))
-
-  some : (text : List ℕ) → (length text ≡ 0 → ⊥) → is_number text ≡ digits_alone text
-  unfolding is_number
-  some [] e = absurd (e refl)
-  some (b ∷ text) e = refl
-
-  pub short-start : (text : List ℕ) → (length text ≡ 0 → ⊥) → length text ≤ most → is_short most text ≡ digits_alone text
-  unfolding is_short
-  short-start text e h =
-      ap (λ (t : Bool). is_number text && t) (le-leb (length text) most h) ∙ and-true (is_number text) ∙ some text e
-
   alone : (text : List ℕ) → is_number text ≡ true → digits_alone text ≡ true
   unfolding is_number
   alone [] h = absurd (true≢false (sym h))
@@ -77,14 +44,11 @@ module _ (text : List ℕ) (i : ℕ) where
   digits-opened h =
       ap digits_alone (drop-cons text i 0 h) ∙ ap (λ (k : ℕ). is_digit (get_or text i 0) && digits_alone (drop k text)) (sym (add-one i))
 
-  pub digit-under : i < length text → get_or text i 0 < 48 → false ≡ digits_alone (drop i text)
-  digit-under h l = sym (digits-opened h ∙ ap (λ (t : Bool). t && digits_alone (drop (i + 1) text)) (under-digits (get_or text i 0) l))
+  pub digit-not : i < length text → is_digit (get_or text i 0) ≡ false → false ≡ digits_alone (drop i text)
+  digit-not h e = sym (digits-opened h ∙ ap (λ (t : Bool). t && digits_alone (drop (i + 1) text)) e)
 
-  pub digit-over : i < length text → 57 < get_or text i 0 → false ≡ digits_alone (drop i text)
-  digit-over h l = sym (digits-opened h ∙ ap (λ (t : Bool). t && digits_alone (drop (i + 1) text)) (over-digits (get_or text i 0) l))
-
-  pub digit-next : i < length text → 48 ≤ get_or text i 0 → get_or text i 0 ≤ 57 → digits_alone (drop i text) ≡ digits_alone (drop (i + 1) text)
-  digit-next h l m = digits-opened h ∙ ap (λ (t : Bool). t && digits_alone (drop (i + 1) text)) (a-digit (get_or text i 0) l m)
+  pub digit-next : i < length text → is_digit (get_or text i 0) ≡ true → digits_alone (drop i text) ≡ digits_alone (drop (i + 1) text)
+  digit-next h e = digits-opened h ∙ ap (λ (t : Bool). t && digits_alone (drop (i + 1) text)) e
 
   pub digits-end : length text ≤ i → true ≡ digits_alone (drop i text)
   unfolding digits_alone
@@ -151,20 +115,9 @@ value-below (b ∷ text) h =
 
 -- ---- zeros behind them
 
-pub power-ten : (n i : ℕ) → n < 10 ^ i → 10 * n < 10 ^ (i + 1)
-power-ten n i h = rw (add-one i, pow-suc) (omega arith)
-
-module _ (number digits : ℕ) where
-  pub padded-start : number ≡ number * 10 ^ (digits - digits)
-  padded-start = let z : digits - digits ≡ 0 = omega arith in sym (ap (λ (k : ℕ). number * 10 ^ k) z ∙ omega arith)
-
-  module _ (n i : ℕ) where
-    pub padded-next : digits ≤ i → n ≡ number * 10 ^ (i - digits) → 10 * n ≡ number * 10 ^ (i + 1 - digits)
-    padded-next h e =
-        let k : i + 1 - digits ≡ suc (i - digits) = omega arith in
-        let p : number * 10 ^ (i + 1 - digits) ≡ number * 10 ^ (i - digits) * 10
-        = ap (λ (j : ℕ). number * 10 ^ j) k ∙ ap (λ (j : ℕ). number * j) (pow-suc 10 (i - digits)) ∙ sym (mul_assoc number (10 ^ (i - digits)) 10) in
-        omega arith
-
-    pub padded-end : i ≡ 16 → n ≡ number * 10 ^ (i - digits) → n < 10 ^ i → (n ≡ number * 10 ^ (16 - digits)) × (n < 10 ^ 16)
-    padded-end z e l = (e ∙ ap (λ (k : ℕ). number * 10 ^ (k - digits)) z, subst (λ (k : ℕ). n < 10 ^ k) z l)
+module _ (number digits zeros : ℕ) (z : digits + zeros ≡ 16) (h : number < 10 ^ digits) where
+  pub padded_below : number * 10 ^ zeros < 10 ^ 16
+  padded_below =
+      let p : 10 ^ 0 ≤ 10 ^ zeros = pow-le-pow_right {n = 10} (omega arith) {i = 0} {j = zeros} (omega arith) in
+      let m : number * 10 ^ zeros < 10 ^ digits * 10 ^ zeros = mul-lt-mul_of_pos_right h (omega arith) in
+      subst (λ (n : ℕ). number * 10 ^ zeros < n) (sym (pow-add 10 digits zeros) ∙ ap (λ (n : ℕ). 10 ^ n) z) m

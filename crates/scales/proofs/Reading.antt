@@ -1,11 +1,9 @@
 -- A text cut at its point: whether it is a scale, and how many times 10^-16 it is. Assumes nothing.
-use Rattle.std.proofs.Common.{◌≡◌, ℕ, suc, ◌+◌, ◌-◌, ◌*◌, ◌^◌, ◌<◌, ◌≤◌, Bool, true, false, cond, ◌&&◌, ◌||◌, eqb, leb, List, [], length, take, drop, sym, refl, ap, ◌∙◌, ap₂, lt_of_lt_of_le, mul_comm, arith, drop_of_length-le, eq-eqb, ne_eqb, le-leb, leb-true}
+use Rattle.std.proofs.Common.{Option, None, ◌≡◌, ℕ, suc, ◌+◌, ◌-◌, ◌*◌, ◌^◌, ◌<◌, ◌≤◌, Bool, true, false, cond, ◌&&◌, ◌||◌, eqb, leb, List, [], length, take, drop, sym, refl, ap, ◌∙◌, ap₂, lt_of_lt_of_le, mul_comm, arith, drop_of_length-le, eq-eqb, ne_eqb, le-leb, leb-true}
 use native.Mathlib.Nat.{pow-le-pow_right}
 use Rattle.text.specs.Lines.{after, before}
 use Rattle.text.specs.Numbers.{is_number, value}
 use Rattle.text.proofs.Ends.{after-dropped, after-part, before-taken}
-use Rattle.scales.specs.declared.Typed.{Typed}
-use Rattle.scales.specs.declared.Typed.TheVariants.{NotExact}
 use Rattle.scales.specs.Scales.{exact_of, is_scale, is_short, point, scale_of, decimals}
 use Rattle.scales.proofs.Digits.{both, short-digits, value-below}
 
@@ -43,15 +41,15 @@ module _ (text : List ℕ) (end : ℕ) (e : end ≡ length (before point text)) 
   second : (t : Bool) → is_short 16 (take (length text - (end + 1)) (drop (end + 1) text)) ≡ t → is_short 16 (after point text) ≡ t
   second t h = sym (ap (is_short 16) behind-is) ∙ h
 
-  abbrev answer : Bool → Bool → Bool → Typed
-  answer a b d = cond (a && (b || d)) (exact_of (decimals text)) NotExact
+  abbrev answer : Bool → Bool → Bool → Option ℕ
+  answer a b d = cond (a && (b || d)) (exact_of (decimals text)) None
 
   answers : (a b d : Bool) → is_short 3 (before point text) ≡ a → eqb (length (before point text)) (length text) ≡ b → is_short 16 (after point text) ≡ d
       → answer a b d ≡ scale_of text
   unfolding scale_of is_scale
   answers a b d p q r = rw (← p, ← q, ← r)
 
-  pub no_number : is_short 3 (take end text) ≡ false → NotExact ≡ scale_of text
+  pub no_number : is_short 3 (take end text) ≡ false → None ≡ scale_of text
   no_number h = answers false _ _ (first false h) refl refl
 
   module _ (h : is_short 3 (take end text) ≡ true) where
@@ -66,7 +64,7 @@ module _ (text : List ℕ) (end : ℕ) (e : end ≡ length (before point text)) 
         ap exact_of worth ∙ answers true true _ (first true h) (eq-eqb _ _ (sym e ∙ l)) refl
 
     module _ (l : end ≡ length text → ⊥) where
-      pub no_fraction : is_short 16 (take (length text - (end + 1)) (drop (end + 1) text)) ≡ false → NotExact ≡ scale_of text
+      pub no_fraction : is_short 16 (take (length text - (end + 1)) (drop (end + 1) text)) ≡ false → None ≡ scale_of text
       no_fraction b = answers true false false (first true h) (ne_eqb _ _ (λ z. l (e ∙ z))) (second false b)
 
       pub both-parts : is_short 16 (take (length text - (end + 1)) (drop (end + 1) text)) ≡ true → (n : ℕ)

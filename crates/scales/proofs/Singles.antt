@@ -1,71 +1,11 @@
 -- Which numbers of times 2^-16 single precision has, and that they come out exactly. Assumes nothing.
-use Rattle.std.proofs.Common.{◌≡◌, ℕ, ◌+◌, ◌*◌, ◌/◌, ◌%◌, ◌^◌, ◌<◌, ◌≤◌, Bool, true, false, cond, ◌&&◌, ◌||◌, eqb, ltb, ◌⊎◌, pos, sym, refl, ap, ◌∙◌, subst, inl, inr, lt_of_lt_of_le, mul_assoc, mul_comm, mul-pos, arith, pow_mono, shl_lt, ltb-true, le-ltb, lt-ltb, eq-eqb, ne_eqb, eqb-true}
+use Rattle.std.proofs.Common.{◌≡◌, ℕ, ◌+◌, ◌*◌, ◌/◌, ◌%◌, ◌^◌, ◌<◌, ◌≤◌, Bool, true, false, ◌&&◌, ◌||◌, eqb, ltb, ◌⊎◌, pos, sym, refl, ap, ◌∙◌, subst, inl, inr, lt_of_lt_of_le, mul_assoc, mul_comm, mul-pos, arith, pow_mono, shl_lt, ltb-true, eqb-true}
 use lib.Ieee.{Float, nan, inf, fin, binary32, div, of_bits, of_int, round, unlike, up, down}
 use lib.Ieee.Exact.{HasValue, round_exact}
 use lib.Ieee.Fits.{down_pos}
 use lib.Ieee.Scale.{round_same}
-use Rattle.scales.specs.declared.Typed.TheVariants.{Times, NotExact}
-use Rattle.scales.specs.Scales.{exact_of, is_single}
+use Rattle.scales.specs.Scales.{is_single}
 use Rattle.scales.proofs.Digits.{both}
-
--- ---- the cases of `exact`
-
-module _ (n : ℕ) where
-  pub not-divided : (n % 152587890625 ≡ 0 → ⊥) → NotExact ≡ exact_of n
-  unfolding exact_of
-  not-divided h = sym (ap (λ (t : Bool). cond (t && is_single (n / 5 ^ 16)) (Times (n / 5 ^ 16)) NotExact) (ne_eqb (n % 5 ^ 16) 0 h))
-
-  module _ (d : n % 152587890625 ≡ 0) where
-    decided : exact_of n ≡ cond (is_single (n / 5 ^ 16)) (Times (n / 5 ^ 16)) NotExact
-    unfolding exact_of
-    decided = ap (λ (t : Bool). cond (t && is_single (n / 5 ^ 16)) (Times (n / 5 ^ 16)) NotExact) (eq-eqb (n % 5 ^ 16) 0 d)
-
-    pub taken : is_single (n / 152587890625) ≡ true → Times (n / 152587890625) ≡ exact_of n
-    taken e = sym (decided ∙ ap (λ (t : Bool). cond t (Times (n / 5 ^ 16)) NotExact) e)
-
-    pub left_out : is_single (n / 152587890625) ≡ false → NotExact ≡ exact_of n
-    left_out e = sym (decided ∙ ap (λ (t : Bool). cond t (Times (n / 5 ^ 16)) NotExact) e)
-
-module _ (times : ℕ) where
-  pub single-24 : times < 16777216 → is_single times ≡ true
-  unfolding is_single
-  single-24 h = rw (lt-ltb times 16777216 h)
-
-  module _ (h : 16777216 ≤ times) where
-    pub odd-out : (times % 2 ≡ 0 → ⊥) → is_single times ≡ false
-    unfolding is_single
-    odd-out o =
-        let four : times % 4 ≡ 0 → ⊥ = λ e. o (omega arith) in
-        rw (le-ltb times 16777216 h, ne_eqb (times % 2) 0 o, ne_eqb (times % 4) 0 four) (go (ltb times 33554432) (ltb times 67108864))
-      where
-        go : (a b : Bool) → ((a && false) || (b && false)) ≡ false
-        go true true = refl
-        go true false = refl
-        go false true = refl
-        go false false = refl
-
-    pub single-25 : times % 2 ≡ 0 → times < 33554432 → is_single times ≡ true
-    unfolding is_single
-    single-25 e l = rw (le-ltb times 16777216 h, lt-ltb times 33554432 l, eq-eqb (times % 2) 0 e)
-
-  module _ (h : 33554432 ≤ times) where
-    pub fourths-out : (times % 4 ≡ 0 → ⊥) → is_single times ≡ false
-    unfolding is_single
-    fourths-out o =
-        let low : 16777216 ≤ times = omega arith in
-        rw (le-ltb times 16777216 low, le-ltb times 33554432 h, ne_eqb (times % 4) 0 o) (go (ltb times 67108864))
-      where
-        go : (b : Bool) → (b && false) ≡ false
-        go true = refl
-        go false = refl
-
-    pub single-26 : times % 4 ≡ 0 → times < 67108864 → is_single times ≡ true
-    unfolding is_single
-    single-26 e l =
-        let low : 16777216 ≤ times = omega arith in
-        rw (le-ltb times 16777216 low, le-ltb times 33554432 h, lt-ltb times 67108864 l, eq-eqb (times % 4) 0 e)
-
--- ---- the number that comes out
 
 either : (a b : Bool) → (a || b) ≡ true → (a ≡ true) ⊎ (b ≡ true)
 either true b h = inl refl

@@ -1,9 +1,7 @@
 -- House matter (document 02, S-7): a scale as the program `vector` takes it, in decimal, and which of them are numbers of single precision.
-use Rattle.std.specs.Prelude.{ℕ, ◌+◌, ◌-◌, ◌*◌, ◌/◌, ◌%◌, ◌^◌, Bool, cond, ◌&&◌, ◌||◌, List, length, ◌==◌, nat_le, nat_lt}
+use Rattle.std.specs.Prelude.{ℕ, ◌+◌, ◌-◌, ◌*◌, ◌/◌, ◌%◌, ◌^◌, Bool, cond, ◌&&◌, ◌||◌, List, length, ◌==◌, nat_le, nat_lt, Option, Some, None}
 use Rattle.text.specs.Lines.{after, before}
 use Rattle.text.specs.Numbers.{is_number, value}
-use Rattle.scales.specs.declared.Typed.{Typed}
-use Rattle.scales.specs.declared.Typed.TheVariants.{Times, NotExact}
 
 -- the point, in ASCII
 abbrev pub point : ℕ
@@ -27,8 +25,8 @@ is_single times =
     nat_lt times (2 ^ 24) || ((nat_lt times (2 ^ 25) && times % 2 == 0) || (nat_lt times (2 ^ 26) && times % 4 == 0))
 
 -- n times 10^-16 as times 2^-16: exactly, or not taken
-unfoldable pub exact_of : (n : ℕ) → Typed
-exact_of n = cond (n % 5 ^ 16 == 0 && is_single (n / 5 ^ 16)) (Times (n / 5 ^ 16)) NotExact
+unfoldable pub exact_of : (n : ℕ) → Option ℕ
+exact_of n = cond (n % 5 ^ 16 == 0 && is_single (n / 5 ^ 16)) (Some (n / 5 ^ 16)) None
 
-unfoldable pub scale_of : List ℕ → Typed
-scale_of text = cond (is_scale text) (exact_of (decimals text)) NotExact
+unfoldable pub scale_of : List ℕ → Option ℕ
+scale_of text = cond (is_scale text) (exact_of (decimals text)) None

@@ -3,37 +3,27 @@
 
 ghost use Rattle.std.specs.Prelude.{◌≡◌, ◌-◌, ◌*◌, ◌^◌, ◌<◌, ◌≤◌, true, false};
 ghost use Rattle.std.specs.Float.Ieee.Exact.{HasValue};
-ghost use Rattle.text.specs.Numbers.{value};
+ghost use Rattle.text.specs.Numbers.{digits_alone, value};
 ghost use Rattle.scales.specs.Scales.{exact_of, is_short, is_single, scale_of};
 
-// How many times 2^-16 a scale is.
-#[derive(Clone, Copy)]
-pub enum Typed {
-    Times(u32),
-    NotExact,
+// Whether a text is digits alone.
+fn are_digits(text: &[u8]) -> bool
+    ensures { result ≡ digits_alone text.now }
+{
+    for byte in text {
+        if !byte.is_ascii_digit() {
+            return false;
+        }
+    }
+    true
 }
 
 // Whether a text is a number of at most so many digits.
+#[tactic(auto, using(crate::proofs::Digits::number_is), unfolding(crate::specs::Scales::is_short))]
 fn is_short(text: &[u8], most: usize) -> bool
     ensures { result ≡ is_short most text.now }
 {
-    if text.len() == 0 {
-        return false;
-    }
-    if text.len() > most {
-        return false;
-    }
-    let mut i: usize = 0;
-    while i < text.len() {
-        if text[i] < b'0' {
-            return false;
-        }
-        if text[i] > b'9' {
-            return false;
-        }
-        i += 1;
-    }
-    true
+    !text.is_empty() && text.len() <= most && are_digits(text)
 }
 
 // What digits are worth.
@@ -42,10 +32,8 @@ fn worth(text: &[u8]) -> u64
     ensures { result ≡ value text.now }
 {
     let mut n: u64 = 0;
-    let mut i: usize = 0;
-    while i < text.len() {
-        n = 10 * n + (text[i] - 48) as u64;
-        i += 1;
+    for byte in text {
+        n = 10 * n + u64::from(byte - b'0');
     }
     n
 }
@@ -55,47 +43,41 @@ fn padded(number: u64, digits: usize) -> u64
     requires { (digits ≤ 16) × (number < 10 ^ digits) }
     ensures { (result ≡ number * 10 ^ (16 - digits)) × (result < 10 ^ 16) }
 {
-    let mut n = number;
-    let mut i = digits;
-    while i < 16 {
-        n = 10 * n;
-        i += 1;
-    }
-    n
+    let zeros = 16 - digits;
+    number * 10u64.pow(zeros as u32)
+}
+
+// Whether single precision has so many times 2^-16.
+#[tactic(auto, unfolding(crate::specs::Scales::is_single))]
+fn is_single(times: u32) -> bool
+    ensures { result ≡ is_single times }
+{
+    times < 16_777_216
+        || (times < 33_554_432 && times % 2 == 0)
+        || (times < 67_108_864 && times % 4 == 0)
 }
 
 // So many times 10^-16 as times 2^-16, if single precision has it.
-fn exact(n: u64) -> Typed
+#[tactic(auto, unfolding(crate::specs::Scales::exact_of))]
+fn exact(n: u64) -> Option<u32>
     requires { n < 1000 * 10 ^ 16 }
     ensures { result ≡ exact_of n }
 {
     if n % 152_587_890_625 != 0 {
-        return Typed::NotExact;
+        return None;
     }
     let times = (n / 152_587_890_625) as u32;
-    if times < 16_777_216 {
-        return Typed::Times(times);
-    }
-    if times % 2 != 0 {
-        return Typed::NotExact;
-    }
-    if times < 33_554_432 {
-        return Typed::Times(times);
-    }
-    if times % 4 != 0 {
-        return Typed::NotExact;
-    }
-    Typed::Times(times)
+    is_single(times).then_some(times)
 }
 
-// The scale that a text gives.
-pub fn scale_of(text: &[u8]) -> Typed
+// The scale that a text gives: how many times 2^-16.
+pub fn scale_of(text: &[u8]) -> Option<u32>
     ensures { result ≡ scale_of text.now }
 {
     let end = text::end_of(text, 0, b'.');
     let whole = &text[..end];
     if !is_short(whole, 3) {
-        return Typed::NotExact;
+        return None;
     }
     let high = worth(whole);
     if end == text.len() {
@@ -104,7 +86,7 @@ pub fn scale_of(text: &[u8]) -> Typed
     let next = end + 1;
     let behind = &text[next..];
     if !is_short(behind, 16) {
-        return Typed::NotExact;
+        return None;
     }
     let low = padded(worth(behind), behind.len());
     exact(10_000_000_000_000_000 * high + low)

@@ -88,9 +88,6 @@ word-law w =
 pub index_below : (n : ℕ) → bit_and n 15 < 16
 index_below n = mask_lt n 4
 
-pub offset-below : (n : ℕ) → bit_and n 15 * 4 < 2 ^ 64
-offset-below n = omega (arith, index_below n)
-
 pub ahead-at : (ring : List ℕ) (w d j : ℕ) → Ahead ring w → d < 11 → j ≡ (w + d) % 16 → get_or ring j 0 ≡ word_of (w + d)
 ahead-at ring w d j a h e = rw e (a.words d h)
 

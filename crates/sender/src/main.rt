@@ -7,14 +7,7 @@ use arguments::Sending;
 use programs::Streams;
 use runs::State;
 
-// The state after an L1 frame, and whether it went out.
-#[derive(Clone, Copy)]
-struct Turned {
-    state: State,
-    good: bool,
-}
-
-// Reads L1 frame `frame`, sends it and writes it.
+// Reads L1 frame `frame`, sends it and writes it. Answers the state after it, if it went out.
 fn turn(
     rt: &impl Streams,
     state: State,
@@ -25,7 +18,7 @@ fn turn(
     memory3: &mut [u8],
     memory4: &mut [u8],
     delay: &mut [u8],
-) -> Turned {
+) -> Option<State> {
     let mut out = [0u8; 77824];
     let n = programs::read_full(rt, input);
     let step = sender_step::send_bytes(
@@ -42,7 +35,7 @@ fn turn(
     let next = step.state;
     let length = step.length;
     let good = messages::write_step(rt, step.done, &out[..length]);
-    Turned { state: next, good }
+    good.then_some(next)
 }
 
 // Sends L1 frames till one is refused, and answers whether `count` are sent.
@@ -58,14 +51,12 @@ fn send_all(
     delay: &mut [u8],
 ) -> bool {
     let mut state = start;
-    let mut frame: u64 = 0;
-    while frame < count {
+    for frame in 0..count {
         let turned = turn(rt, state, frame, n3, n4, input, memory3, memory4, delay);
-        if !turned.good {
+        let Some(next) = turned else {
             return false;
-        }
-        state = turned.state;
-        frame += 1;
+        };
+        state = next;
     }
     true
 }
@@ -109,7 +100,13 @@ fn begin(
 }
 
 // The buffers of a run, each of its length in this mode.
-fn run(rt: &impl Streams, mode: u8, count: u64, dump: bool, n3: usize, n4: usize) {
+fn run(rt: &impl Streams, sending: Sending, dump: bool) {
+    let Sending {
+        mode,
+        count,
+        n3,
+        n4,
+    } = sending;
     let want = modes::sender_lengths(mode);
     let mut input = [0u8; 27649];
     let mut memory3 = [0u8; 18432];
@@ -134,42 +131,20 @@ fn run(rt: &impl Streams, mode: u8, count: u64, dump: bool, n3: usize, n4: usize
     messages::check_end(rt, good, count);
 }
 
-// A run whose L1 frames a dump can hold, where one is wanted.
-fn run_held(
-    rt: &impl Streams,
-    mode: u8,
-    count: u64,
-    dump: bool,
-    n3: usize,
-    n4: usize,
-    line: &[u8],
-) {
+// What is to be sent, and whether a dump's header goes out before it. The L1 frames of a dump are 65,535 at most.
+fn asked(words: &[u8]) -> Option<(Sending, bool)> {
+    let Asked {
+        mode,
+        count,
+        without3,
+        without4,
+        last: dump,
+    } = argument_words::sending(b"dump\0", words)?;
     if dump && count > 65535 {
-        programs::usage(rt, line);
-    } else {
-        run(rt, mode, count, dump, n3, n4);
+        return None;
     }
-}
-
-// What the channels without data leave of the input.
-fn with_channels(
-    rt: &impl Streams,
-    mode: u8,
-    count: u64,
-    dump: bool,
-    without3: bool,
-    without4: bool,
-    line: &[u8],
-) {
-    match arguments::sending_of(mode, count, without3, without4) {
-        Sending::Run {
-            mode,
-            count,
-            n3,
-            n4,
-        } => run_held(rt, mode, count, dump, n3, n4, line),
-        Sending::Wrong => programs::usage(rt, line),
-    }
+    let sending = arguments::sending_of(mode, count, without3, without4)?;
+    Some((sending, dump))
 }
 
 fn main(rt: HostRuntime) {
@@ -180,14 +155,8 @@ fn main(rt: HostRuntime) {
     if programs::gives_help(&rt, line, &words[..n]) {
         return;
     }
-    match argument_words::sending(b"dump\0", &words[..n]) {
-        Asked::Run {
-            mode,
-            count,
-            without3,
-            without4,
-            last,
-        } => with_channels(&rt, mode, count, last, without3, without4, line),
-        Asked::Wrong => programs::usage(&rt, line),
+    match asked(&words[..n]) {
+        Some((sending, dump)) => run(&rt, sending, dump),
+        None => programs::usage(&rt, line),
     }
 }

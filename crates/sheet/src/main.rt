@@ -16,7 +16,14 @@ fn tell(rt: &impl Streams, text: &[u8]) {
 }
 
 // Reads the input, all of it that can matter, and writes the sheet.
-fn run(rt: &impl Streams, mode: u8, count: u64, without3: bool, without4: bool, work: bool) {
+fn run(rt: &impl Streams, asked: Asked) {
+    let Asked {
+        mode,
+        count,
+        without3,
+        without4,
+        last: work,
+    } = asked;
     let mut input = programs::sheet_input();
     let n = programs::read_full(rt, &mut input);
     let mut out = programs::sheet_text();
@@ -34,13 +41,7 @@ fn main(rt: HostRuntime) {
         return;
     }
     match argument_words::sending(b"work\0", &words[..n]) {
-        Asked::Run {
-            mode,
-            count,
-            without3,
-            without4,
-            last,
-        } => run(&rt, mode, count, without3, without4, last),
-        Asked::Wrong => programs::usage(&rt, line),
+        Some(asked) => run(&rt, asked),
+        None => programs::usage(&rt, line),
     }
 }

@@ -3,19 +3,11 @@ ghost use Rattle.std.specs.Prelude.{◌≡◌, true, ◌&&◌, ◌+◌, ◌*◌,
 ghost use Rattle.sheetinputs.specs.Inputs.{empty_at, empty_line, frame_size, named, older};
 
 // Whether a mode is MP1, MP2, MP3 or MP11.
+#[tactic(auto, unfolding(crate::specs::Inputs::older))]
 pub fn is_older(mode: u8) -> bool
     ensures { result ≡ older mode }
 {
-    if mode == 1 {
-        return true;
-    }
-    if mode == 2 {
-        return true;
-    }
-    if mode == 3 {
-        return true;
-    }
-    mode == 11
+    matches!(mode, 1 | 2 | 3 | 11)
 }
 
 // Whether the mode has the channels that are said to be without data.
@@ -65,15 +57,13 @@ pub fn empty_line(input: &[u8]) -> usize
     ensures { (result ≡ empty_line true input.now) × (result ≤ length input.now) }
 {
     let mut fresh = true;
-    let mut i: usize = 0;
-    while i < input.len() {
+    for i in 0..input.len() {
         if ends(fresh, empty_at(input, i)) {
             return i;
         }
         fresh = input[i] == b'\n';
-        i += 1;
     }
-    i
+    input.len()
 }
 
 // The bytes of an L1 frame.

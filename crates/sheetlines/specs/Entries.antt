@@ -1,20 +1,19 @@
 -- House matter: what an answer sheet says of a cell or of a coded bit that is asked for. The sheet is of the first `count` L1 frames of a sender's run.
-use Rattle.std.specs.Prelude.{ℕ, ◌+◌, ◌-◌, ◌*◌, min, cond, ltb}
+use Rattle.std.specs.Prelude.{ℕ, ◌+◌, ◌-◌, ◌*◌, min, cond, ltb, Option, Some, None, Result, Ok, Err}
+use Rattle.runs.specs.declared.Answer.{Answer}
 use Rattle.runs.specs.Starting.{state_at}
 use Rattle.queries.specs.Finder.{found}
 use Rattle.queries.specs.declared.finder.Found.{Found}
-use Rattle.queries.specs.declared.finder.Found.TheVariants.{P1, Pids, Refused as pm-refused}
+use Rattle.queries.specs.declared.finder.Found.TheVariants.{P1, Pids}
 use Rattle.queries.specs.FinderPX.{cell_of, found_px, kind_of_number}
 use Rattle.queries.specs.declared.finder_px.FoundPx.{FoundPx}
-use Rattle.queries.specs.declared.finder_px.FoundPx.TheVariants.{Coded, Fill as found-fill, Refused as px-refused}
+use Rattle.queries.specs.declared.finder_px.FoundPx.TheVariants.{Coded, Fill as found-fill}
 use Rattle.locating.specs.Locator.{located}
 use Rattle.locating.specs.declared.locator.Located.{Located}
-use Rattle.locating.specs.declared.locator.Located.TheVariants.{At, Refused as not-located}
 use Rattle.locating.specs.LocatorPX.{located_px}
 use Rattle.locating.specs.declared.locator_px.LocatedPx.{LocatedPx}
-use Rattle.locating.specs.declared.locator_px.LocatedPx.TheVariants.{At as AtPX, Refused as not-located-px}
 use Rattle.sheetlines.specs.declared.questions.Question.{Question}
-use Rattle.sheetlines.specs.declared.questions.Question.TheVariants.{Bit, Pm, Px, Wrong}
+use Rattle.sheetlines.specs.declared.questions.Question.TheVariants.{Bit, Pm, Px}
 use Rattle.sheetlines.specs.declared.entries.Entry.{Entry}
 use Rattle.sheetlines.specs.declared.entries.Entry.TheVariants.{Stands, Fill, Refused}
 
@@ -32,25 +31,25 @@ in_px mode channel from sent frame bit pair row column =
 
 -- ---- from the cell: a bit of P3 or P4 was coded in an earlier L1 frame or in the same
 
-abbrev pub pm_entry : (t row column : ℕ) → Found → Entry
-pm_entry t row column (P1 bit) = in_pm t 1 0 bit row column
-pm_entry t row column (Pids frame bit) = in_pm t 2 frame bit row column
-pm_entry t row column (pm-refused answer) = Refused
+abbrev pub pm_entry : (t row column : ℕ) → Result Found Answer → Entry
+pm_entry t row column (Ok (P1 bit)) = in_pm t 1 0 bit row column
+pm_entry t row column (Ok (Pids frame bit)) = in_pm t 2 frame bit row column
+pm_entry t row column (Err answer) = Refused
 
-abbrev pub px_entry : (mode channel sent pair row column : ℕ) → FoundPx → Entry
-px_entry mode channel sent pair row column (Coded earlier frame bit) = in_px mode channel (sent - earlier) sent frame bit pair row column
-px_entry mode channel sent pair row column found-fill = Fill sent
-px_entry mode channel sent pair row column (px-refused answer) = Refused
+abbrev pub px_entry : (mode channel sent pair row column : ℕ) → Result FoundPx Answer → Entry
+px_entry mode channel sent pair row column (Ok (Coded earlier frame bit)) = in_px mode channel (sent - earlier) sent frame bit pair row column
+px_entry mode channel sent pair row column (Ok found-fill) = Fill sent
+px_entry mode channel sent pair row column (Err answer) = Refused
 
 -- ---- from the bit: one of P3 or P4 is sent in a later L1 frame or in the same
 
-abbrev pub pm_placed : (t channel frame bit : ℕ) → Located → Entry
-pm_placed t channel frame bit (At position row column) = in_pm t channel frame bit row column
-pm_placed t channel frame bit (not-located answer) = Refused
+abbrev pub pm_placed : (t channel frame bit : ℕ) → Result Located Answer → Entry
+pm_placed t channel frame bit (Ok cell) = in_pm t channel frame bit cell.row cell.column
+pm_placed t channel frame bit (Err answer) = Refused
 
-abbrev pub px_placed : (mode channel from frame bit : ℕ) → LocatedPx → Entry
-px_placed mode channel from frame bit (AtPX later pair row column) = in_px mode channel from (from + later) frame bit pair row column
-px_placed mode channel from frame bit (not-located-px answer) = Refused
+abbrev pub px_placed : (mode channel from frame bit : ℕ) → Result LocatedPx Answer → Entry
+px_placed mode channel from frame bit (Ok cell) = in_px mode channel from (from + cell.later) frame bit cell.pair cell.row cell.column
+px_placed mode channel from frame bit (Err answer) = Refused
 
 unfoldable pub bit_entry : (mode channel from frame bit : ℕ) → Entry
 bit_entry mode channel from frame bit =
@@ -59,12 +58,12 @@ bit_entry mode channel from frame bit =
     (px_placed mode channel from frame bit (located_px (state_at mode 0 from) channel frame bit))
 
 -- a line that asks for nothing, or for something of an L1 frame that is not sent, is refused
-unfoldable pub entry_of : (mode count : ℕ) → Question → Entry
-entry_of mode count (Pm frame row column) = cond (ltb frame count) (pm_entry frame row column (found row column)) Refused
-entry_of mode count (Px frame channel pair row column) =
+unfoldable pub entry_of : (mode count : ℕ) → Option Question → Entry
+entry_of mode count (Some (Pm frame row column)) = cond (ltb frame count) (pm_entry frame row column (found row column)) Refused
+entry_of mode count (Some (Px frame channel pair row column)) =
     cond (ltb frame count) (px_entry mode channel frame pair row column (found_px (state_at mode 0 frame) channel pair row column)) Refused
-entry_of mode count (Bit frame channel tframe bit) = cond (ltb frame count) (bit_entry mode channel frame tframe bit) Refused
-entry_of mode count Wrong = Refused
+entry_of mode count (Some (Bit frame channel tframe bit)) = cond (ltb frame count) (bit_entry mode channel frame tframe bit) Refused
+entry_of mode count None = Refused
 
 -- among the answers of which L1 frame it stands: of that in which the cell is sent; `count` where that is none of the run's, and where nothing is answered
 unfoldable pub turn_of : (count : ℕ) → Entry → ℕ

@@ -3,15 +3,13 @@
 --     FRAME PX1 PAIR ROW COL        (PX2 likewise)
 --     FRAME P1 TFRAME BIT           (PIDS, P3, P4 likewise)
 -- One space parts two words. The last word is all that is left, so a space too many stands in it, and it is no number.
-use Rattle.std.specs.Prelude.{ℕ, cond, List, eqb, ltb}
+use Rattle.std.specs.Prelude.{ℕ, cond, List, eqb, ltb, Option, Some, None}
 use Rattle.bits.specs.Tests.{same}
 use Rattle.operands.specs.Operands.{operand_of}
-use Rattle.operands.specs.declared.Operand.{Operand}
-use Rattle.operands.specs.declared.Operand.TheVariants.{Number, NotDecimal}
 use Rattle.text.specs.Letters.{ascii}
 use Rattle.text.specs.Lines.{after, before, plain, space}
 use Rattle.sheetlines.specs.declared.questions.Question.{Question}
-use Rattle.sheetlines.specs.declared.questions.Question.TheVariants.{Bit, Pm, Px, Wrong}
+use Rattle.sheetlines.specs.declared.questions.Question.TheVariants.{Bit, Pm, Px}
 
 -- the first word, and what follows the space after it
 abbrev pub word : List ℕ → List ℕ
@@ -21,9 +19,9 @@ abbrev pub rest : List ℕ → List ℕ
 rest = after space
 
 -- what is asked with a number; a word that is no number makes the line wrong
-abbrev pub with : Operand → (ℕ → Question) → Question
-with (Number n) asked = asked n
-with NotDecimal asked = Wrong
+abbrev pub with : Option ℕ → (ℕ → Option Question) → Option Question
+with (Some n) asked = asked n
+with None asked = None
 
 -- the name's number: 0 for PM, 1 to 4 for the channels P1, PIDS, P3 and P4; 5: it is none of these
 unfoldable pub named : List ℕ → ℕ
@@ -36,10 +34,10 @@ named name =
     5))))
 
 -- what two numbers ask for behind it: ROW COL, or TFRAME BIT
-unfoldable pub two : (name frame first second : ℕ) → Question
-two name frame first second = cond (eqb name 0) (Pm frame first second) (cond (ltb name 5) (Bit frame name first second) Wrong)
+unfoldable pub two : (name frame first second : ℕ) → Option Question
+two name frame first second = cond (eqb name 0) (Some (Pm frame first second)) (cond (ltb name 5) (Some (Bit frame name first second)) None)
 
-unfoldable pub two_question : (name : ℕ) (frame place : List ℕ) → Question
+unfoldable pub two_question : (name : ℕ) (frame place : List ℕ) → Option Question
 two_question name frame place =
     with (operand_of frame) (λ f.
     with (operand_of (word place)) (λ first.
@@ -47,13 +45,13 @@ two_question name frame place =
     two name f first second)))
 
 -- PAIR ROW COL
-unfoldable pub px_question : (channel : ℕ) (frame place : List ℕ) → Question
+unfoldable pub px_question : (channel : ℕ) (frame place : List ℕ) → Option Question
 px_question channel frame place =
     with (operand_of frame) (λ f.
     with (operand_of (word place)) (λ pair.
     with (operand_of (word (rest place))) (λ row.
     with (operand_of (rest (rest place))) (λ column.
-    Px f channel pair row column))))
+    Some (Px f channel pair row column)))))
 
 abbrev pub named_px1 : List ℕ
 named_px1 = ascii "PX1"
@@ -62,15 +60,15 @@ abbrev pub named_px2 : List ℕ
 named_px2 = ascii "PX2"
 
 -- PX1 brings channel P3, PX2 channel P4
-unfoldable pub asking : (frame name place : List ℕ) → Question
+unfoldable pub asking : (frame name place : List ℕ) → Option Question
 asking frame name place =
     cond (same name named_px1) (px_question 3 frame place)
     (cond (same name named_px2) (px_question 4 frame place)
     (two_question (named name) frame place))
 
-unfoldable pub plain_question : (line : List ℕ) → Question
+unfoldable pub plain_question : (line : List ℕ) → Option Question
 plain_question line = asking (word line) (word (rest line)) (rest (rest line))
 
 -- a CR before the newline is not part of the line
-unfoldable pub question_of : (line : List ℕ) → Question
+unfoldable pub question_of : (line : List ℕ) → Option Question
 question_of line = plain_question (plain line)

@@ -9,7 +9,6 @@ ghost use Rattle.locating.specs.LocatorPX.{located_px};
 ghost use Rattle.sheetlines.specs.Entries.{bit_entry, entry_of, in_pm, in_px, pm_entry, pm_placed, px_entry, px_placed, turn_of};
 
 use crate::questions::Question;
-use locating::{Located, LocatedPx};
 use queries::{Found, FoundPx};
 use runs::State;
 
@@ -129,9 +128,9 @@ fn pm_entry(table: &[u16; 1152], t: u64, row: usize, column: usize) -> Entry
     ensures { result ≡ pm_entry t row column (found row column) }
 {
     match queries::find_by(table, row, column) {
-        Found::P1 { bit } => in_pm(t, 1, 0, bit, row, column),
-        Found::Pids { frame, bit } => in_pm(t, 2, frame, bit, row, column),
-        Found::Refused { answer: _ } => Entry::Refused,
+        Ok(Found::P1 { bit }) => in_pm(t, 1, 0, bit, row, column),
+        Ok(Found::Pids { frame, bit }) => in_pm(t, 2, frame, bit, row, column),
+        Err(_) => Entry::Refused,
     }
 }
 
@@ -140,12 +139,8 @@ fn pm_placed(t: u64, channel: u8, frame: usize, bit: usize) -> Entry
     ensures { result ≡ pm_placed t channel frame bit (located channel frame bit) }
 {
     match locating::locate(channel, frame, bit) {
-        Located::At {
-            position: _,
-            row,
-            column,
-        } => in_pm(t, channel, frame, bit, row, column),
-        Located::Refused { answer: _ } => Entry::Refused,
+        Ok(cell) => in_pm(t, channel, frame, bit, cell.row, cell.column),
+        Err(_) => Entry::Refused,
     }
 }
 
@@ -155,16 +150,18 @@ fn px_entry(mode: u8, sent: u64, channel: u8, pair: usize, row: usize, column: u
 {
     let state = state_before(mode, sent);
     match queries::find_px(state, channel, pair, row, column) {
-        FoundPx::Coded {
-            earlier,
-            frame,
-            bit,
-        } => {
+        Ok(
+            FoundPx::Coded {
+                earlier,
+                frame,
+                bit,
+            },
+        ) => {
             let from = sent - earlier as u64;
             in_px(mode, channel, from, sent, frame, bit, pair, row, column)
         }
-        FoundPx::Fill => Entry::Fill { sent },
-        FoundPx::Refused { answer: _ } => Entry::Refused,
+        Ok(FoundPx::Fill) => Entry::Fill { sent },
+        Err(_) => Entry::Refused,
     }
 }
 
@@ -175,16 +172,21 @@ fn px_placed(mode: u8, from: u64, channel: u8, frame: usize, bit: usize) -> Entr
 {
     let state = state_before(mode, from);
     match locating::locate_px(state, channel, frame, bit) {
-        LocatedPx::At {
-            later,
-            pair,
-            row,
-            column,
-        } => {
-            let sent = from + later as u64;
-            in_px(mode, channel, from, sent, frame, bit, pair, row, column)
+        Ok(cell) => {
+            let sent = from + cell.later as u64;
+            in_px(
+                mode,
+                channel,
+                from,
+                sent,
+                frame,
+                bit,
+                cell.pair,
+                cell.row,
+                cell.column,
+            )
         }
-        LocatedPx::Refused { answer: _ } => Entry::Refused,
+        Err(_) => Entry::Refused,
     }
 }
 
@@ -200,10 +202,14 @@ fn bit_entry(mode: u8, from: u64, channel: u8, frame: usize, bit: usize) -> Entr
 }
 
 // What the sheet of a run of `count` L1 frames says of what a line asks for. The table of S-1 is lent, since a list asks for many cells.
-pub fn entry_for(table: &[u16; 1152], mode: u8, count: u64, question: Question) -> Entry
+#[tactic(auto, unfolding(crate::specs::Entries::entry_of))]
+pub fn entry_for(table: &[u16; 1152], mode: u8, count: u64, question: Option<Question>) -> Entry
     requires { (table.now ≡ ks) × (count ≤ 4294967296) }
     ensures { result ≡ entry_of mode count question }
 {
+    let Some(question) = question else {
+        return Entry::Refused;
+    };
     match question {
         Question::Pm { frame, row, column } => {
             if frame < count {
@@ -234,7 +240,6 @@ pub fn entry_for(table: &[u16; 1152], mode: u8, count: u64, question: Question) 
             }
             Entry::Refused
         }
-        Question::Wrong => Entry::Refused,
     }
 }
 

@@ -10,18 +10,17 @@ use borrow.Author.Tests.{eqb-true, ltb-true}
 use Rattle.bits.specs.Tests.{same}
 use Rattle.bits.proofs.Tests.{same_true}
 use Rattle.operands.specs.Operands.{operand_of}
-use Rattle.operands.specs.declared.Operand.{Operand}
-use Rattle.operands.specs.declared.Operand.TheVariants.{Number, NotDecimal}
 use Rattle.text.specs.Letters.{ascii}
 use Rattle.text.specs.Lines.{after, before, joined, lines, plain, plain_length, space}
 use Rattle.sheetlines.specs.Entries.{entry_of}
 use Rattle.sheetlines.specs.Questions.{asking, named, named_px1, named_px2, plain_question, px_question, question_of, rest, two, two_question, with, word}
+use Rattle.std.specs.Prelude.{Option, Some, None}
 use Rattle.sheetlines.specs.declared.questions.Question.{Question}
-use Rattle.sheetlines.specs.declared.questions.Question.TheVariants.{Bit, Pm, Wrong}
+use Rattle.sheetlines.specs.declared.questions.Question.TheVariants.{Bit, Pm}
 use Rattle.sheettext.specs.Texts.{is_refused}
 
-abbrev Asks : Question → Type 0
-Asks q = q ≡ Wrong → ⊥
+abbrev Asks : Option Question → Type 0
+Asks q = q ≡ None → ⊥
 
 -- ---- the words of a line
 
@@ -37,14 +36,14 @@ parted s (b ∷ l) h = go (eqb b s) h (parted s l)
     go false h k = omega (arith, k h)
 
 -- a word that is a number is not empty
-number-first : (w : List ℕ) (f : ℕ → Question) (P : Type 0) → Asks (with (operand_of w) f) → ((n : ℕ) → 1 ≤ length w → Asks (f n) → P) → P
+number-first : (w : List ℕ) (f : ℕ → Option Question) (P : Type 0) → Asks (with (operand_of w) f) → ((n : ℕ) → 1 ≤ length w → Asks (f n) → P) → P
 unfolding operand_of
 number-first [] f P h k = absurd (h refl)
 number-first (b ∷ w) f P h k = go (operand_of (b ∷ w)) h
   where
-    go : (o : Operand) → Asks (with o f) → P
-    go (Number n) h = k n (omega arith) h
-    go NotDecimal h = absurd (h refl)
+    go : (o : Option ℕ) → Asks (with o f) → P
+    go (Some n) h = k n (omega arith) h
+    go None h = absurd (h refl)
 
 -- a name has two letters at least
 named-long : (name : List ℕ) → named name < 5 → 2 ≤ length name
@@ -65,7 +64,7 @@ two-named : (name frame first second : ℕ) → Asks (two name frame first secon
 unfolding two
 two-named name frame first second = go (eqb name 0) (ltb name 5) refl refl
   where
-    go : (a b : Bool) → eqb name 0 ≡ a → ltb name 5 ≡ b → Asks (cond a (Pm frame first second) (cond b (Bit frame name first second) Wrong)) → name < 5
+    go : (a b : Bool) → eqb name 0 ≡ a → ltb name 5 ≡ b → Asks (cond a (Some (Pm frame first second)) (cond b (Some (Bit frame name first second)) None)) → name < 5
     go true b p q h = let z = eqb-true name 0 p in omega arith
     go false true p q h = ltb-true name 5 q
     go false false p q h = absurd (h refl)
@@ -125,7 +124,7 @@ question-long line h = omega (arith, plain-long (plain line) h, take_short (plai
 
 pub answered-long : (mode count : ℕ) (line : List ℕ) → is_refused (entry_of mode count (question_of line)) ≡ false → 8 ≤ length line
 unfolding entry_of is_refused
-answered-long mode count line e = question-long line (λ w. true≢false (sym (ap (λ (q : Question). is_refused (entry_of mode count q)) w) ∙ e))
+answered-long mode count line e = question-long line (λ w. true≢false (sym (ap (λ (q : Option Question). is_refused (entry_of mode count q)) w) ∙ e))
 
 -- ---- the bytes of all lines
 

@@ -11,6 +11,7 @@ use Rattle.text.proofs.Stored.{put-text, put-most}
 use Rattle.text.proofs.Left.{put-nothing}
 use Rattle.sheetlines.specs.Entries.{entry_of, turn_of}
 use Rattle.sheetlines.specs.Questions.{question_of}
+use Rattle.std.specs.Prelude.{Option}
 use Rattle.sheetlines.specs.declared.questions.Question.{Question}
 use Rattle.sheetlines.specs.declared.entries.Entry.{Entry}
 use Rattle.sheettext.specs.Texts.{is_refused, names, value_text}
@@ -26,7 +27,7 @@ pub refused-stands : (count t : ℕ) (e : Entry) (b : Bool) → b ≡ is_refused
 unfolding stands_in
 refused-stands count t e b is f = sym (rw (sym is ∙ f))
 
-module _ (behind : Entry → List ℕ) (mode count t : ℕ) (line : List ℕ) (q : Question) (is : q ≡ question_of line) (e : Entry) (e-is : e ≡ entry_of mode count q)
+module _ (behind : Entry → List ℕ) (mode count t : ℕ) (line : List ℕ) (q : Option Question) (is : q ≡ question_of line) (e : Entry) (e-is : e ≡ entry_of mode count q)
     (b : Bool) (b-is : b ≡ stands_in count t e) (a : List ℕ) (at : ℕ) where
   entry-is : e ≡ entry_of mode count (question_of line)
   entry-is = e-is ∙ ap (entry_of mode count) is
@@ -44,7 +45,7 @@ module _ (behind : Entry → List ℕ) (mode count t : ℕ) (line : List ℕ) (q
   is-asked f z end m fits p =
       let test : stands_in count t (entry_of mode count (question_of line)) ≡ true = test-is ∙ f in
       let told : names q e ++ behind e ≡ answer behind mode count t (question_of line) =
-      ap₂ (λ (r : Question) (x : Entry). names r x ++ behind x) is entry-is
+      ap₂ (λ (r : Option Question) (x : Entry). names r x ++ behind x) is entry-is
       ∙ sym (ap (λ (b : Bool). cond b (names (question_of line) (entry_of mode count (question_of line)) ++ behind (entry_of mode count (question_of line))) []) test) in
       let one : asks mode count t (question_of line) ≡ 1 = ap (λ (b : Bool). cond b 1 0) test in
       put-most (omega arith) (put-text told p)

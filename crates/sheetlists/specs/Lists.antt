@@ -1,5 +1,5 @@
 -- House matter: what a sheet says of a list, line by line.
-use Rattle.std.specs.Prelude.{ℕ, ◌+◌, Bool, cond, not, ◌&&◌, List, [], ◌∷◌, ◌++◌, eqb}
+use Rattle.std.specs.Prelude.{ℕ, ◌+◌, Bool, cond, not, ◌&&◌, List, [], ◌∷◌, ◌++◌, eqb, Option}
 use Rattle.text.specs.Refused.{refused}
 use Rattle.sheetlines.specs.Entries.{entry_of, turn_of}
 use Rattle.sheetlines.specs.Questions.{question_of}
@@ -18,7 +18,7 @@ unfoldable pub stands_in : (count t : ℕ) → Entry → Bool
 stands_in count t e = not (is_refused e) && eqb (turn_of count e) t
 
 -- what is said of a question there, where this text stands behind the names
-unfoldable pub answer : (behind : Entry → List ℕ) (mode count t : ℕ) → Question → List ℕ
+unfoldable pub answer : (behind : Entry → List ℕ) (mode count t : ℕ) → Option Question → List ℕ
 answer behind mode count t q =
     let e = entry_of mode count q in
     cond (stands_in count t e) (names q e ++ behind e) []
@@ -44,7 +44,7 @@ answered mode count [] = 0
 answered mode count (line ∷ rest) = cond (is_refused (entry_of mode count (question_of line))) 0 1 + answered mode count rest
 
 -- how many lines stand among the answers of L1 frame t
-abbrev pub asks : (mode count t : ℕ) → Question → ℕ
+abbrev pub asks : (mode count t : ℕ) → Option Question → ℕ
 asks mode count t q = cond (stands_in count t (entry_of mode count q)) 1 0
 
 unfoldable pub asking : (mode count t : ℕ) → List (List ℕ) → ℕ

@@ -8,6 +8,7 @@ use lib.Dec.{eqb}
 use borrow.Author.Tests.{eqb-true, le-ltb}
 use Rattle.sheetlines.specs.Entries.{entry_of, turn_of}
 use Rattle.sheetlines.specs.Questions.{question_of}
+use Rattle.std.specs.Prelude.{Option}
 use Rattle.sheetlines.specs.declared.questions.Question.{Question}
 use Rattle.sheetlines.specs.declared.entries.Entry.{Entry}
 use Rattle.sheetlines.specs.declared.entries.Entry.TheVariants.{Stands, Fill, Refused}
@@ -25,7 +26,7 @@ module _ (v w : Entry → List ℕ) (mode count t : ℕ) where
       go false false q l = absurd (true≢false (sym l))
       go true b q l = absurd (true≢false (sym l))
 
-  answer-same : (q : Question) → (turn_of count (entry_of mode count q) ≡ t → v (entry_of mode count q) ≡ w (entry_of mode count q))
+  answer-same : (q : Option Question) → (turn_of count (entry_of mode count q) ≡ t → v (entry_of mode count q) ≡ w (entry_of mode count q))
       → answer v mode count t q ≡ answer w mode count t q
   unfolding answer
   answer-same q h = go (stands_in count t (entry_of mode count q)) (λ e. h (stood-turn (entry_of mode count q) e))
@@ -35,7 +36,7 @@ module _ (v w : Entry → List ℕ) (mode count t : ℕ) where
       go true e = ap (λ (x : List ℕ). names q (entry_of mode count q) ++ x) (e refl)
       go false e = refl
 
-  pub answers-same : ((q : Question) → turn_of count (entry_of mode count q) ≡ t → v (entry_of mode count q) ≡ w (entry_of mode count q))
+  pub answers-same : ((q : Option Question) → turn_of count (entry_of mode count q) ≡ t → v (entry_of mode count q) ≡ w (entry_of mode count q))
       → (ls : List (List ℕ)) → answers v mode count t ls ≡ answers w mode count t ls
   unfolding answers
   answers-same h [] = refl

@@ -78,8 +78,7 @@ fn put_frames(
     let mut state = begun.state;
     let mut end = at;
     let mut from: usize = 0;
-    let mut t: u64 = 0;
-    while t < count {
+    for t in 0..count {
         let to = from + n;
         let turned = take_turn(
             mode,
@@ -105,7 +104,6 @@ fn put_frames(
         state = turned.state;
         end = turned.end;
         from = to;
-        t += 1;
     }
     put_last(out, end, mode, count, list, work, n3, n4, bytes)
 }

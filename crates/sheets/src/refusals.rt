@@ -1,24 +1,15 @@
 // Why there is no sheet, at the start of a buffer.
-ghost use Rattle.std.specs.Prelude.{◌≤◌, length};
+ghost use Rattle.std.specs.Prelude.{◌+◌, ◌++◌, ◌≤◌, length};
 ghost use Rattle.text.specs.Put.{Put};
-ghost use Rattle.sheets.specs.Sheet.{no_long, no_short};
+ghost use Rattle.sheettext.specs.Texts.{last};
 
 use text::{field, put};
 
-// Puts that the L1 frames have fewer bytes than these.
-pub fn put_short(out: &mut [u8], want: usize) -> usize
-    requires { 91 ≤ length out.old }
-    ensures { Put out.old out.new 0 result 91 (no_short want) }
+// Puts these words and how many bytes the L1 frames would have.
+pub fn put_want(out: &mut [u8], words: &[u8], want: usize) -> usize
+    requires { length words.now + 21 ≤ length out.old }
+    ensures { Put out.old out.new 0 result (length words.now + 21) (words.now ++ last want) }
 {
-    let m = put(out, 0, b"NO SHEET SHORT ");
-    field(out, m, want as u64, b'\n')
-}
-
-// Puts that they have more.
-pub fn put_long(out: &mut [u8], want: usize) -> usize
-    requires { 91 ≤ length out.old }
-    ensures { Put out.old out.new 0 result 91 (no_long want) }
-{
-    let m = put(out, 0, b"NO SHEET LONG ");
+    let m = put(out, 0, words);
     field(out, m, want as u64, b'\n')
 }

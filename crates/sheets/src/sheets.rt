@@ -6,7 +6,7 @@ ghost use Rattle.sheets.specs.Sheet.{sheet_for, sheet_of};
 ghost use Rattle.sheets.specs.Call.{said, sheet_call};
 ghost use Rattle.sheets.specs.Begun.{Begins};
 
-use crate::refusals::{put_long, put_short};
+use crate::refusals::put_want;
 use runs::Answer;
 use sheetinputs::{are_named, empty_at, empty_line, frames_size, is_older};
 use sheetruns::put_run;
@@ -30,10 +30,10 @@ fn put_sheet(
 {
     let want = frames_size(mode, count, n3, n4);
     if bytes.len() < want {
-        return put_short(out, want);
+        return put_want(out, b"NO SHEET SHORT ", want);
     }
     if bytes.len() > want {
-        return put_long(out, want);
+        return put_want(out, b"NO SHEET LONG ", want);
     }
     let m = sheettext::put_head(out, 0, mode, count, without3, without4, work);
     let n = sheetlists::put_refusals(out, m, mode, count, list);
@@ -125,11 +125,7 @@ fn clear_from(out: &mut [u8], at: usize)
     requires { at ≤ length out.old }
     ensures { out.new ≡ take at out.old ++ replicate (length out.old - at) 0 }
 {
-    let mut i = at;
-    while i < out.len() {
-        out[i] = 0;
-        i += 1;
-    }
+    out[at..].fill(0);
 }
 
 // The answer of a call, and how many bytes the text has.

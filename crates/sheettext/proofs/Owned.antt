@@ -10,6 +10,7 @@ use Rattle.text.specs.Put.{Put}
 use Rattle.text.proofs.Stored.{put-text, put-most}
 use Rattle.sheetlines.specs.Entries.{entry_of}
 use Rattle.sheetlines.specs.Questions.{question_of}
+use Rattle.std.specs.Prelude.{Option}
 use Rattle.sheetlines.specs.declared.questions.Question.{Question}
 use Rattle.sheetlines.specs.declared.entries.Entry.{Entry}
 use Rattle.sheettext.specs.Texts.{bit_text, is_refused, last, names}
@@ -25,7 +26,7 @@ module _ (sent : Bool) (value : ℕ) where
   bit-now e = sym (rw e)
 
 -- without values
-module _ (mode number : ℕ) (line : List ℕ) (q : Question) (is : q ≡ question_of line) (e : Entry) (e-is : e ≡ entry_of mode 4294967296 q)
+module _ (mode number : ℕ) (line : List ℕ) (q : Option Question) (is : q ≡ question_of line) (e : Entry) (e-is : e ≡ entry_of mode 4294967296 q)
     (b : Bool) (b-is : b ≡ is_refused e) (a z : List ℕ) (at end : ℕ) where
   owner-is : e ≡ entry_of mode 4294967296 (question_of line)
   owner-is = e-is ∙ ap (entry_of mode 4294967296) is
@@ -41,4 +42,4 @@ module _ (mode number : ℕ) (line : List ℕ) (q : Question) (is : q ≡ questi
   unfolding owner_line
   owner-said f m fits p =
       put-most fits
-      (put-text (ap₂ (λ (r : Question) (x : Entry). names r x ++ ascii "\n") is owner-is ∙ sym (rw (test-is ∙ f))) p)
+      (put-text (ap₂ (λ (r : Option Question) (x : Entry). names r x ++ ascii "\n") is owner-is ∙ sym (rw (test-is ∙ f))) p)

@@ -1,11 +1,11 @@
 -- House matter: the lines of an answer sheet, as ASCII bytes.
-use Rattle.std.specs.Prelude.{ℕ, Bool, true, false, cond, List, [], ◌++◌, eqb, ltb}
+use Rattle.std.specs.Prelude.{ℕ, Bool, true, false, cond, List, [], ◌++◌, eqb, ltb, Option, Some, None}
 use Rattle.bits.specs.Bits.{bit_at}
 use Rattle.runs.specs.Lent.{Matrices}
 use Rattle.text.specs.Letters.{ascii}
 use Rattle.text.specs.Numbers.{decimal}
 use Rattle.sheetlines.specs.declared.questions.Question.{Question}
-use Rattle.sheetlines.specs.declared.questions.Question.TheVariants.{Bit, Pm, Px, Wrong}
+use Rattle.sheetlines.specs.declared.questions.Question.TheVariants.{Bit, Pm, Px}
 use Rattle.sheetlines.specs.declared.entries.Cell.{Cell}
 use Rattle.sheetlines.specs.declared.entries.CodedBit.{CodedBit}
 use Rattle.sheetlines.specs.declared.entries.Entry.{Entry}
@@ -44,11 +44,11 @@ unfoldable pub channel_name : (channel : ℕ) → List ℕ
 channel_name channel = cond (eqb channel 1) (ascii "P1 ") (cond (eqb channel 2) (ascii "PIDS ") (cond (eqb channel 3) (ascii "P3 ") (ascii "P4 ")))
 
 -- what a line asks for: FRAME PM ROW COL, FRAME PX1 PAIR ROW COL, or FRAME CHANNEL TFRAME BIT
-unfoldable pub asked : Question → List ℕ
-asked (Pm frame row column) = word frame ++ (ascii "PM " ++ (word row ++ word column))
-asked (Px frame channel pair row column) = word frame ++ (matrix_name channel ++ (word pair ++ (word row ++ word column)))
-asked (Bit frame channel tframe bit) = word frame ++ (channel_name channel ++ (word tframe ++ word bit))
-asked Wrong = []
+unfoldable pub asked : Option Question → List ℕ
+asked (Some (Pm frame row column)) = word frame ++ (ascii "PM " ++ (word row ++ word column))
+asked (Some (Px frame channel pair row column)) = word frame ++ (matrix_name channel ++ (word pair ++ (word row ++ word column)))
+asked (Some (Bit frame channel tframe bit)) = word frame ++ (channel_name channel ++ (word tframe ++ word bit))
+asked None = []
 
 -- a number that P3 and P4 have, and P1 and PIDS have not
 unfoldable pub of_px : (channel n : ℕ) → List ℕ
@@ -64,14 +64,14 @@ place channel cell =
     matrix_name channel ++ (word cell.sent ++ (of_px channel cell.pair ++ (word cell.row ++ decimal cell.column)))
 
 -- to a bit the answer is the cell, to a cell the bit
-unfoldable pub found : Question → CodedBit → Cell → List ℕ
-found (Pm frame row column) coded cell = owner coded
-found (Px frame channel pair row column) coded cell = owner coded
-found (Bit frame channel tframe bit) coded cell = place coded.channel cell
-found Wrong coded cell = []
+unfoldable pub found : Option Question → CodedBit → Cell → List ℕ
+found (Some (Pm frame row column)) coded cell = owner coded
+found (Some (Px frame channel pair row column)) coded cell = owner coded
+found (Some (Bit frame channel tframe bit)) coded cell = place coded.channel cell
+found None coded cell = []
 
 -- the names of an answer: what is asked and what is found, or FILL. Of what is refused nothing is said here
-unfoldable pub names : Question → Entry → List ℕ
+unfoldable pub names : Option Question → Entry → List ℕ
 names q (Stands coded cell) = asked q ++ found q coded cell
 names q (Fill sent) = asked q ++ ascii "FILL"
 names q Refused = []

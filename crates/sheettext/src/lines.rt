@@ -39,10 +39,13 @@ fn put_channel(out: &mut [u8], at: usize, channel: u8) -> usize
 }
 
 // Puts what a line asks for.
-fn put_asked(out: &mut [u8], at: usize, question: Question) -> usize
+fn put_asked(out: &mut [u8], at: usize, question: Option<Question>) -> usize
     requires { at + 88 ≤ length out.old }
     ensures { Put out.old out.new at result 88 (asked question) }
 {
+    let Some(question) = question else {
+        return at;
+    };
     match question {
         Question::Pm { frame, row, column } => {
             let k = field(out, at, frame, b' ');
@@ -74,7 +77,6 @@ fn put_asked(out: &mut [u8], at: usize, question: Question) -> usize
             let n = field(out, m, tframe as u64, b' ');
             field(out, n, bit as u64, b' ')
         }
-        Question::Wrong => at,
     }
 }
 
@@ -113,35 +115,28 @@ fn put_place(out: &mut [u8], at: usize, channel: u8, cell: Cell) -> usize
 }
 
 // Puts what is found: to a bit the cell, to a cell the bit.
-fn put_found(out: &mut [u8], at: usize, question: Question, coded: CodedBit, cell: Cell) -> usize
+fn put_found(
+    out: &mut [u8],
+    at: usize,
+    question: Option<Question>,
+    coded: CodedBit,
+    cell: Cell,
+) -> usize
     requires { at + 87 ≤ length out.old }
     ensures { Put out.old out.new at result 87 (found question coded cell) }
 {
+    let Some(question) = question else {
+        return at;
+    };
     match question {
-        Question::Pm {
-            frame: _,
-            row: _,
-            column: _,
-        } => put_owner(out, at, coded),
-        Question::Px {
-            frame: _,
-            channel: _,
-            pair: _,
-            row: _,
-            column: _,
-        } => put_owner(out, at, coded),
-        Question::Bit {
-            frame: _,
-            channel: _,
-            tframe: _,
-            bit: _,
-        } => put_place(out, at, coded.channel, cell),
-        Question::Wrong => at,
+        Question::Pm { .. } => put_owner(out, at, coded),
+        Question::Px { .. } => put_owner(out, at, coded),
+        Question::Bit { .. } => put_place(out, at, coded.channel, cell),
     }
 }
 
 // Puts the names of an answer.
-pub fn put_names(out: &mut [u8], at: usize, question: Question, entry: Entry) -> usize
+pub fn put_names(out: &mut [u8], at: usize, question: Option<Question>, entry: Entry) -> usize
     requires { at + 175 ≤ length out.old }
     ensures { Put out.old out.new at result 175 (names question entry) }
 {

@@ -1,17 +1,10 @@
 // Standard input, by lines, and whether it goes on.
 #![tactic(auto)]
 
-ghost use Rattle.std.specs.Prelude.{◌≤◌, length};
+ghost use Rattle.std.specs.Prelude.{◌≤◌, IfSome, length};
 ghost use Rattle.io.specs.Counts.{IsPrefixLen};
 
 use programs::{Streams, read_full};
-
-// A line: how many of its bytes the buffer holds, and whether there was one.
-#[derive(Clone, Copy)]
-pub struct Line {
-    pub length: usize,
-    pub came: bool,
-}
 
 // Keeps a byte of a line, if there is room.
 fn keep(text: &mut [u8], n: usize, byte: u8) -> usize
@@ -25,27 +18,26 @@ fn keep(text: &mut [u8], n: usize, byte: u8) -> usize
     n
 }
 
-// Reads a line, without the newline that ends it. One that is longer than the buffer fills it, so a buffer is lent that is longer than any line that is taken.
-// A proved loop has to end, so it counts its turns down, from a number that no run uses up.
-pub fn read_line(rt: &impl Streams, text: &mut [u8]) -> Line
-    ensures { IsPrefixLen result.length text.new }
+// Reads a line, if there is one, without the newline that ends it. Answers how many of its bytes the buffer holds. One that is longer than the buffer fills it, so a buffer is lent that is longer than any line that is taken.
+// A proved loop has to end, so it reads a number of bytes that no line has.
+pub fn read_line(rt: &impl Streams, text: &mut [u8]) -> Option<usize>
+    ensures { IfSome result (λ n. IsPrefixLen n text.new) }
 {
     let mut n: usize = 0;
     let mut came = false;
-    let mut turns: u64 = 281474976710656;
-    while turns > 0 {
-        turns -= 1;
+    for _ in 0..281474976710656u64 {
         let mut one = [0u8; 1];
-        if read_full(rt, &mut one) == 0 {
-            return Line { length: n, came };
+        let ended = read_full(rt, &mut one) == 0;
+        if ended && !came {
+            return None;
+        }
+        if ended || one[0] == b'\n' {
+            return Some(n);
         }
         came = true;
-        if one[0] == b'\n' {
-            return Line { length: n, came };
-        }
         n = keep(text, n, one[0]);
     }
-    Line { length: n, came }
+    Some(n)
 }
 
 // Whether the input goes on: one more byte is read.

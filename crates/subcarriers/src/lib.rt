@@ -35,19 +35,11 @@ const PARTITIONS: [u8; 120] = [
 ];
 
 // Whether a mode's vectors are given.
+#[tactic(auto, unfolding(crate::specs::Tables::mapped, control::specs::Modes::one_of))]
 pub fn is_mapped(mode: u8) -> bool
     ensures { result ≡ mapped mode }
 {
-    if mode == 1 {
-        return true;
-    }
-    if mode == 2 {
-        return true;
-    }
-    if mode == 3 {
-        return true;
-    }
-    mode == 11
+    matches!(mode, 1 | 2 | 3 | 11)
 }
 
 // A mode's place among the four.
@@ -55,16 +47,12 @@ pub fn mode_number(mode: u8) -> usize
     requires { mapped mode ≡ true }
     ensures { (result < 4) × (mode_at result ≡ mode) }
 {
-    if mode == 1 {
-        return 0;
+    match mode {
+        1 => 0,
+        2 => 1,
+        3 => 2,
+        _ => 3,
     }
-    if mode == 2 {
-        return 1;
-    }
-    if mode == 3 {
-        return 2;
-    }
-    3
 }
 
 fn column(n: usize, slot: usize) -> u8

@@ -19,9 +19,7 @@ fn byte_at(buffer: &[u8], i: usize) -> u8
 pub fn add(more: &[u8], sum: &mut [u8])
     ensures { sum.new ≡ sum_of (sum.old ∷ more.now ∷ []) (λ (b : Buffer). b) }
 {
-    let mut i: usize = 0;
-    while i < sum.len() {
+    for i in 0..sum.len() {
         sum[i] = sum[i] ^ byte_at(more, i);
-        i += 1;
     }
 }

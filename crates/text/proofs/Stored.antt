@@ -1,12 +1,11 @@
 -- Text put behind text: parts put one after the other are their texts joined. Assumes nothing.
 use mathlib.Core.Path.{◌≡◌, sym, ap, ◌∙◌}
 use Prim.Native.Nat.{ℕ, ◌+◌, ◌<◌, ◌≤◌}
-use native.Mathlib.Nat.{add_assoc, add-zero}
 use native.Mathlib.Numerals.{add-one}
 use native.Mathlib.Omega.{arith}
-use mathlib.Core.List.{List, [], ◌∷◌, ◌++◌, append_assoc, append-nil}
-use lib.ListN.{length, take, get_or, set, length-set}
-use lib.Seq.{take_all, take-suc, take-suc-set}
+use mathlib.Core.List.{List, [], ◌∷◌, ◌++◌, append_assoc}
+use lib.ListN.{length, take, set, length-set}
+use lib.Seq.{take-suc-set}
 use Rattle.text.specs.Letters.{ascii}
 use Rattle.text.specs.Numbers.{decimal}
 use Rattle.text.specs.Put.{Put}
@@ -24,21 +23,6 @@ put-most h p = record { within = omega arith; size = p.size; holds = p.holds }
 
 pub put_byte : {a : List ℕ} (at b : ℕ) → at < length a → Put a (set a at b) at (at + 1) 1 (b ∷ [])
 put_byte {a} at b h = record { within = omega arith; size = length-set a at b; holds = rw (add-one) (take-suc-set a at b h) }
-
--- one byte more of a text
-pub put-more : (old out text : List ℕ) (at i : ℕ) → length out ≡ length old → at + length text ≤ length old → i < length text
-    → take (at + i) out ≡ take at old ++ take i text
-    → take (at + (i + 1)) (set out (at + i) (get_or text i 0)) ≡ take at old ++ take (i + 1) text
-put-more old out text at i same fits h e =
-    rw (← add_assoc at i 1, add-one, take-suc-set out (at + i) (get_or text i 0) (omega arith), e, add-one i, take-suc text i 0 h)
-    (append_assoc (take at old) (take i text) (get_or text i 0 ∷ []))
-
-pub put-none : (out : List ℕ) (at : ℕ) → take (at + 0) out ≡ take at out ++ []
-put-none out at = rw (add-zero, append-nil)
-
-pub put_all : (old out text : List ℕ) (at i : ℕ) → i ≤ length text → length text ≤ i → length out ≡ length old
-    → take (at + i) out ≡ take at old ++ take i text → Put old out at (at + i) (length text) text
-put_all old out text at i h l same e = record { within = omega arith; size = same; holds = e ∙ ap (λ (t : List ℕ). take at old ++ t) (take_all i text l) }
 
 pub put-text : {a b t u : List ℕ} {at end most : ℕ} → t ≡ u → Put a b at end most t → Put a b at end most u
 put-text {a} {b} {t} {u} {at} e p = record { within = p.within; size = p.size; holds = p.holds ∙ ap (λ (l : List ℕ). take at a ++ l) e }

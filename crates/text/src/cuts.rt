@@ -7,14 +7,12 @@ pub fn end_of(text: &[u8], at: usize, separator: u8) -> usize
     requires { at ≤ length text.now }
     ensures { (result ≡ at + length (before separator (drop at text.now))) × (result ≤ length text.now) }
 {
-    let mut i = at;
-    while i < text.len() {
+    for i in at..text.len() {
         if text[i] == separator {
             return i;
         }
-        i += 1;
     }
-    i
+    text.len()
 }
 
 // Where the line that starts at `at` ends: at its newline, or at the text's end. Past the text's end, a line has no bytes.

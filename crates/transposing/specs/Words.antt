@@ -16,8 +16,6 @@ eight f = quad f * 4294967296 + quad (λ u. f (4 + u))
 unfoldable pub spread_of : ℕ → ℕ
 spread_of x = eight (λ u. x / 2 ^ (7 - u) % 2)
 
-pub record Spreads (l : List ℕ) : Type 0 where
-  pub is : (x : ℕ) → x < 256 → get_or l x 0 ≡ spread_of x
-
-pub record NibbleSpreads (l : List ℕ) : Type 0 where
-  pub is : (x : ℕ) → x < 16 → get_or l x 0 ≡ spread_of x
+-- of the first numbers, n of them
+pub record Spreads (n : ℕ) (l : List ℕ) : Type 0 where
+  pub is : (x : ℕ) → x < n → get_or l x 0 ≡ spread_of x

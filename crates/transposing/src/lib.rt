@@ -4,7 +4,7 @@
 
 ghost use Rattle.std.specs.Prelude.{◌≡◌, ℕ, ◌+◌, ◌-◌, ◌*◌, ◌/◌, ◌%◌, ◌^◌, ◌<◌, ◌≤◌, length};
 ghost use Rattle.bits.specs.Bits.{bit_at};
-ghost use Rattle.transposing.specs.Words.{Begins, quad, eight, spread_of, Spreads, NibbleSpreads};
+ghost use Rattle.transposing.specs.Words.{Begins, quad, eight, spread_of, Spreads};
 
 // The four bits of the nibble x, each in a byte of its own, the first in the highest.
 fn spread_nibble(x: u64) -> u64
@@ -22,44 +22,24 @@ fn spread(x: u64) -> u64
     spread_nibble(x / 16) * 4294967296 + spread_nibble(x % 16)
 }
 
-// That of every byte, to be looked up.
-pub fn spreads() -> [u64; 256]
-    ensures { Spreads result }
+// That of every number below N, to be looked up: of every byte, or of every nibble.
+pub fn spreads<const N: usize>() -> [u64; N]
+    requires { N ≤ 256 }
+    ensures { Spreads N result }
 {
-    let mut table = [0u64; 256];
-    let mut x: usize = 0;
-    while x < 256 {
+    let mut table = [0u64; N];
+    for x in 0..N {
         table[x] = spread(x as u64);
-        x += 1;
     }
     table
-}
-
-// That of every nibble.
-pub fn nibble_spreads() -> [u64; 16]
-    ensures { NibbleSpreads result }
-{
-    let mut table = [0u64; 16];
-    let mut x: usize = 0;
-    while x < 16 {
-        table[x] = spread(x as u64);
-        x += 1;
-    }
-    table
-}
-
-fn wide(x: u8) -> usize
-    ensures { result ≡ x }
-{
-    x as usize
 }
 
 // The bits of the byte n of a column, spread.
 fn spread_at(spreads: &[u64; 256], coded: &[u8], n: usize) -> u64
-    requires { (n < length coded.now) × Spreads spreads.now }
+    requires { (n < length coded.now) × Spreads 256 spreads.now }
     ensures { (result ≡ eight (λ u. bit_at coded.now (8 * n + u))) × (result ≤ 72340172838076673) }
 {
-    spreads[wide(coded[n])]
+    spreads[usize::from(coded[n])]
 }
 
 // The byte u of a word, the highest first.
@@ -75,10 +55,8 @@ fn store_word(w: u64, n: usize, out: &mut [u8])
     requires { n + 8 ≤ length out.old }
     ensures { (g : ℕ → ℕ) → w ≡ eight (λ u. g (n + u)) → ((q : ℕ) → g q < 256) → Begins g n out.old → Begins g (n + 8) out.new }
 {
-    let mut u = 0;
-    while u < 8 {
+    for u in 0..8 {
         out[n + u] = byte_of(w, u);
-        u += 1;
     }
 }
 
@@ -94,16 +72,14 @@ pub fn four_columns(
     n: usize,
     out: &mut [u8],
 )
-    requires { Spreads spreads.now × (a + m ≤ length coded.now) × (b + m ≤ length coded.now) × (c + m ≤ length coded.now) × (d + m ≤ length coded.now) × (n + 8 * m ≤ length out.old) }
+    requires { Spreads 256 spreads.now × (a + m ≤ length coded.now) × (b + m ≤ length coded.now) × (c + m ≤ length coded.now) × (d + m ≤ length coded.now) × (n + 8 * m ≤ length out.old) }
     ensures { (g : ℕ → ℕ) → ((q : ℕ) → g q < 256) → ((t : ℕ) → t < 8 * m → g (n + t) ≡ 8 * bit_at coded.now (8 * a + t) + 4 * bit_at coded.now (8 * b + t) + 2 * bit_at coded.now (8 * c + t) + bit_at coded.now (8 * d + t)) → Begins g n out.old → Begins g (n + 8 * m) out.new }
 {
-    let mut j: usize = 0;
-    while j < m {
+    for j in 0..m {
         let first = spread_at(spreads, coded, a + j);
         let second = spread_at(spreads, coded, b + j);
         let third = spread_at(spreads, coded, c + j);
         let fourth = spread_at(spreads, coded, d + j);
         store_word(8 * first + 4 * second + 2 * third + fourth, n + 8 * j, out);
-        j += 1;
     }
 }

@@ -2,7 +2,7 @@
 // the frame is then read off forwards.
 #![tactic(auto)]
 
-ghost use Rattle.std.specs.Prelude.{◌≡◌, ℕ, ◌+◌, ◌-◌, ◌*◌, ◌/◌, ◌%◌, ◌<◌, ◌≤◌, min, length, get_or};
+ghost use Rattle.std.specs.Prelude.{◌≡◌, ℕ, ◌+◌, ◌-◌, ◌*◌, ◌/◌, ◌%◌, ◌<◌, ◌≤◌, length, get_or};
 ghost use Rattle.bits.specs.Bits.{packed};
 ghost use Rattle.coding.specs.Coder.{generators};
 ghost use Rattle.trellis.specs.Cells.{differs as «differs-of»};
@@ -52,10 +52,8 @@ pub fn all_outputs() -> [u8; 128]
     ensures { Outputs result }
 {
     let mut all = [0u8; 128];
-    let mut w: usize = 0;
-    while w < 128 {
+    for w in 0..128 {
         all[w] = window_outputs(w);
-        w += 1;
     }
     all
 }
@@ -79,18 +77,10 @@ pub fn eight(cells: &[u8], j: usize) -> [u16; 8]
     ensures { Eight cells.now j result }
 {
     let mut costs = [0u16; 8];
-    let mut y: usize = 0;
-    while y < 8 {
+    for y in 0..8 {
         costs[y] = cost(cells, j, y);
-        y += 1;
     }
     costs
-}
-
-fn wide(x: u8) -> usize
-    ensures { result ≡ x }
-{
-    x as usize
 }
 
 // Writes the costs of all windows at step j.
@@ -99,11 +89,9 @@ fn fill(costs: &[u16; 8], all: &[u8; 128], j: usize, table: &mut [u16])
     ensures { Filled costs.now table.old table.new j }
 {
     let at = 128 * j;
-    let mut w: usize = 0;
-    while w < 128 {
-        let y = wide(all[w]);
+    for w in 0..128 {
+        let y = usize::from(all[w]);
         table[at + w] = costs[y];
-        w += 1;
     }
 }
 
@@ -114,11 +102,9 @@ pub fn costs(cells: &[u8]) -> [u16; 10240]
 {
     let mut table = [0u16; 10240];
     let all = all_outputs();
-    let mut j: usize = 0;
-    while j < 80 {
+    for j in 0..80 {
         let costs = eight(cells, j);
         fill(&costs, &all, j, &mut table);
-        j += 1;
     }
     table
 }
@@ -133,25 +119,12 @@ fn through(costs: &[u16; 10240], j: usize, w: usize, late: &[u16; 64]) -> u16
     costs[at] + late[r]
 }
 
-// The lesser of two scores.
-fn lesser(a: u16, b: u16) -> u16
-    ensures { result ≡ min a b }
-{
-    if a <= b {
-        return a;
-    }
-    b
-}
-
 // The score of the register r before step j, from those after it.
 fn better(costs: &[u16; 10240], j: usize, r: usize, late: &[u16; 64]) -> u16
     requires { (j < 80) × (r < 64) × Cheap costs.now × Low late.now }
     ensures { result ≡ score_before costs.now j late.now r }
 {
-    lesser(
-        through(costs, j, 2 * r, late),
-        through(costs, j, 2 * r + 1, late),
-    )
+    through(costs, j, 2 * r, late).min(through(costs, j, 2 * r + 1, late))
 }
 
 // One step of the trellis, backwards: the scores before it from those after it. The registers r and r + 32 are followed by the same two.
@@ -162,11 +135,9 @@ fn step(costs: &[u16; 10240], after: Scores) -> Scores
     let j = after.step - 1;
     let late = after.scores;
     let mut scores = [0u16; 64];
-    let mut r: usize = 0;
-    while r < 32 {
+    for r in 0..32 {
         scores[r] = better(costs, j, r, &late);
         scores[r + 32] = better(costs, j, r + 32, &late);
-        r += 1;
     }
     Scores { scores, step: j }
 }
@@ -187,9 +158,7 @@ fn scored(costs: &[u16; 10240], last: Scores) -> Scores
     ensures { (final : ℕ → ℕ) → ((q : ℕ) → q < 64 → get_or last.scores q 0 ≡ final q) → Scored (tabled costs.now) final 80 result }
 {
     let mut s = last;
-    let mut k: usize = 80;
-    while 0 < k {
-        k -= 1;
+    for k in (0..80usize).rev() {
         s = step(costs, s);
     }
     s
@@ -201,23 +170,17 @@ fn store(scores: &[u16; 64], j: usize, kept: &mut [u16])
     ensures { Stored scores.now kept.old kept.new j }
 {
     let at = 64 * j;
-    let mut r: usize = 0;
-    while r < 64 {
-        kept[at + r] = scores[r];
-        r += 1;
-    }
+    kept[at..at + 64].copy_from_slice(scores);
 }
 
-// The scores before the first step, from those after the last; those after each step are kept.
+// The scores before the first step, from those after the last; those after each step are kept. `scored` keeps none, and so takes no room for 5120 of them.
 fn back(costs: &[u16; 10240], last: Scores, kept: &mut [u16]) -> Scores
     requires { (last.step ≡ 80) × Cheap costs.now × ((q : ℕ) → q < 64 → get_or last.scores q 0 ≤ 201) × (length kept.old ≡ 5120) }
     ensures { (final : ℕ → ℕ) → ((q : ℕ) → q < 64 → get_or last.scores q 0 ≡ final q)
         → Scored (tabled costs.now) final 80 result × Kept (tabled costs.now) final 0 kept.new }
 {
     let mut s = last;
-    let mut k: usize = 80;
-    while 0 < k {
-        k -= 1;
+    for k in (0..80usize).rev() {
         let late = s.scores;
         store(&late, k, kept);
         s = step(costs, s);
@@ -255,12 +218,10 @@ fn follow(costs: &[u16; 10240], kept: &[u16], e: usize, out: &mut [u8])
         → out.new ≡ packed 10 («walk_of» (tabled costs.now) final e) }
 {
     let mut r = e;
-    let mut j: usize = 0;
-    while j < 80 {
+    for j in 0..80 {
         let b = choose(costs, kept, j, r);
         bits::put(out, j, b);
         r = (2 * r + b as usize) % 64;
-        j += 1;
     }
 }
 
@@ -289,10 +250,8 @@ fn lowest(scores: &[u16; 64]) -> u16
     ensures { LeastScore scores.now 64 result }
 {
     let mut m = scores[0];
-    let mut r: usize = 1;
-    while r < 64 {
-        m = lesser(m, scores[r]);
-        r += 1;
+    for r in 1..64 {
+        m = m.min(scores[r]);
     }
     m
 }

@@ -2,14 +2,13 @@
 // imaginary part and what they come from (document 02, S-7).
 #![tactic(auto)]
 
-ghost use Rattle.std.specs.Prelude.{◌≡◌, true, ℕ};
+ghost use Rattle.std.specs.Prelude.{◌≡◌, true, ℕ, IfSome};
 ghost use Rattle.scales.specs.Scales.{is_single};
-ghost use Rattle.scales.specs.declared.Typed.TheVariants.{Times};
 
 use argument_words::{fourth_word, third_word};
-use arguments::Arguments;
+use arguments::Run;
 use programs::Streams;
-use scales::{Typed, scale_of, value_of};
+use scales::{scale_of, value_of};
 
 // Reads the L1 frame, and writes what is printed of the symbol, or said.
 fn answer(rt: &impl Streams, mode: u8, symbol: usize, lower: u32, upper: u32, input: &mut [u8])
@@ -41,25 +40,32 @@ fn run(rt: &impl Streams, mode: u8, symbol: usize, lower: u32, upper: u32)
 }
 
 // The scale that a word gives.
-fn scale(word: &[u8]) -> Typed
-    ensures { (times : ℕ) → result ≡ Times times → is_single times ≡ true }
+fn scale(word: &[u8]) -> Option<u32>
+    ensures { (times : ℕ) → result ≡ Some times → is_single times ≡ true }
 {
     scale_of(word)
 }
 
-// Goes on with both scales.
-fn with_scales(rt: &impl Streams, mode: u8, symbol: u64, lower: Typed, upper: Typed, line: &[u8])
-    requires { ((times : ℕ) → lower ≡ Times times → is_single times ≡ true) × ((times : ℕ) → upper ≡ Times times → is_single times ≡ true) }
+// A symbol of a mode, and how many times 2^-16 the scales of its sidebands are.
+#[derive(Clone, Copy)]
+struct Scaled {
+    mode: u8,
+    symbol: usize,
+    lower: u32,
+    upper: u32,
+}
+
+// What the words ask for.
+fn asked(words: &[u8]) -> Option<Scaled>
+    ensures { IfSome result (λ scaled. (is_single scaled.lower ≡ true) × (is_single scaled.upper ≡ true)) }
 {
-    match lower {
-        Typed::Times(a) => {
-            match upper {
-                Typed::Times(b) => run(rt, mode, symbol as usize, a, b),
-                Typed::NotExact => programs::usage(rt, line),
-            }
-        }
-        Typed::NotExact => programs::usage(rt, line),
-    }
+    let Run { mode, count } = argument_words::scaled(words)?;
+    Some(Scaled {
+        mode,
+        symbol: count as usize,
+        lower: scale(third_word(words))?,
+        upper: scale(fourth_word(words))?,
+    })
 }
 
 fn main(rt: HostRuntime) {
@@ -70,10 +76,15 @@ fn main(rt: HostRuntime) {
     if programs::gives_help(&rt, line, &words[..n]) {
         return;
     }
-    let lower = scale(third_word(&words[..n]));
-    let upper = scale(fourth_word(&words[..n]));
-    match argument_words::scaled(&words[..n]) {
-        Arguments::Run { mode, count } => with_scales(&rt, mode, count, lower, upper, line),
-        Arguments::Wrong => programs::usage(&rt, line),
+    match asked(&words[..n]) {
+        Some(
+            Scaled {
+                mode,
+                symbol,
+                lower,
+                upper,
+            },
+        ) => run(&rt, mode, symbol, lower, upper),
+        None => programs::usage(&rt, line),
     }
 }

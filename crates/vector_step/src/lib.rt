@@ -16,6 +16,7 @@ use lines::put_lines;
 use runs::Answer;
 
 // Whether the vector was filled, and how many bytes are written: to standard output if it was, to standard error if not.
+// No Result: both cases have a length of the same buffer, of which the clause says the same, and `messages::write_step` takes the flag.
 #[derive(Clone, Copy)]
 pub struct Printed {
     pub done: bool,

@@ -76,10 +76,8 @@ pub fn put_lines(out: &mut [u8], mode: u8, lower: u32, upper: u32, re: &[f32], i
     ensures { IsPrefixLen result out.new × (take result out.new ≡ lines mode re.now im.now 1093) }
 {
     let mut end: usize = 0;
-    let mut k: usize = 0;
-    while k < 1093 {
+    for k in 0..1093 {
         end = put_line(out, end, mode, k, re[k], im[k], times_at(lower, upper, k));
-        k += 1;
     }
     end
 }

@@ -44,14 +44,12 @@ fn put_digits(out: &mut [u8], at: usize, n: u64) -> usize
     requires { (n < 10 ^ 16) × (at + 16 ≤ length out.old) }
     ensures { Put out.old out.new at result 16 (digits 16 n) }
 {
-    let mut k: usize = 16;
     let mut left = n;
     let mut end = at;
-    while k > 0 {
+    for k in (0..16usize).rev() {
         if left == 0 {
             return end;
         }
-        k -= 1;
         let unit = power(k);
         out[end] = digit(left / unit);
         left = left % unit;

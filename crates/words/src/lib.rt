@@ -17,7 +17,8 @@ use causes::{number, place};
 use decoding::Decoded;
 use dumps::Verdict;
 use locating::{Located, LocatedPx};
-use queries::{Found, FoundPx, LookedUp, LookedUpFrame, Placed};
+use pm::Position;
+use queries::{BlockNumbers, Found, FoundPx, FrameNumbers};
 use runs::{Answer, State};
 
 // The word of an answer alone, and so of any refusal.
@@ -42,113 +43,111 @@ pub fn outcome_word(answer: Answer, state: State) -> u64
 }
 
 // The word of a finding in PM.
-pub fn found_word(cell: Found) -> u64
+pub fn found_word(cell: Result<Found, Answer>) -> u64
     requires { ((values cell).place < 2 ^ 8) × ((values cell).frame < 2 ^ 8) × ((values cell).bit < 2 ^ 24) }
     ensures { result ≡ found_word (values cell) }
 {
     match cell {
-        Found::P1 { bit } => 256 + 1099511627776 * (bit as u64),
-        Found::Pids { frame, bit } => {
+        Ok(Found::P1 { bit }) => 256 + 1099511627776 * (bit as u64),
+        Ok(Found::Pids { frame, bit }) => {
             512 + 65536 * (frame as u64) + 1099511627776 * (bit as u64)
         }
-        Found::Refused { answer } => answer_word(answer),
+        Err(answer) => answer_word(answer),
     }
 }
 
 // The word of a position.
-pub fn placed_word(found: Placed) -> u64
+pub fn placed_word(found: Result<Position, Answer>) -> u64
     requires { ((valuesOfPlace found).place < 2 ^ 8) × Inside 20 16 36 (valuesOfPlace found).position }
     ensures { result ≡ placed_word (valuesOfPlace found) }
 {
     match found {
-        Placed::At { position } => {
+        Ok(position) => {
             let low = 256 * (position.block as u64) + 65536 * (position.row as u64);
             let high = 16777216 * (position.partition as u64);
             low + high + 1099511627776 * (position.column as u64)
         }
-        Placed::Refused { answer } => answer_word(answer),
+        Err(answer) => answer_word(answer),
     }
 }
 
 // The word of a finding in PX1 or PX2.
-pub fn found_px_word(cell: FoundPx) -> u64
+pub fn found_px_word(cell: Result<FoundPx, Answer>) -> u64
     requires { ((values_px cell).place < 2 ^ 8) × ((values_px cell).frame < 2 ^ 8) × ((values_px cell).before < 2 ^ 8) × ((values_px cell).bit < 2 ^ 24) }
     ensures { result ≡ found_px_word (values_px cell) }
 {
     match cell {
-        FoundPx::Coded {
-            earlier,
-            frame,
-            bit,
-        } => {
+        Ok(
+            FoundPx::Coded {
+                earlier,
+                frame,
+                bit,
+            },
+        ) => {
             let low = 256 + 65536 * (frame as u64) + 16777216 * (earlier as u64);
             low + 1099511627776 * (bit as u64)
         }
-        FoundPx::Fill => 512,
-        FoundPx::Refused { answer } => answer_word(answer),
+        Ok(FoundPx::Fill) => 512,
+        Err(answer) => answer_word(answer),
     }
 }
 
 // The word of where a coded bit of P1 or PIDS goes.
-pub fn located_word(cell: Located) -> u64
+pub fn located_word(cell: Result<Located, Answer>) -> u64
     requires { ((valuesOfBit cell).place < 2 ^ 8) × Inside 20 16 36 (valuesOfBit cell).position }
     ensures { result ≡ located_word (valuesOfBit cell) }
 {
     match cell {
-        Located::At {
-            position,
-            row: _,
-            column: _,
-        } => placed_word(Placed::At { position }),
-        Located::Refused { answer } => answer_word(answer),
+        Ok(cell) => placed_word(Ok(cell.position)),
+        Err(answer) => answer_word(answer),
     }
 }
 
 // The word of where a coded bit of P3 or P4 goes.
-pub fn located_px_word(cell: LocatedPx) -> u64
+pub fn located_px_word(cell: Result<LocatedPx, Answer>) -> u64
     requires { ((valuesOfBitPX cell).place < 2 ^ 8) × ((valuesOfBitPX cell).after < 2 ^ 8) × ((valuesOfBitPX cell).pair < 2 ^ 8)
         × ((valuesOfBitPX cell).row < 2 ^ 8) × ((valuesOfBitPX cell).column < 2 ^ 24) }
     ensures { result ≡ located_px_word (valuesOfBitPX cell) }
 {
     match cell {
-        LocatedPx::At {
-            later,
-            pair,
-            row,
-            column,
-        } => {
+        Ok(
+            LocatedPx {
+                later,
+                pair,
+                row,
+                column,
+            },
+        ) => {
             let low = 256 * (pair as u64) + 65536 * (row as u64) + 16777216 * (later as u64);
             low + 1099511627776 * (column as u64)
         }
-        LocatedPx::Refused { answer } => answer_word(answer),
+        Err(answer) => answer_word(answer),
     }
 }
 
 // The word of a lookup.
-pub fn looked_up_word(said: LookedUp) -> u64
+pub fn looked_up_word(said: Result<BlockNumbers, Answer>) -> u64
     requires { (values_of_block said).place < 2 ^ 8 }
     ensures { result ≡ looked_up_word (values_of_block said) }
 {
     match said {
-        LookedUp::Found {
-            mode,
-            count,
-            reserved,
-        } => { 256 * (mode as u64) + 65536 * (count as u64) + 16777216 * (reserved as u64) }
-        LookedUp::Refused { answer } => answer_word(answer),
+        Ok(block) => {
+            256 * (block.mode as u64)
+                + 65536 * (block.count as u64)
+                + 16777216 * (block.reserved as u64)
+        }
+        Err(answer) => answer_word(answer),
     }
 }
 
 // The word of a lookup of an L1 frame's control.
-pub fn looked_up_frame_word(said: LookedUpFrame) -> u64
+pub fn looked_up_frame_word(said: Result<FrameNumbers, Answer>) -> u64
     requires { (values_of_frame said).place < 2 ^ 8 }
     ensures { result ≡ looked_up_frame_word (values_of_frame said) }
 {
     match said {
-        LookedUpFrame::Found { mode, reserved } => {
-            256 * (mode as u64) + 16777216 * (reserved as u64)
-        }
-        LookedUpFrame::Refused { answer } => answer_word(answer),
+        Ok(frame) => { 256 * (frame.mode as u64) + 16777216 * (frame.reserved as u64) }
+        Err(answer) => answer_word(answer),
     }
 }
 
@@ -189,10 +188,8 @@ pub fn eight(word: u64) -> [u8; 8]
     ensures { result ≡ eight_of word }
 {
     let mut numbers = [0u8; 8];
-    let mut d: usize = 0;
-    while d < 8 {
+    for d in 0..8 {
         numbers[d] = ((word >> (8 * d)) % 256) as u8;
-        d += 1;
     }
     numbers
 }

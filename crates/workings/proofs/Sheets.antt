@@ -6,6 +6,7 @@ use Prim.Native.Nat.{ℕ, zero, suc, ◌+◌, ◌*◌, ◌/◌, ◌%◌, ◌≤�
 use native.Mathlib.Nat.{zero-add}
 use native.Mathlib.Omega.{arith}
 use lib.ListN.{length, get_or}
+use Rattle.std.specs.Prelude.{Ok}
 use Rattle.bits.specs.Bits.{bit_at}
 use Rattle.coding.specs.declared.Rate.{Rate}
 use Rattle.coding.specs.declared.Rate.TheVariants.{TwoFifths, Half}
@@ -33,10 +34,8 @@ use Rattle.runs.proofs.Sender.{covered_of, right-at}
 use Rattle.queries.specs.FinderPX.{cell_of, frame_coded}
 use Rattle.queries.specs.Sheets.{channel_number}
 use Rattle.queries.proofs.Sheets.{number_is}
-use Rattle.locating.specs.declared.locator.Located.TheVariants.{At}
-use Rattle.locating.specs.declared.locator_px.LocatedPx.TheVariants.{At as AtPX}
-use Rattle.locating.specs.Locator.{located}
-use Rattle.locating.specs.LocatorPX.{located_px}
+use Rattle.locating.specs.Locator.{at_cell, located}
+use Rattle.locating.specs.LocatorPX.{at_cell as at_cell-px, located_px}
 use Rattle.locating.specs.declared.writing.Writing.{Writing}
 use Rattle.locating.specs.Writing.{p1_writing, pids_writing, px_writing}
 use Rattle.locating.proofs.CasesPM.{p1-range, pids-range, p1-cell, pids-cell}
@@ -140,11 +139,11 @@ coded-extended Wide = refl
 
 -- ---- the cells
 
-p1-written : (mode half bit row column : ℕ) (p : Position) → located 1 0 bit ≡ At p row column → (writing_of mode half 1 0 bit).cell ≡ row * 720 + column
+p1-written : (mode half bit row column : ℕ) (p : Position) → located 1 0 bit ≡ Ok (at_cell p row column) → (writing_of mode half 1 0 bit).cell ≡ row * 720 + column
 unfolding p1_writing
 p1-written mode half bit row column p e = ap (λ (w : Writing). w.cell) (sym (of-p1 mode half 1 0 bit refl)) ∙ p1-cell bit row column p e
 
-pub pids-written : (mode half frame bit row column : ℕ) (p : Position) → located 2 frame bit ≡ At p row column
+pub pids-written : (mode half frame bit row column : ℕ) (p : Position) → located 2 frame bit ≡ Ok (at_cell p row column)
     → (writing_of mode half 2 frame bit).cell ≡ row * 720 + column
 unfolding pids_writing
 pids-written mode half frame bit row column p e =
@@ -171,7 +170,7 @@ module _ (mode : ℕ) (is : main_of mode ≡ Plain) (a : SenderRun mode) (t : �
   is-valid : (z : ℕ) → z < 8 → valid (state_at mode z t) ≡ true
   is-valid z lz = valid-at mode (covered_of mode a) z lz t
 
-  p1-comes : (z bit row column : ℕ) (p : Position) → z < 8 → located 1 0 bit ≡ At p row column
+  p1-comes : (z bit row column : ℕ) (p : Position) → z < 8 → located 1 0 bit ≡ Ok (at_cell p row column)
       → ComesTo (bit_at (matrices_at mode a t).pm (row * 720 + column)) (row * 720 + column) (worked (state_at mode z t) 1 (frame_at mode a t).p1 0 bit)
   p1-comes z bit row column p lz e =
       comes-to-coded (state_at mode z t) 1 (frame_at mode a t).p1 0 bit 146176 1 TwoFifths (is-valid z lz) is-older (bits-p1 mode 1 refl) (λ z. omega arith) (frames-p1 1 refl)
@@ -180,7 +179,7 @@ module _ (mode : ℕ) (is : main_of mode ≡ Plain) (a : SenderRun mode) (t : �
       ∙ ap (channel TwoFifths 146176 (bit_at (frame_at mode a t).p1)) (sym (zero-add bit)))
       (p1-written mode (t % 2) bit row column p e)
 
-  pids-comes : (z frame bit row column : ℕ) (p : Position) → z < 8 → located 2 frame bit ≡ At p row column
+  pids-comes : (z frame bit row column : ℕ) (p : Position) → z < 8 → located 2 frame bit ≡ Ok (at_cell p row column)
       → ComesTo (bit_at (matrices_at mode a t).pm (row * 720 + column)) (row * 720 + column) (worked (state_at mode z t) 2 (frame_at mode a t).pids frame bit)
   unfolding pids_len
   pids-comes z frame bit row column p lz e =
@@ -191,7 +190,7 @@ module _ (mode : ℕ) (is : main_of mode ≡ Plain) (a : SenderRun mode) (t : �
       (pids-written mode (t % 2) frame bit row column p e)
 
   coded-comes : (e : Extended) (z frame bit later pair row column : ℕ) → z < 8
-      → located_px (state_at mode z t) (channel_number e) frame bit ≡ AtPX later pair row column
+      → located_px (state_at mode z t) (channel_number e) frame bit ≡ Ok (at_cell-px later pair row column)
       → t + later < count mode a
       → ComesTo (bit_at (matrix_of mode (matrices_at mode a (t + later)) e) (cell_of (kind_of mode e) pair row column))
       (step_of (table_row (kind_of mode e)) ((t + later) % 2) (cell_of (kind_of mode e) pair row column))

@@ -57,19 +57,11 @@ pub fn refused(answer: Answer) -> Worked
 }
 
 // Whether the mode is MP1, MP2, MP3 or MP11.
+#[tactic(auto, unfolding(crate::specs::Shown::older, control::specs::Modes::one_of))]
 fn is_older(mode: u8) -> bool
     ensures { result ≡ older mode }
 {
-    if mode == 1 {
-        return true;
-    }
-    if mode == 2 {
-        return true;
-    }
-    if mode == 3 {
-        return true;
-    }
-    mode == 11
+    matches!(mode, 1 | 2 | 3 | 11)
 }
 
 // The rate of a channel.
@@ -166,10 +158,8 @@ fn seven_bits(frames: &[u8], start: usize, n: usize, j: usize) -> [u8; 7]
     ensures { result ≡ listed 7 (λ d. bit_at frames.now (start + «back-of» n j d)) }
 {
     let mut seven = [0u8; 7];
-    let mut d: usize = 0;
-    while d < 7 {
+    for d in 0..7 {
         seven[d] = bits::get(frames, start + back(n, j, d));
-        d += 1;
     }
     seven
 }
@@ -180,10 +170,8 @@ fn seven_added(n: usize, j: usize) -> [u8; 7]
     ensures { result ≡ listed 7 (λ d. sequence («back-of» n j d)) }
 {
     let mut seven = [0u8; 7];
-    let mut d: usize = 0;
-    while d < 7 {
+    for d in 0..7 {
         seven[d] = scrambling::sequence_bit(back(n, j, d));
-        d += 1;
     }
     seven
 }
@@ -205,10 +193,8 @@ fn weigh(g: u8, bits: [u8; 7], scrambling: [u8; 7]) -> u8
     ensures { (result ≡ weighed g bits scrambling) × (result ≤ 14) }
 {
     let mut sum: u8 = 0;
-    let mut d: usize = 0;
-    while d < 7 {
+    for d in 0..7 {
         sum += taken(g, d, bits[d] + scrambling[d]);
-        d += 1;
     }
     sum
 }

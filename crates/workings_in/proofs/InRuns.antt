@@ -5,6 +5,7 @@ use mathlib.Core.Bool.{true}
 use mathlib.Core.List.{List}
 use Prim.Native.Nat.{ℕ, ◌+◌, ◌-◌, ◌*◌, ◌%◌, ◌≤◌, ◌<◌}
 use native.Mathlib.Omega.{arith}
+use Rattle.std.specs.Prelude.{Ok}
 use Rattle.bits.specs.Bits.{bit_at}
 use Rattle.coding.specs.declared.Rate.TheVariants.{TwoFifths, Half}
 use Rattle.coding.specs.Rates.{coded_length}
@@ -33,9 +34,8 @@ use Rattle.runs.proofs.States.{valid-at}
 use Rattle.queries.specs.FinderPX as PX
 use Rattle.queries.specs.FinderPX.{found_px, frame_coded}
 use Rattle.queries.specs.Sheets.{channel_number}
-use Rattle.locating.specs.declared.locator.Located.TheVariants.{At}
-use Rattle.locating.specs.declared.locator_px.LocatedPx.TheVariants.{At as AtPX}
-use Rattle.locating.specs.Locator.{located}
+use Rattle.locating.specs.Locator.{at_cell, located}
+use Rattle.locating.specs.LocatorPX.{at_cell as at_cell-px}
 use Rattle.locating.proofs.CasesPM.{pids-range, p1-cell, pids-cell}
 use Rattle.locating.proofs.AgainPX.{in-range, written-to}
 use Rattle.finding.specs.VectorU as U
@@ -124,7 +124,7 @@ module _ (mode : ℕ) (a : SenderRun mode) (t : ℕ) (h : t < count mode a) wher
       (ap (λ (s : State). worked s number frames frame bit) (sym (older-at (main_of mode) mode z t refl))
       ∙ as-older (state_at mode z t) number frame bit frames (is-valid z lz) main refl (bits_in main number) refl none)
 
-  pids-comes : (z frame bit row column : ℕ) (p : Position) → z < 8 → located_in mode 2 frame bit ≡ At p row column
+  pids-comes : (z frame bit row column : ℕ) (p : Position) → z < 8 → located_in mode 2 frame bit ≡ Ok (at_cell p row column)
       → ComesTo (bit_at (matrices_at mode a t).pm (row * 720 + column)) (row * 720 + column) (worked_in (state_at mode z t) 2 (frame_at mode a t).pids frame bit)
   unfolding pids_len
   pids-comes z frame bit row column p lz f =
@@ -139,7 +139,7 @@ module _ (mode : ℕ) (a : SenderRun mode) (t : ℕ) (h : t < count mode a) wher
       (pids-written old (t % 2) frame bit row column p e))
 
   coded-comes : (e : Extended) (z frame bit later pair row column : ℕ) → z < 8
-      → located_px_in (state_at mode z t) (channel_number e) frame bit ≡ AtPX later pair row column
+      → located_px_in (state_at mode z t) (channel_number e) frame bit ≡ Ok (at_cell-px later pair row column)
       → t + later < count mode a
       → ComesTo (bit_at (matrix_of mode (matrices_at mode a (t + later)) e) (PX.cell_of (kind_of mode e) pair row column))
       (step_of (table_row (kind_of mode e)) ((t + later) % 2) (PX.cell_of (kind_of mode e) pair row column))
@@ -166,7 +166,7 @@ module _ (mode : ℕ) (a : SenderRun mode) (t : ℕ) (h : t < count mode a) wher
 
   -- ---- the channels of MP5 and MP6 alone
 
-  p2-comes : (z frame bit row column : ℕ) (p : Position) → z < 8 → located_in mode 5 frame bit ≡ At p row column
+  p2-comes : (z frame bit row column : ℕ) (p : Position) → z < 8 → located_in mode 5 frame bit ≡ Ok (at_cell p row column)
       → ComesTo (bit_at (matrices_at mode a t).pm (row * 720 + column)) (row * 720 + column) (worked_in (state_at mode z t) 5 (frame_at mode a t).p2 frame bit)
   p2-comes z frame bit row column p lz f =
       let (some, lf, lb, e) = p2-says main frame bit row column p (located-p2 mode 5 frame bit is (λ q. omega arith) refl ∙ f) in
@@ -177,7 +177,7 @@ module _ (mode : ℕ) (a : SenderRun mode) (t : ℕ) (h : t < count mode a) wher
       (ap (bit_at (matrices_at mode a t).pm) (sym at) ∙ p2-shown mode a t h bit lb ∙ ap (channel TwoFifths (p2_bits main) (bit_at (frame_at mode a t).p2)) first)
       (p2-written main frame bit ∙ at)
 
-  two-p1-comes : (main_of mode ≡ Plain → ⊥) → (z frame bit row column : ℕ) (p : Position) → z < 8 → located_in mode 1 frame bit ≡ At p row column
+  two-p1-comes : (main_of mode ≡ Plain → ⊥) → (z frame bit row column : ℕ) (p : Position) → z < 8 → located_in mode 1 frame bit ≡ Ok (at_cell p row column)
       → ComesTo (bit_at (matrices_at mode a t).pm (row * 720 + column)) (row * 720 + column) (worked_in (state_at mode z t) 1 (frame_at mode a t).p1 frame bit)
   two-p1-comes two z frame bit row column p lz f =
       let (lf, lb, e) = p1-says main frame bit row column p (located-p1 mode 1 frame bit is refl ∙ f) in
@@ -189,7 +189,7 @@ module _ (mode : ℕ) (a : SenderRun mode) (t : ℕ) (h : t < count mode a) wher
       (p1-written main frame bit ∙ at)
 
   -- an older mode has the one P1 frame
-  one-p1-comes : main_of mode ≡ Plain → (z frame bit row column : ℕ) (p : Position) → z < 8 → located_in mode 1 frame bit ≡ At p row column
+  one-p1-comes : main_of mode ≡ Plain → (z frame bit row column : ℕ) (p : Position) → z < 8 → located_in mode 1 frame bit ≡ Ok (at_cell p row column)
       → ComesTo (bit_at (matrices_at mode a t).pm (row * 720 + column)) (row * 720 + column) (worked_in (state_at mode z t) 1 (frame_at mode a t).p1 frame bit)
   one-p1-comes one z frame bit row column p lz f =
       let (lf, lb, e) = p1-says main frame bit row column p (located-p1 mode 1 frame bit is refl ∙ f) in
@@ -200,11 +200,11 @@ module _ (mode : ℕ) (a : SenderRun mode) (t : ℕ) (h : t < count mode a) wher
       ∙ sym ((as-before-worked (state_at mode z t) one).works 1 (frame_at mode a t).p1 frame bit))
       ((worked-sheets mode one a t h).p1-bit z bit row column p lz (ap (located 1 0) (sym number) ∙ e))
 
-  p1-comes : (z frame bit row column : ℕ) (p : Position) → z < 8 → located_in mode 1 frame bit ≡ At p row column
+  p1-comes : (z frame bit row column : ℕ) (p : Position) → z < 8 → located_in mode 1 frame bit ≡ Ok (at_cell p row column)
       → ComesTo (bit_at (matrices_at mode a t).pm (row * 720 + column)) (row * 720 + column) (worked_in (state_at mode z t) 1 (frame_at mode a t).p1 frame bit)
   p1-comes = go (main-cases (main_of mode))
     where
-      go : Dec (main_of mode ≡ Plain) → (z frame bit row column : ℕ) (p : Position) → z < 8 → located_in mode 1 frame bit ≡ At p row column
+      go : Dec (main_of mode ≡ Plain) → (z frame bit row column : ℕ) (p : Position) → z < 8 → located_in mode 1 frame bit ≡ Ok (at_cell p row column)
           → ComesTo (bit_at (matrices_at mode a t).pm (row * 720 + column)) (row * 720 + column) (worked_in (state_at mode z t) 1 (frame_at mode a t).p1 frame bit)
       go (yes one) = one-p1-comes one
       go (no two) = two-p1-comes two
@@ -213,7 +213,7 @@ module _ (mode : ℕ) (a : SenderRun mode) (t : ℕ) (h : t < count mode a) wher
 
 module _ (mode : ℕ) (a : SenderRun mode) where
   second-comes : (t : ℕ) (z frame bit later pair row column : ℕ) → z < 8
-      → located_px_in (state_at mode z t) 6 frame bit ≡ AtPX later pair row column
+      → located_px_in (state_at mode z t) 6 frame bit ≡ Ok (at_cell-px later pair row column)
       → t + later < count mode a
       → ComesTo (bit_at (p1'_in mode (matrices_at mode a (t + later))) (cell_of (main_of mode) pair row column)) (cell_of (main_of mode) pair row column)
       (worked_in (state_at mode z t) 6 (frame_at mode a t).p1 frame bit)
@@ -235,7 +235,7 @@ module _ (mode : ℕ) (a : SenderRun mode) where
       (second-written k frame bit ∙ at)
 
   second-cell-comes : (t : ℕ) → t < count mode a → (z z' pair row column frame bit : ℕ) → z < 8 → z' < 8
-      → found_px_in (state_at mode z t) 4 pair row column ≡ Second frame bit
+      → found_px_in (state_at mode z t) 4 pair row column ≡ Ok (Second frame bit)
       → (3 ≤ t)
       × ComesTo (bit_at (p1'_in mode (matrices_at mode a t)) (cell_of (main_of mode) pair row column)) (cell_of (main_of mode) pair row column)
       (worked_in (state_at mode z' (t - 3)) 6 (frame_at mode a (t - 3)).p1 frame bit)

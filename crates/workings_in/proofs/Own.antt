@@ -6,6 +6,7 @@ use Prim.Native.Nat.{ℕ, ◌+◌, ◌*◌, ◌/◌, ◌%◌, ◌<◌}
 use native.Mathlib.Decide.{dec_lt, ℕ_discrete}
 use native.Mathlib.Omega.{arith}
 use lib.ListN.{length}
+use Rattle.std.specs.Prelude.{Ok}
 use Rattle.bits.specs.Bits.{bit_at}
 use Rattle.coding.specs.declared.Rate.{Rate}
 use Rattle.coding.specs.declared.Rate.TheVariants.{TwoFifths, Half}
@@ -20,8 +21,7 @@ use Rattle.runs.specs.declared.State.{State}
 use Rattle.runs.specs.MainChannels.{main_of, p1_bits, p1_frames, p2_bits, p1'_bits, p1'_row, p1_len, p2_len}
 use Rattle.runs.specs.Chain.{p1_coded}
 use Rattle.runs.specs.Starting.{valid}
-use Rattle.locating.specs.declared.locator.Located.TheVariants.{At}
-use Rattle.locating.specs.Locator.{located}
+use Rattle.locating.specs.Locator.{at_cell, located}
 use Rattle.locating.specs.declared.writing.Writing.{Writing}
 use Rattle.locating.specs.Writing.{p1_writing}
 use Rattle.finding.specs.VectorU.{frame_coded, p2_coded}
@@ -92,21 +92,21 @@ module _ (k : Main) (frame bit : ℕ) where
 -- ---- what the locator of PM says of a bit that it does not refuse
 
 module _ (k : Main) (frame bit row column : ℕ) (p : Position) where
-  pub p1-says : p1_in k frame bit ≡ At p row column → (frame < p1_frames k) × (bit < frame_coded k) × (located 1 0 (frame * frame_coded k + bit) ≡ At p row column)
+  pub p1-says : p1_in k frame bit ≡ Ok (at_cell p row column) → (frame < p1_frames k) × (bit < frame_coded k) × (located 1 0 (frame * frame_coded k + bit) ≡ Ok (at_cell p row column))
   p1-says e = go (dec_lt frame (p1_frames k)) (dec_lt bit (frame_coded k))
     where
       go : Dec (frame < p1_frames k) → Dec (bit < frame_coded k)
-          → (frame < p1_frames k) × (bit < frame_coded k) × (located 1 0 (frame * frame_coded k + bit) ≡ At p row column)
+          → (frame < p1_frames k) × (bit < frame_coded k) × (located 1 0 (frame * frame_coded k + bit) ≡ Ok (at_cell p row column))
       go (yes lf) (yes lb) = (lf, lb, p1-in k frame bit lf lb ∙ e)
       go (no lf) lb = let r = p1-frame-out k frame bit (omega arith) in let z : ◌≡◌ {A = ℕ} 0 1 = cc in absurd (omega arith)
       go (yes lf) (no lb) = let r = p1-bit-out k frame bit lf (omega arith) in let z : ◌≡◌ {A = ℕ} 0 1 = cc in absurd (omega arith)
 
-  pub p2-says : p2_in k frame bit ≡ At p row column
-      → (p2_coded k ≡ 0 → ⊥) × (frame < 1) × (bit < p2_coded k) × (located 1 0 (p1_coded k + bit) ≡ At p row column)
+  pub p2-says : p2_in k frame bit ≡ Ok (at_cell p row column)
+      → (p2_coded k ≡ 0 → ⊥) × (frame < 1) × (bit < p2_coded k) × (located 1 0 (p1_coded k + bit) ≡ Ok (at_cell p row column))
   p2-says e = go (ℕ_discrete (p2_coded k) 0) (dec_lt frame 1) (dec_lt bit (p2_coded k))
     where
       go : Dec (p2_coded k ≡ 0) → Dec (frame < 1) → Dec (bit < p2_coded k)
-          → (p2_coded k ≡ 0 → ⊥) × (frame < 1) × (bit < p2_coded k) × (located 1 0 (p1_coded k + bit) ≡ At p row column)
+          → (p2_coded k ≡ 0 → ⊥) × (frame < 1) × (bit < p2_coded k) × (located 1 0 (p1_coded k + bit) ≡ Ok (at_cell p row column))
       go (no n) (yes lf) (yes lb) = (n, lf, lb, p2-in k frame bit n lf lb ∙ e)
       go (yes q) lf lb = let r = p2-out k frame bit q in let z : ◌≡◌ {A = ℕ} 0 1 = cc in absurd (omega arith)
       go (no n) (no lf) lb = let r = p2-frame-out k frame bit n (omega arith) in let z : ◌≡◌ {A = ℕ} 0 1 = cc in absurd (omega arith)

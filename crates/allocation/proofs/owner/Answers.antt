@@ -8,25 +8,13 @@ use Rattle.allocation.proofs.owner.Goals as goal
 pub loop-d-init : goal.loop-d-init
 loop-d-init c = (omega arith, refl)
 
-pub bounds-given-d : goal.bounds-given-d
-bounds-given-d c = omega arith
-
-pub overflow_cast-result : goal.overflow_cast-result
-overflow_cast-result c = omega arith
-
 pub returns-then-rest-n : goal.returns-then-rest-n
 returns-then-rest-n c =
-    sym (c.loop-d.invariant.1 ∙ here _ _ _ c.loop-d-test.true (subst (λ (n : ℕ). c.loop-d.rest < n) c.wide-n.ensures.0 c.if-rest-n.true))
-
-pub overflow_add-d : goal.overflow_add-d
-overflow_add-d c = omega arith
-
-pub loop-d-smaller : goal.loop-d-smaller
-loop-d-smaller c = omega arith
+    sym (c.loop-d.invariant.1 ∙ here _ _ _ c.loop-d-test.true (subst (λ (n : ℕ). c.loop-d.rest < n) c.from-n.ensures c.if-rest-n.true))
 
 pub loop-d-preserved : goal.loop-d-preserved
 loop-d-preserved c =
-    (omega arith, c.loop-d.invariant.1 ∙ further _ _ _ c.loop-d-test.true (subst (λ (n : ℕ). n ≤ c.loop-d.rest) c.wide-n.ensures.0 c.if-rest-n.false) ∙ ap (λ (n : ℕ). owner_of (8 - (c.loop-d.d + 1)) (c.loop-d.d + 1) c.args.given (c.loop-d.rest - n)) (sym c.wide-n.ensures.0))
+    (omega arith, c.loop-d.invariant.1 ∙ further _ _ _ c.loop-d-test.true (subst (λ (n : ℕ). n ≤ c.loop-d.rest) c.from-n.ensures c.if-rest-n.false) ∙ ap (λ (n : ℕ). owner_of (8 - (c.loop-d.d + 1)) (c.loop-d.d + 1) c.args.given (c.loop-d.rest - n)) (sym c.from-n.ensures))
 
 pub returns : goal.returns
 returns c = sym (c.loop-d.invariant.1 ∙ nobody _ _ _ c.loop-d-test.false)

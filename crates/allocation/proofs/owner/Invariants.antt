@@ -6,6 +6,3 @@ use Rattle.allocation.proofs.owner.Given as goal
 
 abbrev pub invariant-loop-d : goal.invariant-loop-d
 invariant-loop-d l = (l.d ≤ 8) × (owner_of 8 0 l.given l.q ≡ owner_of (8 - l.d) l.d l.given l.rest)
-
-abbrev pub decreases-loop-d : goal.decreases-loop-d
-decreases-loop-d l = 8 - l.d

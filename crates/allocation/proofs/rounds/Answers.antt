@@ -8,12 +8,6 @@ use Rattle.allocation.proofs.rounds.Goals as goal
 pub loop-n-init : goal.loop-n-init
 loop-n-init c = (omega arith, λ shares e. e ∙ turns-none shares _)
 
-pub overflow_add-n : goal.overflow_add-n
-overflow_add-n c = omega arith
-
-pub loop-n-smaller : goal.loop-n-smaller
-loop-n-smaller c = omega arith
-
 pub loop-n-preserved : goal.loop-n-preserved
 loop-n-preserved c = (omega arith, λ shares e. c.turn_of-s.ensures ∙ ap (turn _ (c.loop-n.n % 8)) (c.loop-n.invariant.1 shares e) ∙ turns_more shares _ c.loop-n.n)
 

@@ -2,28 +2,14 @@ use mathlib.Core.Path.{refl}
 use native.Mathlib.Omega.{arith}
 use Rattle.allocation.specs.Allocation.{smaller}
 use Rattle.bits.proofs.Listed.{filled_none, filled-turn, filled-all}
+use borrow.Author.Rules.{rules}
 use Rattle.allocation.proofs.smaller_each.Goals as goal
 
 pub loop-d-init : goal.loop-d-init
 loop-d-init c = (omega arith, filled_none 8 _ _ refl)
 
-pub bounds-shares-d : goal.bounds-shares-d
-bounds-shares-d c = omega arith
-
-pub bounds-waiting-d : goal.bounds-waiting-d
-bounds-waiting-d c = omega arith
-
-pub bounds-given-d : goal.bounds-given-d
-bounds-given-d c = omega arith
-
-pub overflow_add-d : goal.overflow_add-d
-overflow_add-d c = omega arith
-
-pub loop-d-smaller : goal.loop-d-smaller
-loop-d-smaller c = omega arith
-
 pub loop-d-preserved : goal.loop-d-preserved
-loop-d-preserved c = (omega arith, filled-turn _ c.loop-d.invariant.1 c.loop-d-test.true c.smaller_of.ensures)
+loop-d-preserved c = (omega arith, filled-turn _ c.loop-d.invariant.1 c.loop-d-test.true (search rules))
 
 pub returns : goal.returns
 unfolding smaller

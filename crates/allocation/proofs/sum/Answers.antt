@@ -5,23 +5,11 @@ use Rattle.allocation.specs.Allocation.{total}
 use Rattle.allocation.proofs.Steps.{total-more, total-none}
 use Rattle.allocation.proofs.sum.Goals as goal
 
-pub loop-d-init : goal.loop-d-init
-loop-d-init c = (omega arith, omega arith, total-none _)
+pub loop-n-init : goal.loop-n-init
+loop-n-init c = (omega arith, omega arith, total-none _)
 
-pub bounds-numbers-d : goal.bounds-numbers-d
-bounds-numbers-d c = omega arith
-
-pub overflow_add-s : goal.overflow_add-s
-overflow_add-s c = omega (arith, c.wide-s.ensures.1)
-
-pub overflow_add-d : goal.overflow_add-d
-overflow_add-d c = omega arith
-
-pub loop-d-smaller : goal.loop-d-smaller
-loop-d-smaller c = omega arith
-
-pub loop-d-preserved : goal.loop-d-preserved
-loop-d-preserved c = (omega arith, omega (arith, c.wide-s.ensures.1), ap₂ ◌+◌ c.loop-d.invariant.2 c.wide-s.ensures.0 ∙ sym (total-more c.loop-d.d _))
+pub loop-n-preserved : goal.loop-n-preserved
+loop-n-preserved c = (omega arith, omega arith, ap₂ ◌+◌ c.loop-n.invariant.2 c.from-s.ensures ∙ sym (total-more c.loop-n.n-index _))
 
 pub returns : goal.returns
-returns c = let e : c.loop-d.d ≡ 8 = omega arith in c.loop-d.invariant.2 ∙ ap (λ (d : ℕ). total d c.args.numbers) e
+returns c = let e : c.loop-n.n-index ≡ 8 = omega arith in c.loop-n.invariant.2 ∙ ap (λ (d : ℕ). total d c.args.numbers) e

@@ -9,12 +9,6 @@ loop-q-init c = (omega arith, filled_none 16 _ _ c.requires)
 pub bounds-places-q : goal.bounds-places-q
 bounds-places-q c = omega (arith, c.loop-q.invariant.1.long)
 
-pub overflow_add-q : goal.overflow_add-q
-overflow_add-q c = omega arith
-
-pub loop-q-smaller : goal.loop-q-smaller
-loop-q-smaller c = omega arith
-
 pub loop-q-preserved : goal.loop-q-preserved
 loop-q-preserved c = (omega arith, filled-turn _ c.loop-q.invariant.1 c.loop-q-test.true c.owner.ensures)
 

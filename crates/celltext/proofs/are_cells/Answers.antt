@@ -9,25 +9,25 @@ use Rattle.bits.proofs.Tests.{all-false, all_true}
 use Rattle.celltext.specs.Lines.{is_cell}
 use Rattle.celltext.proofs.are_cells.Goals as goal
 
-pub loop-i-init : goal.loop-i-init
-loop-i-init c = (omega arith, λ n h. absurd (omega arith))
+pub loop-b-init : goal.loop-b-init
+loop-b-init c = (omega arith, λ n h. absurd (omega arith))
 
 pub returns-then-not-is_cell : goal.returns-then-not-is_cell
 returns-then-not-is_cell c =
-    let loop = c.loop-i in
-    sym (all-false 200 (λ n. is_cell (get_or c.args.line.now n 0)) loop.i (omega arith) (sym c.is_cell.ensures ∙ c.if-not-is_cell.true))
+    let loop = c.loop-b in
+    sym (all-false 200 (λ n. is_cell (get_or c.args.line.now n 0)) loop.b-index (omega arith) (sym c.is_cell.ensures ∙ c.if-not-is_cell.true))
 
-pub loop-i-preserved : goal.loop-i-preserved
-loop-i-preserved c =
-    let loop = c.loop-i in
+pub loop-b-preserved : goal.loop-b-preserved
+loop-b-preserved c =
+    let loop = c.loop-b in
     let line = c.args.line.now in (
       search rules,
       λ n h.
-          elim (dec_lt n loop.i) [
+          elim (dec_lt n loop.b-index) [
             | yes l ↦ loop.invariant.1 n l
             | no l ↦ subst (λ (k : ℕ). is_cell (get_or line k 0) ≡ true) (omega arith) (sym c.is_cell.ensures ∙ c.if-not-is_cell.false)
           ],
     )
 
 pub returns : goal.returns
-returns c = sym (all_true 200 (λ n. is_cell (get_or c.args.line.now n 0)) (λ n h. c.loop-i.invariant.1 n (omega arith)))
+returns c = sym (all_true 200 (λ n. is_cell (get_or c.args.line.now n 0)) (λ n h. c.loop-b.invariant.1 n (omega arith)))

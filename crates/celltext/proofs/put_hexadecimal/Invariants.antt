@@ -1,12 +1,9 @@
 -- `celltext::put_hexadecimal` meets its contract. The loop's invariant: the first i bytes are put. Assumes nothing.
-use Prim.Native.Nat.{◌*◌, ◌≤◌, ◌-◌}
+use Prim.Native.Nat.{◌*◌, ◌≤◌}
 use lib.ListN.{length, take}
 use Rattle.text.specs.Put.{Put}
 use Rattle.celltext.specs.Found.{hexadecimal}
 use Rattle.celltext.proofs.put_hexadecimal.Given as goal
 
-abbrev pub invariant-loop-i : goal.invariant-loop-i
-invariant-loop-i l = (l.i ≤ length l.bytes) × Put l.initial.out l.out l.at l.end (2 * l.i) (hexadecimal (take l.i l.bytes))
-
-abbrev pub decreases-loop-i : goal.decreases-loop-i
-decreases-loop-i l = length l.bytes - l.i
+abbrev pub invariant-loop-b : goal.invariant-loop-b
+invariant-loop-b l = (l.b-index ≤ length l.bytes) × Put l.initial.out l.out l.at l.end (2 * l.b-index) (hexadecimal (take l.b-index l.bytes))

@@ -27,14 +27,8 @@ frame_unit-requires c =
       bound = (pre.enough, pre.even, coded-frame-there pre loop.u (omega arith), loop.invariant.1.0);
     }
 
-pub overflow_mul-u : goal.overflow_mul-u
-overflow_mul-u c = omega arith
-
 pub store-requires : goal.store-requires
 store-requires c = (omega arith, omega arith)
-
-pub loop-u-smaller : goal.loop-u-smaller
-loop-u-smaller c = omega arith
 
 pub loop-u-preserved : goal.loop-u-preserved
 loop-u-preserved c =

@@ -33,9 +33,6 @@ store_unit-requires c =
     let there = coded-unit-there c.requires c.loop-u.u c.loop-u-test.true refl in
     omega arith
 
-pub loop-u-smaller : goal.loop-u-smaller
-loop-u-smaller c = omega arith
-
 pub loop-u-preserved : goal.loop-u-preserved
 loop-u-preserved c =
     let a = c.args in

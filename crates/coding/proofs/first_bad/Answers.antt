@@ -28,9 +28,6 @@ pub load_unit-requires : goal.load_unit-requires
 load_unit-requires c =
     coded-unit-there c.requires.buffers c.loop-u.u (omega arith) refl
 
-pub nonzero_div-result-then-coded_unit-load_unit : goal.nonzero_div-result-then-coded_unit-load_unit
-nonzero_div-result-then-coded_unit-load_unit c = omega arith
-
 pub returns-then-coded_unit-load_unit : goal.returns-then-coded_unit-load_unit
 returns-then-coded_unit-load_unit c =
     let loop = c.loop-u in

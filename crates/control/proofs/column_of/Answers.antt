@@ -1,16 +1,14 @@
-use mathlib.Core.Path.{◌≡◌, refl, ap, ◌∙◌}
-use Prim.Native.Nat.{ℕ, ◌-◌, ◌/◌, ◌^◌}
+use mathlib.Core.Path.{refl}
+use Prim.Native.Nat.{◌-◌, ◌/◌, ◌^◌}
 use native.Mathlib.Omega.{arith}
-use borrow.Author.Rules.{rules}
 use lib.Bits.{bit_xor, and_le_r}
 use Rattle.bits.specs.Bits.{number}
-use Rattle.control.specs.Control.{encoded}
 use Rattle.control.proofs.Packing.{encoded-turn, encoded-rows-lt}
 use Rattle.control.proofs.column_of.Goals as goal
 
 pub loop-row-init : goal.loop-row-init
 unfolding number
-loop-row-init c = (search rules, refl)
+loop-row-init c = refl
 
 pub overflow_mul-y : goal.overflow_mul-y
 overflow_mul-y c =
@@ -33,11 +31,4 @@ loop-row-preserved c =
     let a = c.args in
     let s = c.sequence_of-x in
     let loop = c.loop-row in
-    (search rules, encoded-turn a.mode a.count a.reserved a.column loop.row s.result loop.y c.loop-row-test.true s.ensures loop.invariant.1)
-
-pub returns : goal.returns
-returns c =
-    let a = c.args in
-    let e : c.loop-row.row ≡ 32 = omega arith in
-    c.loop-row.invariant.1
-    ∙ ap (λ (n : ℕ). number n (encoded a.mode a.count a.reserved a.column)) e
+    encoded-turn a.mode a.count a.reserved a.column loop.row s.result loop.y (omega arith) s.ensures loop.invariant

@@ -1,12 +1,9 @@
 -- `control::departing_from` meets its contract. The loop's invariant: no block below c departs. Assumes nothing.
 use mathlib.Core.Path.{◌≡◌}
 use mathlib.Core.Bool.{false}
-use Prim.Native.Nat.{ℕ, ◌-◌, ◌≤◌, ◌<◌}
+use Prim.Native.Nat.{ℕ, ◌<◌}
 use Rattle.control.specs.Departs.{departs}
 use Rattle.control.proofs.departing_from.Given as goal
 
 abbrev pub invariant-loop-c : goal.invariant-loop-c
-invariant-loop-c l = (l.c ≤ 16) × ((i : ℕ) → i < l.c → departs l.mode l.reserved l.control i ≡ false)
-
-abbrev pub decreases-loop-c : goal.decreases-loop-c
-decreases-loop-c l = 16 - l.c
+invariant-loop-c l = (i : ℕ) → i < l.c → departs l.mode l.reserved l.control i ≡ false

@@ -1,7 +1,5 @@
-use mathlib.Core.Path.{◌≡◌, refl, ap, ◌∙◌}
-use Prim.Native.Nat.{ℕ, ◌+◌}
+use mathlib.Core.Path.{refl}
 use native.Mathlib.Omega.{arith}
-use borrow.Author.Rules.{rules}
 use Rattle.bits.specs.Bits.{number}
 use Rattle.bits.proofs.Stores.{number-turn}
 use Rattle.control.specs.Words.{decoded}
@@ -10,28 +8,10 @@ use Rattle.control.proofs.field_at.Goals as goal
 
 pub loop-i-init : goal.loop-i-init
 unfolding number
-loop-i-init c = (search rules, refl)
-
-pub overflow_add-row : goal.overflow_add-row
-overflow_add-row c = omega arith
-
-pub decoded_at-requires : goal.decoded_at-requires
-decoded_at-requires c = omega arith
-
-pub overflow_add-i : goal.overflow_add-i
-overflow_add-i c = omega arith
-
-pub loop-i-smaller : goal.loop-i-smaller
-loop-i-smaller c = omega arith
+loop-i-init c = refl
 
 pub loop-i-preserved : goal.loop-i-preserved
 loop-i-preserved c =
     let a = c.args in
     let loop = c.loop-i in
-    (omega arith, number-turn (decoded a.block.now) (decoded-lt a.block.now) a.row loop.i loop.x _ (omega arith) loop.invariant.1 c.decoded_at.ensures)
-
-pub returns : goal.returns
-returns c =
-    let a = c.args in
-    let e : c.loop-i.i ≡ a.k = omega arith in
-    c.loop-i.invariant.1 ∙ ap (λ (n : ℕ). number n (λ i. decoded a.block.now (a.row + i))) e
+    number-turn (decoded a.block.now) (decoded-lt a.block.now) a.row loop.i loop.x _ (omega arith) loop.invariant c.decoded_at.ensures

@@ -1,7 +1,6 @@
 use mathlib.Core.Path.{◌≡◌, ap, ◌∙◌}
 use Prim.Native.Nat.{ℕ, ◌+◌, ◌*◌}
 use native.Mathlib.Omega.{arith}
-use lib.ListN.{length-set}
 use Rattle.bits.specs.Bits.{packed}
 use Rattle.bits.proofs.Stores.{stored-none, stored-all}
 use Rattle.control.specs.Control.{encoded, block_bit, block_of}
@@ -11,27 +10,6 @@ use Rattle.control.proofs.fill_block.Goals as goal
 
 pub loop-row-init : goal.loop-row-init
 loop-row-init c = stored-none (block_bit _ _ _) c.args.out.now
-
-pub bounds-out-j-in-loop-row : goal.bounds-out-j-in-loop-row
-bounds-out-j-in-loop-row c = simp length-set (omega arith)
-
-pub bounds-out-j-in-loop-row-2 : goal.bounds-out-j-in-loop-row-2
-bounds-out-j-in-loop-row-2 c = simp length-set (omega arith)
-
-pub bounds-out-j-in-loop-row-3 : goal.bounds-out-j-in-loop-row-3
-bounds-out-j-in-loop-row-3 c = simp length-set (omega arith)
-
-pub bounds-out-j-in-loop-row-4 : goal.bounds-out-j-in-loop-row-4
-bounds-out-j-in-loop-row-4 c = simp length-set (omega arith)
-
-pub bounds-out-j-in-loop-row-5 : goal.bounds-out-j-in-loop-row-5
-bounds-out-j-in-loop-row-5 c = simp length-set (omega arith)
-
-pub bounds-out-j-in-loop-row-6 : goal.bounds-out-j-in-loop-row-6
-bounds-out-j-in-loop-row-6 c = simp length-set (omega arith)
-
-pub bounds-out-j-in-loop-row-7 : goal.bounds-out-j-in-loop-row-7
-bounds-out-j-in-loop-row-7 c = simp length-set (omega arith)
 
 pub loop-row-preserved : goal.loop-row-preserved
 loop-row-preserved c =
@@ -57,9 +35,6 @@ loop-row-preserved c =
     (byte-5 y _ last ∙ byte _ 5 (omega arith) (omega arith))
     (byte-6 y _ last ∙ byte _ 6 (omega arith) (omega arith))
     (byte-7 y _ last (λ i. encoded-lt a.mode a.count a.reserved i row) ∙ byte _ 7 (omega arith) (omega arith)))
-
-pub shape_of-out : goal.shape_of-out
-shape_of-out c = c.loop-row.invariant.long
 
 pub returns : goal.returns
 unfolding block_of

@@ -1,30 +1,21 @@
-use mathlib.Core.Path.{refl, ◌∙◌}
+use mathlib.Core.Path.{refl}
 use native.Mathlib.Omega.{arith}
-use borrow.Author.Rules.{rules}
 use Rattle.bits.specs.Bits.{packed}
-use Rattle.control.proofs.Lent.{part_length, control-more, control-all}
+use Rattle.control.proofs.Lent.{control-more, control-all}
 use Rattle.control.proofs.fill_control.Goals as goal
 
 pub loop-count-init : goal.loop-count-init
 unfolding packed
-loop-count-init c = (refl, search rules, refl)
-
-pub fill_block-requires : goal.fill_block-requires
-fill_block-requires c =
-    let loop = c.loop-count in
-    (search rules, search rules, search rules, part_length loop.count loop.out (omega arith) (omega arith))
+loop-count-init c = refl
 
 pub loop-count-preserved : goal.loop-count-preserved
 loop-count-preserved c =
     let a = c.args in
-    let loop = c.loop-count in (
-      c.out-1.given.1 ∙ loop.invariant.0,
-      omega arith,
-      control-more a.mode a.reserved loop.count loop.out _ (omega arith) (omega arith) loop.invariant.2 c.fill_block.ensures,
-    )
+    let loop = c.loop-count in
+    control-more a.mode a.reserved loop.count loop.out _ (omega arith) (omega arith) loop.invariant c.fill_block.ensures
 
 pub returns : goal.returns
 returns c =
     let a = c.args in
     let loop = c.loop-count in
-    control-all a.mode a.reserved loop.count loop.out (omega arith) (omega arith) loop.invariant.2
+    control-all a.mode a.reserved loop.count loop.out (omega arith) (omega arith) loop.invariant

@@ -3,18 +3,6 @@ use native.Mathlib.Omega.{arith}
 use Rattle.control.proofs.Sequences.{sequence-number}
 use Rattle.control.proofs.sequence_of.Goals as goal
 
-pub overflow_add-result : goal.overflow_add-result
-overflow_add-result c = omega arith
-
-pub overflow_add-result-2 : goal.overflow_add-result-2
-overflow_add-result-2 c = omega arith
-
-pub overflow_add-result-3 : goal.overflow_add-result-3
-overflow_add-result-3 c = omega arith
-
-pub overflow_add-result-4 : goal.overflow_add-result-4
-overflow_add-result-4 c = omega arith
-
 pub returns : goal.returns
 returns c =
     let a = c.args in

@@ -22,12 +22,6 @@ pub overflow_add-to : goal.overflow_add-to
 overflow_add-to c =
     let r = frame-le c.requires.0 c.loop-f.f (omega arith) in omega (arith, r)
 
-pub slice_bounds-encode-count : goal.slice_bounds-encode-count
-slice_bounds-encode-count c = omega arith
-
-pub slice_bounds-encode-start : goal.slice_bounds-encode-start
-slice_bounds-encode-start c = omega arith
-
 pub slice_bounds-encode-end : goal.slice_bounds-encode-end
 slice_bounds-encode-end c =
     frame-le c.requires.0 c.loop-f.f (omega arith)

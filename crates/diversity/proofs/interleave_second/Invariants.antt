@@ -1,6 +1,6 @@
 -- `interleave_second` meets its contract. The loop's invariant: the first f frames are written. Assumes nothing.
 use mathlib.Core.Path.{◌≡◌}
-use Prim.Native.Nat.{◌-◌, ◌*◌, ◌/◌, ◌≤◌}
+use Prim.Native.Nat.{◌*◌, ◌/◌, ◌≤◌}
 use lib.ListN.{length}
 use Rattle.bits.specs.Bits.{Bytes, bit_at, written}
 use Rattle.coding.specs.declared.Rate.TheVariants.{Half}
@@ -12,6 +12,3 @@ abbrev pub invariant-loop-f : goal.invariant-loop-f
 invariant-loop-f l =
     (l.f ≤ 8) × (length l.coded ≡ length l.initial.coded) × (length l.px2 ≡ length l.initial.px2) × Bytes l.px2
     × (bit_at l.px2 ≡ written (place l.row) (coded_each Half (8 * (length l.scrambled / 8)) (bit_at l.scrambled)) (l.f * frame_bits l.row) (bit_at l.initial.px2))
-
-abbrev pub decreases-loop-f : goal.decreases-loop-f
-decreases-loop-f l = 8 - l.f

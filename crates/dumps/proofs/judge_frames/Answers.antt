@@ -26,10 +26,6 @@ overflow_add-at c =
     let le = room a.mode a.count a.frames.now _ _ _ _ _ c.loop-t.invariant.2 c.loop-t.invariant.6 c.loop-t-test.true c.judge_frame-judged.result _ c.judge_frame-judged.ensures (sym c.number.ensures ∙ c.if-number-ne0.false) in
     omega (arith, le, c.loop-t.invariant.0, c.ranges, c.well_formed)
 
-pub overflow_add-t : goal.overflow_add-t
-overflow_add-t c =
-    omega (arith, c.loop-t-test.true, c.ranges, c.well_formed)
-
 pub loop-t-preserved : goal.loop-t-preserved
 loop-t-preserved c =
     let a = c.args in (

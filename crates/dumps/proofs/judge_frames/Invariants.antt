@@ -12,6 +12,3 @@ invariant-loop-t l =
     (l.at ≤ length l.frames) × (l.t ≤ l.count) × (l.n ≡ frame_bytes l.mode)
     × (length l.memory3 ≡ length l.initial.memory3) × (length l.memory4 ≡ length l.initial.memory4) × (length l.delay ≡ length l.initial.delay)
     × (judged_frames l.mode (l.count - l.t) l.t l.state (memory l.memory3 l.memory4 l.delay) (drop l.at l.frames) ≡ judged_fresh l.mode l.count l.frames)
-
-abbrev pub decreases-loop-t : goal.decreases-loop-t
-decreases-loop-t l = l.count - l.t

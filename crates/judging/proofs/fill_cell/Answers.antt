@@ -1,5 +1,5 @@
 -- `fill_cell` meets its contract: PX1, the cells of P4 in PX2, and those of P1'. Assumes nothing.
-use mathlib.Core.Path.{◌≡◌, sym, ap, ◌∙◌}
+use mathlib.Core.Path.{◌≡◌, ap, ◌∙◌}
 use Prim.Native.Nat.{ℕ, ◌*◌, ◌≤◌}
 use native.Mathlib.Omega.{arith}
 use lib.ListN.{length}
@@ -8,36 +8,13 @@ use Rattle.runs.specs.Lengths.{kind_of, matrix_len}
 use Rattle.recover.specs.Rooms.{past}
 use Rattle.runs.proofs.Bounds.{matrix-le, second-le}
 use Rattle.recover.proofs.Mains.{lowest-is-le}
-use Rattle.calls.specs.Called.{matrices}
-use Rattle.judging.proofs.Staged.{cut-le, filled, fourth-long, past-le, second_is, second-long}
+use Rattle.calls.specs.Called.{signal_behind}
+use Rattle.judging.proofs.Staged.{filled, past-le, second_is, second-long}
 use Rattle.judging.proofs.fill_cell.Goals as goal
-
-pub first_fill-cell3-requires : goal.first_fill-cell3-requires
-first_fill-cell3-requires c = c.requires.0 ∙ ap matrix_len (sym c.kind_of-kind3.ensures)
-
-pub slice_bounds-first_fill-end : goal.slice_bounds-first_fill-end
-slice_bounds-first_fill-end c =
-    sym (fourth-long c.args.state c.args.px2.now c.requires.1 c.kind_of-kind4.ensures c.matrix_len-n.ensures.0)
-
-pub first_fill-cell4-requires : goal.first_fill-cell4-requires
-first_fill-cell4-requires c =
-    fourth-long c.args.state c.args.px2.now c.requires.1 c.kind_of-kind4.ensures c.matrix_len-n.ensures.0 ∙ c.matrix_len-n.ensures.0
-
-pub slice_bounds-first_delayed-count : goal.slice_bounds-first_delayed-count
-slice_bounds-first_delayed-count c =
-    cut-le c.args.state c.args.px2.now c.requires.1 c.kind_of-kind4.ensures c.matrix_len-n.ensures.0
-
-pub slice_bounds-first_delayed-start : goal.slice_bounds-first_delayed-start
-slice_bounds-first_delayed-start c =
-    cut-le c.args.state c.args.px2.now c.requires.1 c.kind_of-kind4.ensures c.matrix_len-n.ensures.0
 
 pub first_delayed-cell-requires : goal.first_delayed-cell-requires
 first_delayed-cell-requires c =
-    second-long c.args.state c.args.px2.now c.requires.1 c.kind_of-kind4.ensures c.matrix_len-n.ensures.0 c.main_of.ensures
-
-pub overflow_mul-px1 : goal.overflow_mul-px1
-overflow_mul-px1 c =
-    record { fits = omega (arith, c.requires.0, matrix-le (kind_of c.args.state.mode P3)) }
+    second-long c.args.state c.args.signal.now.px2.now c.requires.1 c.kind_of-kind4.ensures c.matrix_len-n.ensures.0 c.main_of.ensures
 
 pub past-requires : goal.past-requires
 past-requires c =
@@ -56,10 +33,9 @@ pub returns : goal.returns
 returns c =
     let a = c.args in
     let n = c.matrix_len-n in
-    let e3 : length a.px1.now * 8 ≡ 8 * matrix_len (kind_of a.state.mode P3) = omega (arith, c.requires.0) in
+    let e3 : length a.signal.now.px1.now * 8 ≡ 8 * matrix_len (kind_of a.state.mode P3) = omega (arith, c.requires.0) in
     let h4 = n.ensures.0 ∙ ap matrix_len c.kind_of-kind4.ensures in
     let e4 : n.result * 8 ≡ 8 * matrix_len (kind_of a.state.mode P4) = omega (arith, h4) in
-    λ pm.
-    c.past-2.ensures ∙ ap (λ (k : ℕ). past (length a.px1.now * 8) c.first_fill-cell3.result k) c.past.ensures
-    ∙ filled a.state (matrices pm a.px1.now a.px2.now) c.kind_of-kind3.ensures c.kind_of-kind4.ensures c.main_of.ensures n.ensures.0 e3 e4
-    (second_is a.state a.px2.now c.requires.1 c.kind_of-kind4.ensures n.ensures.0) c.first_fill-cell3.ensures c.first_fill-cell4.ensures c.first_delayed-cell.ensures
+    c.past-2.ensures ∙ ap (λ (k : ℕ). past (length a.signal.now.px1.now * 8) c.first_fill-cell3.result k) c.past.ensures
+    ∙ filled a.state (signal_behind a.signal.now).matrices c.kind_of-kind3.ensures c.kind_of-kind4.ensures c.main_of.ensures n.ensures.0 e3 e4
+    (second_is a.state a.signal.now.px2.now c.requires.1 c.kind_of-kind4.ensures n.ensures.0) c.first_fill-cell3.ensures c.first_fill-cell4.ensures c.first_delayed-cell.ensures

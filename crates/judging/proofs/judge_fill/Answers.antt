@@ -1,23 +1,14 @@
 -- `judge_fill` meets its contract: the case that the test chose. Assumes nothing.
-use native.Mathlib.Omega.{arith}
-use Rattle.calls.specs.Called.{matrices}
-use Rattle.judging.proofs.Staged.{cells_are, cells-le, fill-refused, fill-right}
+use Rattle.calls.specs.Called.{signal_behind}
+use Rattle.judging.proofs.Staged.{cells_are, fill-refused, fill-right}
 use Rattle.judging.proofs.judge_fill.Goals as goal
 
-pub overflow_mul-px1 : goal.overflow_mul-px1
-overflow_mul-px1 c =
-    record { fits = omega (arith, cells_are c.args.state c.args.px1.now c.args.px2.now c.requires.0 c.requires.1, cells-le c.args.state) }
-
-pub overflow_add-result : goal.overflow_add-result
-overflow_add-result c =
-    record { fits = omega (arith, c.counted_first-before.ensures.1, c.if-cell-px1.true, cells_are c.args.state c.args.px1.now c.args.px2.now c.requires.0 c.requires.1, cells-le c.args.state) }
-
-pub returns-then-cell-px1 : goal.returns-then-cell-px1
-returns-then-cell-px1 c =
+pub returns-then-cell-signal : goal.returns-then-cell-signal
+returns-then-cell-signal c =
     let a = c.args in
-    λ pm. fill-refused a.state (matrices pm a.px1.now a.px2.now) c.main_of.ensures c.counted_first-before.ensures.0 (cells_are a.state a.px1.now a.px2.now c.requires.0 c.requires.1) (c.fill_cell-cell.ensures pm) c.if-cell-px1.true
+    fill-refused a.state (signal_behind a.signal.now).matrices c.main_of.ensures c.counted_first-before.ensures.0 (cells_are a.state a.signal.now.px1.now a.signal.now.px2.now c.requires.0 c.requires.1) c.fill_cell-cell.ensures c.if-cell-signal.true
 
 pub returns : goal.returns
 returns c =
     let a = c.args in
-    λ pm. fill-right a.state (matrices pm a.px1.now a.px2.now) c.main_of.ensures c.counted_first-before.ensures.0 (cells_are a.state a.px1.now a.px2.now c.requires.0 c.requires.1) (c.fill_cell-cell.ensures pm) c.if-cell-px1.false
+    fill-right a.state (signal_behind a.signal.now).matrices c.main_of.ensures c.counted_first-before.ensures.0 (cells_are a.state a.signal.now.px1.now a.signal.now.px2.now c.requires.0 c.requires.1) c.fill_cell-cell.ensures c.if-cell-signal.false

@@ -1,37 +1,36 @@
 -- `judge_frames` meets its contract: the case that the tests chose. Assumes nothing.
-use mathlib.Core.Path.{sym, ap, ◌∙◌}
 use native.Mathlib.Omega.{arith}
-use Rattle.runs.specs.Lengths.{frame_len, matrix_len, reader_len}
+use Rattle.calls.specs.Called.{memory_behind, signal_behind}
 use Rattle.judging.specs.Stages.{after}
 use Rattle.judging.proofs.Staged.{frame3-refused, frame4-refused, frames-right, recovered}
 use Rattle.judging.proofs.judge_frames.Goals as goal
 
-pub recover_px-frame-requires : goal.recover_px-frame-requires
-recover_px-frame-requires c =
-    let p = c.requires in
-    let k = sym c.kind_of.ensures in
-    (p.half_lt, p.memory3-long ∙ ap reader_len k, p.px1-long ∙ ap matrix_len k, p.p3-long ∙ ap frame_len k)
-
 pub returns-then-frame-lt8 : goal.returns-then-frame-lt8
 returns-then-frame-lt8 c =
     let a = c.args in
-    let m = after a.state a.memory3.now a.memory4.now a.px1.now a.px2.now in record {
-      value = frame3-refused a.state m c.kind_of.ensures c.recover_px-frame.ensures.0 c.if-frame-lt8.true;
+    let m = after a.state (memory_behind a.memory.now) (signal_behind a.signal.now).matrices in record {
+      value = frame3-refused a.state m c.kind_of-kind3.ensures c.recover_px-frame.ensures.0 c.if-frame-lt8.true;
       recovered = λ z. absurd (omega arith);
+      same = search;
+      others = search;
     }
 
 pub returns-then-beside-lt8 : goal.returns-then-beside-lt8
 returns-then-beside-lt8 c =
     let a = c.args in
-    let m = after a.state a.memory3.now a.memory4.now a.px1.now a.px2.now in record {
-      value = frame4-refused a.state m c.kind_of.ensures c.recover_px-frame.ensures.0 c.if-frame-lt8.false c.recover_p4-beside.ensures.0 c.if-beside-lt8.true;
+    let m = after a.state (memory_behind a.memory.now) (signal_behind a.signal.now).matrices in record {
+      value = frame4-refused a.state m c.kind_of-kind3.ensures c.recover_px-frame.ensures.0 c.if-frame-lt8.false c.recover_p4-beside.ensures.0 c.if-beside-lt8.true;
       recovered = λ z. absurd (omega arith);
+      same = search;
+      others = search;
     }
 
 pub returns : goal.returns
 returns c =
     let a = c.args in
-    let m = after a.state a.memory3.now a.memory4.now a.px1.now a.px2.now in record {
-      value = frames-right a.state m c.kind_of.ensures c.recover_px-frame.ensures.0 c.if-frame-lt8.false c.recover_p4-beside.ensures.0 c.if-beside-lt8.false;
-      recovered = λ z. recovered a.state m c.kind_of.ensures c.recover_px-frame.ensures.1 c.recover_p4-beside.ensures.1;
+    let m = after a.state (memory_behind a.memory.now) (signal_behind a.signal.now).matrices in record {
+      value = frames-right a.state m c.kind_of-kind3.ensures c.recover_px-frame.ensures.0 c.if-frame-lt8.false c.recover_p4-beside.ensures.0 c.if-beside-lt8.false;
+      recovered = λ z. recovered a.state m _ c.kind_of-kind3.ensures c.recover_px-frame.ensures.1 c.recover_p4-beside.ensures.1;
+      same = search;
+      others = search;
     }

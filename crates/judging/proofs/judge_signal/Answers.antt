@@ -2,39 +2,41 @@
 use mathlib.Core.Path.{◌≡◌, sym, ◌∙◌}
 use native.Mathlib.Omega.{arith}
 use Rattle.runs.specs.Answers.{number_of}
-use Rattle.calls.specs.Called.{memory, signal}
+use Rattle.calls.specs.Called.{memory_behind, signal_behind}
 use Rattle.judging.proofs.Staged.{control-refused, control-right, at-control, at-pm, at-px}
 use Rattle.judging.proofs.judge_signal.Goals as goal
 
-pub returns-then-block-lt16 : goal.returns-then-block-lt16
-returns-then-block-lt16 c =
+pub returns-in-Some : goal.returns-in-Some
+returns-in-Some c =
     let a = c.args in
-    let m = memory a.memory3.now a.memory4.now a.delay.now in
-    let g = signal a.pm.now a.px1.now a.px2.now a.control.now in record {
-      value = at-control a.state m g _ (control-refused _ _ _ c.first_departing-block.ensures c.if-block-lt16.true) (λ z. omega arith);
-      scrambled_after = λ z. absurd (omega arith);
+    record {
+      value = at-control a.state (memory_behind a.memory.now) (signal_behind a.signal.now) _ (control-refused _ _ _ c.in-Some.ensures.lowest c.in-Some.ensures.inside) (λ z. omega arith);
+      brought = λ z. absurd (omega arith);
       recovered = λ z. absurd (omega arith);
+      same = search;
     }
 
 pub returns-then-number-ne0 : goal.returns-then-number-ne0
 returns-then-number-ne0 c =
     let a = c.args in
-    let m = memory a.memory3.now a.memory4.now a.delay.now in
-    let g = signal a.pm.now a.px1.now a.px2.now a.control.now in
-    let zero-not : number_of c.judge_pm-answer.result ≡ 0 → ⊥ = λ z. c.if-number-ne0.true (c.number.ensures ∙ z) in record {
-      value = at-pm a.state m g _ (control-right _ _ _ c.first_departing-block.ensures c.if-block-lt16.false) (c.judge_pm-answer.ensures.value _ _ _) zero-not;
-      scrambled_after = λ z. absurd (zero-not z);
+    let zero-not : number_of c.judge_pm-answer.result ≡ 0 → ⊥ = λ z. c.if-number-ne0.true (c.number.ensures ∙ z) in
+    record {
+      value = at-pm a.state (memory_behind a.memory.now) (signal_behind a.signal.now) _ (control-right _ _ _ c.in_default.ensures.lowest (omega arith)) c.judge_pm-answer.ensures.value zero-not;
+      brought = λ z. absurd (zero-not z);
       recovered = λ z. absurd (zero-not z);
+      same = c.judge_pm-answer.ensures.same;
     }
 
 pub returns : goal.returns
 returns c =
     let a = c.args in
-    let m = memory a.memory3.now a.memory4.now a.delay.now in
-    let g = signal a.pm.now a.px1.now a.px2.now a.control.now in
     let zero = sym c.number.ensures ∙ c.if-number-ne0.false in
     record {
-      value = at-px a.state m g _ (control-right _ _ _ c.first_departing-block.ensures c.if-block-lt16.false) (c.judge_pm-answer.ensures.value _ _ _) zero _ (c.judge_px.ensures.value _ _);
-      scrambled_after = λ z. c.judge_pm-answer.ensures.scrambled_after zero;
+      value = at-px a.state (memory_behind a.memory.now) (signal_behind a.signal.now) _ (control-right _ _ _ c.in_default.ensures.lowest (omega arith)) c.judge_pm-answer.ensures.value zero _ c.judge_px.ensures.value;
+      brought = λ z.
+          let o = c.judge_px.ensures.others in
+          let b = c.judge_pm-answer.ensures.brought zero in
+          record { p1-is = o.0 ∙ b.p1-is; pids-is = o.1 ∙ b.pids-is; p2-is = o.2 ∙ b.p2-is };
       recovered = c.judge_px.ensures.recovered;
+      same = search;
     }

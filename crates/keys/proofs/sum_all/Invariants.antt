@@ -1,9 +1,6 @@
--- `sum_all` meets its contract. The loop's invariant: no buffer's length changes. The measure is the L1 frames that are left. Assumes nothing.
-use Rattle.std.specs.Prelude.{length, ◌-◌, ◌≡◌}
+-- `sum_all` meets its contract. The loop's invariant: no buffer's length changes. Assumes nothing.
+use Rattle.std.specs.Prelude.{length, ◌≡◌}
 use Rattle.keys.proofs.sum_all.Given as goal
 
 abbrev pub invariant-loop-frame : goal.invariant-loop-frame
 invariant-loop-frame g l = (length l.sum ≡ length l.initial.sum) × (length l.more ≡ length l.initial.more)
-
-abbrev pub decreases-loop-frame : goal.decreases-loop-frame
-decreases-loop-frame g l = l.count - l.frame

@@ -1,9 +1,6 @@
--- `turn` meets its contract. The loop's invariant: no buffer's length changes. The measure is the runs that are left. Assumes nothing.
-use Rattle.std.specs.Prelude.{length, ◌-◌, ◌≡◌}
+-- `turn` meets its contract. The loop's invariant: no buffer's length changes. Assumes nothing.
+use Rattle.std.specs.Prelude.{length, ◌≡◌}
 use Rattle.keys.proofs.turn.Given as goal
 
 abbrev pub invariant-loop-run : goal.invariant-loop-run
 invariant-loop-run g l = (length l.sum ≡ length l.initial.sum) × (length l.more ≡ length l.initial.more)
-
-abbrev pub decreases-loop-run : goal.decreases-loop-run
-decreases-loop-run g l = l.n - l.run

@@ -1,7 +1,6 @@
 -- `add_input` meets its contract: the input ends early, its number is too high, or it is added. Assumes nothing.
 use mathlib.Core.Path.{refl}
 use native.Mathlib.Omega.{arith}
-use Rattle.io.proofs.Counting.{prefix_len_of_le}
 use Rattle.keys_step.proofs.Steps.{taken, too-high, too_short}
 use Rattle.keys_step.proofs.add_input.Goals as goal
 
@@ -14,4 +13,4 @@ returns-then-number-gt7 c = (c.put_not_taken-length-then-number-gt7.ensures.0, t
 pub returns : goal.returns
 returns c =
     let a = c.args in
-    (prefix_len_of_le 0 a.line.now (omega arith), taken a.run a.frame _ _ _ _ _ c.if-input-sum.false c.number_of-number.ensures (omega (arith, c.if-number-gt7.false)) c.add_to.ensures refl)
+    taken a.run a.frame _ _ _ _ _ c.if-input-sum.false c.number_of-number.ensures (omega (arith, c.if-number-gt7.false)) c.add_to.ensures refl

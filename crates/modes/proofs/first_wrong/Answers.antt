@@ -37,15 +37,6 @@ ended have want i h l =
 pub loop-i-init : goal.loop-i-init
 loop-i-init c = (omega arith, refl)
 
-pub offset_bounds-have-i : goal.offset_bounds-have-i
-offset_bounds-have-i c = omega arith
-
-pub bounds-have-i : goal.bounds-have-i
-bounds-have-i c = omega arith
-
-pub offset_bounds-want-i : goal.offset_bounds-want-i
-offset_bounds-want-i c = omega arith
-
 pub bounds-want-i : goal.bounds-want-i
 bounds-want-i c = omega (arith, c.requires)
 
@@ -53,12 +44,6 @@ pub returns-then-have-i : goal.returns-then-have-i
 returns-then-have-i c =
     let a = c.args in
     sym (c.loop-i.invariant.1 ∙ other a.have.now a.want.now c.loop-i.i (omega arith) (omega (arith, c.requires)) c.if-have-i.true)
-
-pub overflow_add-i : goal.overflow_add-i
-overflow_add-i c = omega arith
-
-pub loop-i-smaller : goal.loop-i-smaller
-loop-i-smaller c = omega arith
 
 pub loop-i-preserved : goal.loop-i-preserved
 loop-i-preserved c =
@@ -68,4 +53,5 @@ loop-i-preserved c =
 pub returns : goal.returns
 returns c =
     let a = c.args in
-    sym (c.loop-i.invariant.1 ∙ ended a.have.now a.want.now c.loop-i.i (omega arith) c.loop-i.invariant.0)
+    let e : c.loop-i.i ≡ length a.have.now = omega (arith, c.loop-i.invariant.0) in
+    sym (rw e at (c.loop-i.invariant.1 ∙ ended a.have.now a.want.now c.loop-i.i (omega arith) c.loop-i.invariant.0))

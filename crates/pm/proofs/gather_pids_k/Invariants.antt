@@ -1,6 +1,6 @@
 -- `pm::gather_pids_k` meets its contract. The loop's invariant: s bits more are read. Assumes nothing.
 use mathlib.Core.Path.{◌≡◌}
-use Prim.Native.Nat.{ℕ, ◌+◌, ◌-◌, ◌*◌, ◌≤◌}
+use Prim.Native.Nat.{ℕ, ◌+◌, ◌*◌, ◌≤◌}
 use lib.ListN.{length}
 use Rattle.bits.specs.Bits.{bit_at, written}
 use Rattle.interleaving.specs.PM.{pids_place}
@@ -11,6 +11,3 @@ invariant-loop-s l =
     (l.s ≤ 20) × (length l.coded ≡ 400)
     × ((f : ℕ → ℕ) → bit_at l.initial.coded ≡ written (λ i. i) (λ i. bit_at l.pm (pids_place i)) (20 * l.m) f
     → bit_at l.coded ≡ written (λ i. i) (λ i. bit_at l.pm (pids_place i)) (20 * l.m + l.s) f)
-
-abbrev pub decreases-loop-s : goal.decreases-loop-s
-decreases-loop-s l = 20 - l.s

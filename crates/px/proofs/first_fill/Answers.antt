@@ -16,9 +16,6 @@ loop-j-init c = (search rules, λ i l. absurd (omega arith))
 pub overflow_mul-j : goal.overflow_mul-j
 overflow_mul-j c = omega (arith, coded_bytes-le c.args.kind c.requires.0)
 
-pub overflow_add-j : goal.overflow_add-j
-overflow_add-j c = omega (arith, coded_bytes-le c.args.kind c.requires.0)
-
 pub returns-then-r-j : goal.returns-then-r-j
 unfolding first_fill
 returns-then-r-j c =
@@ -39,3 +36,6 @@ unfolding first_fill
 returns c =
     let n : 8 * length c.args.px.now ≡ coded_bits c.args.kind = omega arith in
     n ∙ sym (lowest-none _ _ (λ i l. c.loop-j.invariant.1 i (omega arith)))
+
+pub overflow_add-j : goal.overflow_add-j
+overflow_add-j c = omega (arith, coded_bytes-le c.args.kind c.requires.0)

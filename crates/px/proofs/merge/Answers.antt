@@ -22,10 +22,6 @@ pub overflow_mul-g-in-loop-g : goal.overflow_mul-g-in-loop-g
 overflow_mul-g-in-loop-g c =
     omega (arith, c.loop-g-test.true, c.block-size.ensures.0, size-le c.args.kind c.requires.0)
 
-pub overflow_add-g : goal.overflow_add-g
-overflow_add-g c =
-    omega (arith, c.loop-g-test.true, c.block-size.ensures.0, size-le c.args.kind c.requires.0)
-
 pub ahead-b-requires : goal.ahead-b-requires
 ahead-b-requires c =
     (c.requires.0, omega (arith, c.loop-g-test.true, c.block-size.ensures.0))

@@ -3,4 +3,4 @@ use native.Mathlib.Omega.{arith}
 use Rattle.px2.proofs.start.Goals as goal
 
 pub returns : goal.returns
-returns c = (c.wide.ensures, omega (arith, c.wide.ensures, c.requires.1.below c.args.n c.requires.0))
+returns c = (c.from.ensures, omega (arith, c.from.ensures, c.requires.1.below c.args.n c.requires.0))

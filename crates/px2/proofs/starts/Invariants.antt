@@ -1,12 +1,9 @@
 -- `px2::starts` meets its contract. The loop's invariant: the groups before k are placed. Assumes nothing.
 use mathlib.Core.Path.{◌≡◌}
-use Prim.Native.Nat.{◌-◌, ◌≤◌}
+use Prim.Native.Nat.{◌≤◌}
 use lib.ListN.{length}
 use Rattle.px2.proofs.Laws.{Placed}
 use Rattle.px2.proofs.starts.Given as goal
 
 abbrev pub invariant-loop-k : goal.invariant-loop-k
 invariant-loop-k l = (l.k ≤ 1152) × (length l.starts ≡ 1152) × Placed l.m l.k l.starts
-
-abbrev pub decreases-loop-k : goal.decreases-loop-k
-decreases-loop-k l = 1152 - l.k

@@ -14,7 +14,7 @@ loop-e-preserved c =
       search rules,
       simp length-set loop.invariant.1,
       λ f g starts l a b r p d. changed-at _ (changed-put _ _ (loop.invariant.2 f g starts l a b r p d) (omega arith) (omega arith)
-          (joined-pair (pair_lt f b starts a _ _ _) (pair_lt f b starts a _ _ _) (c.nibble-x.ensures f starts a r) (c.nibble-y.ensures f starts a r) c.joined.ensures ∙ sym (p loop.e (omega arith)))) (omega arith),
+          (joined-pair (pair_lt f b starts a _ _ _) (pair_lt f b starts a _ _ _) (c.nibble-high.ensures f starts a r) (c.nibble-low.ensures f starts a r) (λ h l. omega arith) ∙ sym (p loop.e (omega arith)))) (omega arith),
     )
 
 pub returns : goal.returns

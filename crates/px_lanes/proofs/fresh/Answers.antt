@@ -23,14 +23,6 @@ pub fresh_row-requires : goal.fresh_row-requires
 fresh_row-requires c =
     (c.requires.0, c.loop-r-test.true, c.loop-r.invariant.1)
 
-pub overflow_add-r : goal.overflow_add-r
-overflow_add-r c =
-    omega (arith, c.loop-r-test.true)
-
-pub loop-r-smaller : goal.loop-r-smaller
-loop-r-smaller c =
-    omega (arith, c.loop-r-test.true)
-
 pub loop-r-preserved : goal.loop-r-preserved
 loop-r-preserved c =
     let loop = c.loop-r in

@@ -7,7 +7,7 @@ use Rattle.interleaving.specs.PX.{partitions, runs, coded_bytes}
 use Rattle.px_steps.proofs.Words.{mask-of-M}
 use Rattle.px_lanes.proofs.LaneLaws.{read_at, looked-up}
 use Rattle.px_lanes.proofs.lane_of.Goals as goal
-use Rattle.px_lanes.proofs.lane_of.Goals.{After-block, After-runs, After-wide}
+use Rattle.px_lanes.proofs.lane_of.Goals.{After-block, After-runs, After-from}
 
 -- the byte that is read: its place and bounds
 byte_at : (c : After-block)
@@ -29,13 +29,13 @@ entry-is c =
     let a = c.args in
     mask-of-M a.kind c.requires.0 a.n c.runs.result c.runs.ensures.0
 
-byte-lt : (c : After-wide) → c.wide.result < 256
+byte-lt : (c : After-from) → c.from.result < 256
 byte-lt c =
     let at_block = c in
     let at-start = at_block in
     let a = at-start.args in
     let j : ℕ = at_block.block.result / 8 * ((a.d + (1152 - a.n)) % 16) + a.n / 2 ^ (2 - a.kind) in
-    omega (arith, c.wide.ensures, c.shared_slice_known-2-1.given j)
+    omega (arith, c.from.ensures, c.shared_slice_known-2-1.given j)
 
 pub overflow_mul-j : goal.overflow_mul-j
 overflow_mul-j c = omega (arith, (byte_at c).2)
@@ -57,10 +57,10 @@ pub offset_bounds-lanes-e : goal.offset_bounds-lanes-e
 offset_bounds-lanes-e c = omega (arith, (entry-is (goal.at.offset_bounds-lanes-e c).After-runs).1, byte-lt c)
 
 pub bounds-lanes-e : goal.bounds-lanes-e
-bounds-lanes-e c = omega (arith, (entry-is (goal.at.bounds-lanes-e c).After-runs).1, byte-lt (goal.at.bounds-lanes-e c).After-wide)
+bounds-lanes-e c = omega (arith, (entry-is (goal.at.bounds-lanes-e c).After-runs).1, byte-lt (goal.at.bounds-lanes-e c).After-from)
 
 pub returns : goal.returns
 returns c =
     let a = c.args in
-    looked-up a.kind a.n a.d _ c.wide.result _ a.coded.now a.lanes.now c.requires.0 c.requires.3
-    (entry-is (goal.at.returns c).After-runs).0 (byte-lt (goal.at.returns c).After-wide) c.wide.ensures (byte_at (goal.at.returns c).After-block).0
+    looked-up a.kind a.n a.d _ c.from.result _ a.coded.now a.lanes.now c.requires.0 c.requires.3
+    (entry-is (goal.at.returns c).After-runs).0 (byte-lt (goal.at.returns c).After-from) c.from.ensures (byte_at (goal.at.returns c).After-block).0

@@ -6,9 +6,6 @@ use Rattle.steps.proofs.Taken.{was-done, was-refused}
 use Rattle.reader_step.specs.Returned.{frame_bytes}
 use Rattle.reader_step.proofs.read_lent.Goals as goal
 
-pub put_in_words-length-requires : goal.put_in_words-length-requires
-put_in_words-length-requires c = c.requires.0
-
 pub returns-then-number-ne0 : goal.returns-then-number-ne0
 returns-then-number-ne0 c =
     let a = c.args in

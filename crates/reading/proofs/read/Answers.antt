@@ -1,15 +1,19 @@
 -- `read` meets its contract: a refused state or length leaves everything, and otherwise it is received. Assumes nothing.
-use mathlib.Core.Path.{refl, sym, ◌∙◌}
+use mathlib.Core.Path.{◌≡◌, refl, sym, ◌∙◌}
 use native.Mathlib.Omega.{arith}
 use lib.Seq.{length-take-le}
+use Rattle.std.proofs.Common.{rules}
 use lib.ListN.{length}
 use Prim.Native.Nat.{◌≤◌}
 use Rattle.runs.specs.declared.Extended.TheVariants.{P3, P4}
 use Rattle.runs.specs.MainChannels.{main_of}
 use Rattle.runs.specs.Lengths.{kind_of, reader_len}
-use Rattle.runs.specs.Lent.{Lent, Memory}
+use Rattle.runs.specs.Lent.{Lent, Memory, Signal}
 use Rattle.runs.proofs.Bounds.{frame-le, p1-le, p2-le}
-use Rattle.calls.specs.Called.{lent, memory}
+use Rattle.calls.specs.declared.buffers.FramesMut.{FramesMut}
+use Rattle.calls.specs.declared.buffers.MemoryMut.{MemoryMut}
+use Rattle.calls.specs.declared.states.ReadOutcome.{ReadOutcome}
+use Rattle.calls.specs.Called.{Buffer, frames, frames_behind_mut, lent, memory, memory_behind_mut, read_gave}
 use Rattle.calls.specs.Fits.{Fits}
 use Rattle.reading.proofs.ReadCases.{let-in, readable, turned_down}
 use Rattle.reading.proofs.read.Goals as goal
@@ -57,26 +61,26 @@ returns-then-number-ne0 c =
 pub slice_bounds-own1-end : goal.slice_bounds-own1-end
 slice_bounds-own1-end c = short1 (goal.at.slice_bounds-own1-end c).Else-number-ne0
 
-pub slice_bounds-receive-end : goal.slice_bounds-receive-end
-slice_bounds-receive-end c = sym (length-take-le _ _ (short1 (goal.at.slice_bounds-receive-end c).Else-number-ne0))
+pub slice_bounds-own-end : goal.slice_bounds-own-end
+slice_bounds-own-end c = sym (length-take-le _ _ (short1 (goal.at.slice_bounds-own-end c).Else-number-ne0))
 
 pub slice_bounds-own2-end : goal.slice_bounds-own2-end
 slice_bounds-own2-end c = short2 (goal.at.slice_bounds-own2-end c).Else-number-ne0
 
-pub slice_bounds-receive-end-3 : goal.slice_bounds-receive-end-3
-slice_bounds-receive-end-3 c = sym (length-take-le _ _ (short2 (goal.at.slice_bounds-receive-end-3 c).Else-number-ne0))
+pub slice_bounds-own-end-3 : goal.slice_bounds-own-end-3
+slice_bounds-own-end-3 c = sym (length-take-le _ _ (short2 (goal.at.slice_bounds-own-end-3 c).Else-number-ne0))
 
 pub slice_bounds-own3-end : goal.slice_bounds-own3-end
 slice_bounds-own3-end c = short3 (goal.at.slice_bounds-own3-end c).Else-number-ne0
 
-pub slice_bounds-receive-end-4 : goal.slice_bounds-receive-end-4
-slice_bounds-receive-end-4 c = sym (length-take-le _ _ (short3 (goal.at.slice_bounds-receive-end-4 c).Else-number-ne0))
+pub slice_bounds-own-end-4 : goal.slice_bounds-own-end-4
+slice_bounds-own-end-4 c = sym (length-take-le _ _ (short3 (goal.at.slice_bounds-own-end-4 c).Else-number-ne0))
 
 pub slice_bounds-own4-end : goal.slice_bounds-own4-end
 slice_bounds-own4-end c = short4 (goal.at.slice_bounds-own4-end c).Else-number-ne0
 
-pub slice_bounds-receive-end-5 : goal.slice_bounds-receive-end-5
-slice_bounds-receive-end-5 c = sym (length-take-le _ _ (short4 (goal.at.slice_bounds-receive-end-5 c).Else-number-ne0))
+pub slice_bounds-own-end-5 : goal.slice_bounds-own-end-5
+slice_bounds-own-end-5 c = sym (length-take-le _ _ (short4 (goal.at.slice_bounds-own-end-5 c).Else-number-ne0))
 
 pub receive-requires : goal.receive-requires
 receive-requires c =
@@ -101,27 +105,16 @@ receive-requires c =
       },
     )
 
-pub shape_of-p1 : goal.shape_of-p1
-shape_of-p1 c = c.p1-1.given
-
-pub shape_of-pids : goal.shape_of-pids
-shape_of-pids c = c.pids-1.given
-
-pub shape_of-p2 : goal.shape_of-p2
-shape_of-p2 c = c.p2-1.given
-
-pub shape_of-p3 : goal.shape_of-p3
-shape_of-p3 c = c.p3-1.given
-
-pub shape_of-p4 : goal.shape_of-p4
-shape_of-p4 c = c.p4-1.given
-
-pub shape_of-memory3 : goal.shape_of-memory3
-shape_of-memory3 c = c.memory3-1.given
-
-pub shape_of-memory4 : goal.shape_of-memory4
-shape_of-memory4 c = c.memory4-1.given
+-- what was written through the references is in the lent buffers
+through : (r : ReadOutcome) (g : Signal) (f : FramesMut) (m : MemoryMut) {p1 pids p2 p3 p4 memory3 memory4 delay : Buffer}
+    → p1 ≡ f.p1.now → pids ≡ f.pids.now → p2 ≡ f.p2.now → p3 ≡ f.p3.now → p4 ≡ f.p4.now
+    → memory3 ≡ m.for3.now → memory4 ≡ m.for4.now → delay ≡ m.delayed.now
+    → read_gave r (memory memory3 memory4 delay) (record { frames = frames r.reserved p1 pids p2 p3 p4; signal = g })
+    ≡ read_gave r (memory_behind_mut m) (record { frames = frames_behind_mut r.reserved f; signal = g })
+through r g f m e1 e16 e2 e3 e4 em3 em4 ed =
+    λ i. read_gave r (memory (em3 i) (em4 i) (ed i)) (record { frames = frames r.reserved (e1 i) (e16 i) (e2 i) (e3 i) (e4 i); signal = g })
 
 pub returns : goal.returns
 returns c =
-    c.receive.ensures ∙ let-in c.args.state (memory_at (goal.at.returns c).Start) (lent_at (goal.at.returns c).Start) _ _ _ refl c.reader_lengths-want.ensures c.admit-answer.ensures (sym c.number.ensures ∙ c.if-number-ne0.false)
+    through c.receive.result _ c.receive.new.frames c.receive.new.memory (search rules) (search rules) (search rules) (search rules) (search rules) (search rules) (search rules) (search rules)
+    ∙ c.receive.ensures.received ∙ let-in c.args.state (memory_at (goal.at.returns c).Start) (lent_at (goal.at.returns c).Start) _ _ _ refl c.reader_lengths-want.ensures c.admit-answer.ensures (sym c.number.ensures ∙ c.if-number-ne0.false)

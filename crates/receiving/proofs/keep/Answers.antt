@@ -1,33 +1,28 @@
 -- `keep` meets its contract: the matrices of P4 stand first in PX2. Assumes nothing.
-use mathlib.Core.Path.{sym, ap, ◌∙◌}
+use mathlib.Core.Path.{ap, ◌∙◌}
 use native.Mathlib.Omega.{arith}
 use Rattle.runs.specs.declared.Main.{Main}
-use Rattle.runs.specs.MainChannels.{delay_len, p1_len}
 use Rattle.runs.specs.Lengths.{matrix_len}
 use Rattle.runs.specs.Paths.{waiting}
 use Rattle.runs.specs.Reading.{push}
 use Rattle.judging.proofs.Staged.{fourth-is, fourth-long}
 use Rattle.receiving.proofs.keep.Goals as goal
 
-pub slice_bounds-push-end : goal.slice_bounds-push-end
-slice_bounds-push-end c =
-    sym (fourth-long c.args.state c.args.px2.now c.requires.1 c.kind_of.ensures c.matrix_len-n.ensures.0)
-
 pub push-requires-2 : goal.push-requires-2
 push-requires-2 c =
-    let l = fourth-long c.args.state c.args.px2.now c.requires.1 c.kind_of.ensures c.matrix_len-n.ensures.0 in
+    let l = fourth-long c.args.state c.args.signal.now.px2.now c.requires.1 c.kind_of.ensures c.matrix_len-n.ensures.0 in
     let n = c.matrix_len-n.ensures.0 ∙ ap matrix_len c.kind_of.ensures in
     omega (arith, l, n, c.requires.2)
 
-pub push_delay-requires : goal.push_delay-requires
-push_delay-requires c =
-    let k = sym c.main_of.ensures in
-    (c.requires.3 ∙ ap p1_len k, c.requires.4 ∙ ap delay_len k)
-
 pub returns : goal.returns
 returns c =
-    let a = c.args in (
-      c.push.ensures,
-      c.push-2.ensures ∙ ap (push a.memory4.now) (fourth-is a.state a.px2.now c.requires.1 c.kind_of.ensures c.matrix_len-n.ensures.0),
-      c.push_delay.ensures ∙ ap (λ (k : Main). waiting k a.delay.now a.scrambled.now) c.main_of.ensures,
-    )
+    let a = c.args in
+    let m = a.memory.now in
+    record {
+      kept = (
+        c.push.ensures,
+        c.push-2.ensures ∙ ap (push m.for4.now) (fourth-is a.state a.signal.now.px2.now c.requires.1 c.kind_of.ensures c.matrix_len-n.ensures.0),
+        c.push_delay.ensures ∙ ap (λ (k : Main). waiting k m.delayed.now a.own.now.p1.now) c.main_of.ensures,
+      );
+      same = search;
+    }

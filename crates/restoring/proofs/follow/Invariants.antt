@@ -1,6 +1,6 @@
 -- `restoring::follow` meets its contract. The loop's invariant: j bits are written, r is the register after them, and the path forked nowhere. Assumes nothing.
 use mathlib.Core.Path.{◌≡◌}
-use Prim.Native.Nat.{ℕ, ◌<◌, ◌≤◌, ◌-◌}
+use Prim.Native.Nat.{ℕ, ◌<◌, ◌≤◌}
 use lib.ListN.{length}
 use Rattle.bits.specs.Bits.{Bytes, bit_at, written}
 use Rattle.restoring.specs.Reaching.{gone, went, zeros, Fork}
@@ -15,6 +15,3 @@ invariant-loop-j l =
     × (l.r ≡ gone l.cells l.e zeros l.j)
     × (bit_at l.out ≡ written (λ i. i) (went l.cells l.e zeros) l.j (bit_at l.initial.out))
     × ((i : ℕ) → i < l.j → Fork l.cells l.e i → ⊥)
-
-abbrev pub decreases-loop-j : goal.decreases-loop-j
-decreases-loop-j l = 80 - l.j

@@ -1,4 +1,3 @@
-use mathlib.Core.Bool.{false}
 use native.Mathlib.Omega.{arith}
 use Rattle.restoring.proofs.Loops.{closed-there, closed-more, closed_none}
 use Rattle.restoring.proofs.next_closed.Goals as goal

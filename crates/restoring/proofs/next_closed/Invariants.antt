@@ -2,12 +2,9 @@
 use mathlib.Core.Path.{◌≡◌}
 use mathlib.Core.Bool.{false}
 use mathlib.Core.List.{List}
-use Prim.Native.Nat.{ℕ, ◌<◌, ◌≤◌, ◌-◌}
+use Prim.Native.Nat.{ℕ, ◌<◌, ◌≤◌}
 use Rattle.restoring.specs.Reaching.{Reached, closed}
 use Rattle.restoring.proofs.next_closed.Given as goal
 
 abbrev pub invariant-loop-e : goal.invariant-loop-e
 invariant-loop-e l = (l.from ≤ l.e) × (l.e ≤ 64) × ((cells : List ℕ) → Reached cells 0 l.kept → (d : ℕ) → l.from ≤ d → d < l.e → closed cells d ≡ false)
-
-abbrev pub decreases-loop-e : goal.decreases-loop-e
-decreases-loop-e l = 64 - l.e

@@ -15,9 +15,6 @@ reach_step-requires c =
     let e : loop.j ≡ suc (loop.j - 1) = omega arith in
     (pre.0, omega (arith, loop.invariant.0), pre.1, loop.invariant.1, subst (λ (n : ℕ). Reached c.args.cells.now n loop.kept) e loop.invariant.2)
 
-pub loop-j-smaller : goal.loop-j-smaller
-loop-j-smaller c = omega arith
-
 pub loop-j-preserved : goal.loop-j-preserved
 loop-j-preserved c = (omega (arith, c.loop-j.invariant.0), search rules, c.reach_step.ensures)
 

@@ -7,6 +7,3 @@ use Rattle.restoring.proofs.reach.Given as goal
 
 abbrev pub invariant-loop-j : goal.invariant-loop-j
 invariant-loop-j l = (l.j ≤ 80) × (length l.kept ≡ 5184) × Reached l.cells l.j l.kept
-
-abbrev pub decreases-loop-j : goal.decreases-loop-j
-decreases-loop-j l = l.j

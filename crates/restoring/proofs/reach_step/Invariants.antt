@@ -7,6 +7,3 @@ use Rattle.restoring.proofs.reach_step.Given as goal
 
 abbrev pub invariant-loop-r : goal.invariant-loop-r
 invariant-loop-r l = (l.r ≤ 64) × (length l.kept ≡ 5184) × ((q : ℕ) → q < l.r → get_or l.kept (l.at + q) 0 ≡ ends l.cells (80 - l.j) l.j q) × Reached l.cells (suc l.j) l.kept
-
-abbrev pub decreases-loop-r : goal.decreases-loop-r
-decreases-loop-r l = 64 - l.r

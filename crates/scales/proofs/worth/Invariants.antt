@@ -3,10 +3,7 @@ use Rattle.std.proofs.Common.{◌≡◌, ◌+◌, ◌-◌, ◌*◌, ◌^◌, ◌
 use Rattle.text.specs.Numbers.{digits_alone, value}
 use Rattle.scales.proofs.worth.Given as goal
 
-abbrev pub invariant-loop-i : goal.invariant-loop-i
-invariant-loop-i l =
-    (l.i ≤ length l.text) × (length l.text ≤ 16) × (l.n < 10 ^ l.i) × (digits_alone (drop l.i l.text) ≡ true)
-    × (value l.text ≡ l.n * 10 ^ (length l.text - l.i) + value (drop l.i l.text))
-
-abbrev pub decreases-loop-i : goal.decreases-loop-i
-decreases-loop-i l = length l.text - l.i
+abbrev pub invariant-loop-byte : goal.invariant-loop-byte
+invariant-loop-byte l =
+    (length l.text ≤ 16) × (l.n < 10 ^ l.byte-index) × (digits_alone (drop l.byte-index l.text) ≡ true)
+    × (value l.text ≡ l.n * 10 ^ (length l.text - l.byte-index) + value (drop l.byte-index l.text))

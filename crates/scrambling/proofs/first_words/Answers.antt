@@ -12,18 +12,6 @@ pub loop-w-init : goal.loop-w-init
 unfolding register
 loop-w-init c = (refl, omega arith, omega arith, refl, λ q h. absurd (omega arith))
 
-pub offset_bounds-ring-w : goal.offset_bounds-ring-w
-offset_bounds-ring-w c = omega arith
-
-pub bounds-ring-w : goal.bounds-ring-w
-bounds-ring-w c = omega arith
-
-pub overflow_add-w : goal.overflow_add-w
-overflow_add-w c = omega arith
-
-pub loop-w-smaller : goal.loop-w-smaller
-loop-w-smaller c = omega arith
-
 pub loop-w-preserved : goal.loop-w-preserved
 unfolding word_of
 loop-w-preserved c =

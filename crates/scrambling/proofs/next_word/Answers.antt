@@ -22,18 +22,6 @@ pub loop-k-init : goal.loop-k-init
 unfolding number
 loop-k-init c = (omega arith, c.requires, omega arith, λ n e. (refl, e ∙ ap register (sym (add-zero n))))
 
-pub overflow_cast-bits : goal.overflow_cast-bits
-overflow_cast-bits c = omega arith
-
-pub step-r-requires : goal.step-r-requires
-step-r-requires c = omega arith
-
-pub overflow_add-k : goal.overflow_add-k
-overflow_add-k c = omega arith
-
-pub loop-k-smaller : goal.loop-k-smaller
-loop-k-smaller c = omega arith
-
 pub loop-k-preserved : goal.loop-k-preserved
 loop-k-preserved c =
     let bits = c.loop-k.bits in

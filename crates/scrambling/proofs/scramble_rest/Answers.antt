@@ -9,26 +9,11 @@ use Rattle.scrambling.specs.Words.{word_of}
 use Rattle.scrambling.proofs.Words.{sequence-bit, scrambled-byte}
 use Rattle.scrambling.proofs.scramble_rest.Goals as goal
 
-pub overflow_mul-i : goal.overflow_mul-i
-overflow_mul-i c = omega arith
-
 pub loop-i-init : goal.loop-i-init
 loop-i-init c = (record { inside = omega arith; long = refl; front = c.requires.2 }, omega arith)
 
-pub bounds-frame-i : goal.bounds-frame-i
-bounds-frame-i c = omega arith
-
 pub byte_of-requires : goal.byte_of-requires
 byte_of-requires c = omega (arith, and_le_r c.loop-i.i 3)
-
-pub bounds-out-i : goal.bounds-out-i
-bounds-out-i c = omega arith
-
-pub overflow_add-i : goal.overflow_add-i
-overflow_add-i c = omega arith
-
-pub loop-i-smaller : goal.loop-i-smaller
-loop-i-smaller c = simp length-set (omega arith)
 
 pub loop-i-preserved : goal.loop-i-preserved
 unfolding word_of
@@ -38,11 +23,11 @@ loop-i-preserved c =
     let loop = c.loop-i in
     let b = c.byte_of.ensures (λ k. sequence (32 * w + k)) (λ k. sequence-bit _) c.requires.1 in
     let here : (4 * w ≤ loop.i) × (loop.i < 4 * w + 4) = omega (arith, loop.invariant.0.long) in (
-      stored-turn _ loop.invariant.0 c.loop-i-test.true
+      stored-turn _ loop.invariant.0 (omega (arith, loop.invariant.0.long))
           (scrambled-byte frame w loop.i _ (omega (arith, c.shared_slice_known-in-loop-i-1.given loop.i)) here.0 here.1
           (rw (and_mask loop.i 2) at b)),
       simp length-set (omega arith),
     )
 
 pub returns : goal.returns
-returns c = stored-all c.loop-i.invariant.0 c.loop-i-test.false
+returns c = stored-all c.loop-i.invariant.0 (omega (arith, c.loop-i.invariant.0.long))

@@ -6,9 +6,6 @@ use Rattle.steps.proofs.Taken.{was-done, was-refused}
 use Rattle.sender_step.specs.Written.{signal_bytes}
 use Rattle.sender_step.proofs.send_lent.Goals as goal
 
-pub put_in_words-length-requires : goal.put_in_words-length-requires
-put_in_words-length-requires c = c.requires.0
-
 pub returns-then-number-ne0 : goal.returns-then-number-ne0
 returns-then-number-ne0 c = (
   c.put_in_words-length.ensures.0,

@@ -4,32 +4,17 @@ use borrow.Author.Rules.{rules}
 use Rattle.io.proofs.Counting.{prefix_len_of_le}
 use Rattle.standard_input.proofs.read_line.Goals as goal
 
-pub loop-turns-init : goal.loop-turns-init
-loop-turns-init g c = (omega arith, refl)
-
-pub shape_of-text-then-read_full-eq0 : goal.shape_of-text-then-read_full-eq0
-shape_of-text-then-read_full-eq0 g c = c.loop-turns.invariant.1
-
-pub returns-then-read_full-eq0 : goal.returns-then-read_full-eq0
-returns-then-read_full-eq0 g c = prefix_len_of_le _ _ c.loop-turns.invariant.0
-
-pub shape_of-text-then-one-eq10 : goal.shape_of-text-then-one-eq10
-shape_of-text-then-one-eq10 g c = c.loop-turns.invariant.1
-
-pub returns-then-one-eq10 : goal.returns-then-one-eq10
-returns-then-one-eq10 g c = prefix_len_of_le _ _ c.loop-turns.invariant.0
+pub loop-init : goal.loop-init
+loop-init g c = (omega arith, refl)
 
 pub keep-n-requires : goal.keep-n-requires
-keep-n-requires g c = c.loop-turns.invariant.0
+keep-n-requires g c = c.loop.invariant.0
 
-pub loop-turns-smaller : goal.loop-turns-smaller
-loop-turns-smaller g c = omega arith
-
-pub loop-turns-preserved : goal.loop-turns-preserved
-loop-turns-preserved g c = (c.keep-n.ensures, search rules)
+pub loop-preserved : goal.loop-preserved
+loop-preserved g c = (c.keep-n.ensures, search rules)
 
 pub shape_of-text : goal.shape_of-text
-shape_of-text g c = c.loop-turns.invariant.1
+shape_of-text g c = c.loop.invariant.1
 
 pub returns : goal.returns
-returns g c = prefix_len_of_le _ _ c.loop-turns.invariant.0
+returns g c = prefix_len_of_le _ _ c.loop.invariant.0

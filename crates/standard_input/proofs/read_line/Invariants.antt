@@ -4,8 +4,5 @@ use Prim.Native.Nat.{◌≤◌}
 use lib.ListN.{length}
 use Rattle.standard_input.proofs.read_line.Given as goal
 
-abbrev pub invariant-loop-turns : goal.invariant-loop-turns
-invariant-loop-turns g l = (l.n ≤ length l.text) × (length l.text ≡ length l.initial.text)
-
-abbrev pub decreases-loop-turns : goal.decreases-loop-turns
-decreases-loop-turns g l = l.turns
+abbrev pub invariant-loop : goal.invariant-loop
+invariant-loop g l = (l.n ≤ length l.text) × (length l.text ≡ length l.initial.text)

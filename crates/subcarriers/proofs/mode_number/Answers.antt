@@ -3,5 +3,5 @@ use native.Mathlib.Omega.{arith}
 use Rattle.subcarriers.proofs.BySlots.{last-mode}
 use Rattle.subcarriers.proofs.mode_number.Goals as goal
 
-pub returns : goal.returns
-returns c = (omega arith, last-mode _ c.requires c.if-mode-eq1.false c.if-mode-eq2.false c.if-mode-eq3.false)
+pub returns-in_default : goal.returns-in_default
+returns-in_default c = (omega arith, last-mode _ c.requires (λ e. omega arith) (λ e. omega arith) (λ e. omega arith))

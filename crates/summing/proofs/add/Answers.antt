@@ -1,5 +1,4 @@
 use native.Mathlib.Omega.{arith}
-use lib.ListN.{length-set}
 use Rattle.bits.proofs.Stores.{stored-all}
 use Rattle.summing.specs.Sums.{sum_of}
 use Rattle.summing.proofs.Added.{adding-none, adding-turn}
@@ -8,26 +7,14 @@ use Rattle.summing.proofs.add.Goals as goal
 pub loop-i-init : goal.loop-i-init
 loop-i-init c = adding-none _ _
 
-pub bounds-sum-i : goal.bounds-sum-i
-bounds-sum-i c = omega arith
-
-pub bounds-sum-i-in-loop-i : goal.bounds-sum-i-in-loop-i
-bounds-sum-i-in-loop-i c = omega arith
-
-pub overflow_add-i : goal.overflow_add-i
-overflow_add-i c = omega arith
-
-pub loop-i-smaller : goal.loop-i-smaller
-loop-i-smaller c = simp length-set (omega arith)
-
 pub loop-i-preserved : goal.loop-i-preserved
 loop-i-preserved c =
     let i = c.loop-i.i in
-    adding-turn c.loop-i.invariant c.loop-i-test.true
+    adding-turn c.loop-i.invariant (omega (arith, c.loop-i.invariant.done.long))
     (omega (arith, c.slice_known-1.given i))
     (omega (arith, c.shared_slice_known-1.given i))
     c.byte_at.ensures
 
 pub returns : goal.returns
 unfolding sum_of
-returns c = stored-all c.loop-i.invariant.done c.loop-i-test.false
+returns c = stored-all c.loop-i.invariant.done (omega (arith, c.loop-i.invariant.done.long))

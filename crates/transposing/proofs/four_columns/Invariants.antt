@@ -1,6 +1,6 @@
 -- `transposing::four_columns` meets its contract. The loop's invariant: the nibbles of 8 j bits more are written. Assumes nothing.
 use mathlib.Core.Path.{◌≡◌}
-use Prim.Native.Nat.{ℕ, ◌≤◌, ◌<◌, ◌+◌, ◌-◌, ◌*◌}
+use Prim.Native.Nat.{ℕ, ◌≤◌, ◌<◌, ◌+◌, ◌*◌}
 use lib.ListN.{length}
 use Rattle.bits.specs.Bits.{bit_at}
 use Rattle.transposing.specs.Words.{Begins}
@@ -12,6 +12,3 @@ invariant-loop-j l =
     × ((g : ℕ → ℕ) → ((q : ℕ) → g q < 256)
     → ((t : ℕ) → t < 8 * l.m → g (l.n + t) ≡ 8 * bit_at l.coded (8 * l.a + t) + 4 * bit_at l.coded (8 * l.b + t) + 2 * bit_at l.coded (8 * l.c + t) + bit_at l.coded (8 * l.d + t))
     → Begins g l.n l.initial.out → Begins g (l.n + 8 * l.j) l.out)
-
-abbrev pub decreases-loop-j : goal.decreases-loop-j
-decreases-loop-j l = l.m - l.j

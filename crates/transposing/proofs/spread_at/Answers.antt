@@ -9,19 +9,11 @@ use Rattle.transposing.specs.Words.{eight}
 use Rattle.transposing.proofs.Words.{spread-bits, eight-bits}
 use Rattle.transposing.proofs.spread_at.Goals as goal
 
-pub offset_bounds-spreads-wide : goal.offset_bounds-spreads-wide
-offset_bounds-spreads-wide c =
-    omega (arith, c.wide.ensures, c.shared_slice_known-1.given c.args.n)
-
-pub bounds-spreads-wide : goal.bounds-spreads-wide
-bounds-spreads-wide c =
-    omega (arith, c.wide.ensures, c.shared_slice_known-1.given c.args.n)
-
 pub returns : goal.returns
 returns c =
     let a = c.args in
     let byte : ℕ = get_or a.coded.now a.n 0 in
     let lt : byte < 256 = omega (arith, c.shared_slice_known-1.given a.n) in
-    let is : get_or a.spreads.now c.wide.result 0 ≡ eight (λ u. bit_at a.coded.now (8 * a.n + u)) =
-    ap (λ (i : ℕ). get_or a.spreads.now i 0) c.wide.ensures ∙ c.requires.1.is byte lt ∙ spread-bits a.coded.now a.n in
+    let is : get_or a.spreads.now c.from.result 0 ≡ eight (λ u. bit_at a.coded.now (8 * a.n + u)) =
+    ap (λ (i : ℕ). get_or a.spreads.now i 0) c.from.ensures ∙ c.requires.1.is byte lt ∙ spread-bits a.coded.now a.n in
     (is, omega (arith, is, eight-bits (λ u. bit_at a.coded.now (8 * a.n + u)) (λ u h. bit_at_lt a.coded.now _)))

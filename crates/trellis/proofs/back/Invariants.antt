@@ -11,6 +11,3 @@ invariant-loop-k l =
     × (l.s.step ≡ l.k)
     × (length l.kept ≡ 5120)
     × ((final : ℕ → ℕ) → ((q : ℕ) → q < 64 → get_or l.initial.s.scores q 0 ≡ final q) → Scored (tabled l.costs) final (80 - l.k) l.s × Kept (tabled l.costs) final l.k l.kept)
-
-abbrev pub decreases-loop-k : goal.decreases-loop-k
-decreases-loop-k l = l.k

@@ -15,12 +15,12 @@ loop-w-init c = (omega arith, search rules, λ q h. absurd (omega arith), λ n h
 pub offset_bounds-costs-y : goal.offset_bounds-costs-y
 offset_bounds-costs-y c =
     let loop = c.loop-w in
-    let low : c.wide-y.result < 8 = omega (arith, c.wide-y.ensures, c.requires.1.at loop.w (omega arith), outputs-lt loop.w) in search rules
+    let low : c.from-y.result < 8 = omega (arith, c.from-y.ensures, c.requires.1.at loop.w (omega arith), outputs-lt loop.w) in search rules
 
 pub bounds-costs-y : goal.bounds-costs-y
 bounds-costs-y c =
     let loop = c.loop-w in
-    omega (arith, c.wide-y.ensures, c.requires.1.at loop.w (omega arith), outputs-lt loop.w)
+    omega (arith, c.from-y.ensures, c.requires.1.at loop.w (omega arith), outputs-lt loop.w)
 
 pub loop-w-preserved : goal.loop-w-preserved
 loop-w-preserved c =
@@ -30,7 +30,7 @@ loop-w-preserved c =
       search rules,
       simp length-set loop.invariant.1,
       set_at loop.table (λ q. get_or costs (outputs_of q) 0) _ loop.w _ (omega (arith, loop.invariant.1, pre.0))
-          (ap (λ (n : ℕ). get_or costs n 0) (c.wide-y.ensures ∙ pre.1.at loop.w (omega arith))) loop.invariant.2,
+          (ap (λ (n : ℕ). get_or costs n 0) (c.from-y.ensures ∙ pre.1.at loop.w (omega arith))) loop.invariant.2,
       λ n h. get_or-set_other loop.table _ n _ 0 (λ e. omega arith) ∙ loop.invariant.3 n h,
     )
 

@@ -15,9 +15,6 @@ step-s-requires c =
     let s = loop.invariant.2 (λ q. get_or c.args.last.scores q 0) (λ q h. refl) in
     (omega (arith, loop.invariant.1), omega (arith, loop.invariant.1, loop.invariant.0), c.requires.1, λ r h. omega (arith, s.low r h))
 
-pub loop-k-smaller : goal.loop-k-smaller
-loop-k-smaller c = omega arith
-
 pub loop-k-preserved : goal.loop-k-preserved
 loop-k-preserved c =
     let loop = c.loop-k in

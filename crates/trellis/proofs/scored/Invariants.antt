@@ -10,6 +10,3 @@ invariant-loop-k l =
     (l.k ≤ 80)
     × (l.s.step ≡ l.k)
     × ((final : ℕ → ℕ) → ((q : ℕ) → q < 64 → get_or l.initial.s.scores q 0 ≡ final q) → Scored (tabled l.costs) final (80 - l.k) l.s)
-
-abbrev pub decreases-loop-k : goal.decreases-loop-k
-decreases-loop-k l = l.k

@@ -7,24 +7,6 @@ use Rattle.words.proofs.eight.Goals as goal
 pub loop-d-init : goal.loop-d-init
 loop-d-init c = (omega arith, filled_none 8 _ _ refl)
 
-pub overflow_mul-numbers : goal.overflow_mul-numbers
-overflow_mul-numbers c = omega arith
-
-pub overflow_shr-numbers : goal.overflow_shr-numbers
-overflow_shr-numbers c = omega arith
-
-pub overflow_cast-numbers : goal.overflow_cast-numbers
-overflow_cast-numbers c = omega arith
-
-pub bounds-numbers-d : goal.bounds-numbers-d
-bounds-numbers-d c = omega arith
-
-pub overflow_add-d : goal.overflow_add-d
-overflow_add-d c = omega arith
-
-pub loop-d-smaller : goal.loop-d-smaller
-loop-d-smaller c = omega arith
-
 pub loop-d-preserved : goal.loop-d-preserved
 loop-d-preserved c = (omega arith, filled-turn _ c.loop-d.invariant.1 c.loop-d-test.true refl)
 

@@ -1,41 +1,25 @@
 -- `found_px_word` meets its contract: the fields are those of the case. Assumes nothing.
-use mathlib.Core.Path.{ap, subst}
+use mathlib.Core.Path.{ap, ◌∙◌}
 use native.Mathlib.Omega.{arith}
+use Rattle.std.specs.Prelude.{Result, Ok}
+use Rattle.runs.specs.declared.Answer.{Answer}
 use Rattle.queries.specs.declared.finder_px.FoundPx.{FoundPx}
 use Rattle.queries.specs.FinderPX.{values}
 use Rattle.words.specs.Words.{answer_word, found_px_word}
-use Rattle.words.proofs.Fields.{SmallPX}
 use Rattle.words.proofs.found_px_word.Goals as goal
 
-pub overflow_mul-low : goal.overflow_mul-low
-overflow_mul-low c = let (p, f, e, b) = subst (λ (x : FoundPx). SmallPX (values x)) c.in-Coded.is c.requires in omega arith
-
-pub overflow_add-low : goal.overflow_add-low
-overflow_add-low c = let (p, f, e, b) = subst (λ (x : FoundPx). SmallPX (values x)) c.in-Coded.is c.requires in omega arith
-
-pub overflow_mul-low-in-Coded : goal.overflow_mul-low-in-Coded
-overflow_mul-low-in-Coded c = let (p, f, e, b) = subst (λ (x : FoundPx). SmallPX (values x)) c.in-Coded.is c.requires in omega arith
-
-pub overflow_add-low-in-Coded : goal.overflow_add-low-in-Coded
-overflow_add-low-in-Coded c = let (p, f, e, b) = subst (λ (x : FoundPx). SmallPX (values x)) c.in-Coded.is c.requires in omega arith
-
-pub overflow_mul-result : goal.overflow_mul-result
-overflow_mul-result c = let (p, f, e, b) = subst (λ (x : FoundPx). SmallPX (values x)) c.in-Coded.is c.requires in omega arith
-
-pub overflow_add-result : goal.overflow_add-result
-overflow_add-result c = let (p, f, e, b) = subst (λ (x : FoundPx). SmallPX (values x)) c.in-Coded.is c.requires in omega arith
-
-pub answer_word-requires : goal.answer_word-requires
-answer_word-requires c = let (p, f, e, b) = subst (λ (x : FoundPx). SmallPX (values x)) c.in-Refused.is c.requires in omega arith
-
-pub returns-in-Coded : goal.returns-in-Coded
+pub returns-in-Ok-Coded : goal.returns-in-Ok-Coded
 unfolding found_px_word
-returns-in-Coded c = omega (arith, ap (λ (x : FoundPx). found_px_word (values x)) c.in-Coded.is)
+returns-in-Ok-Coded c =
+    let e = rw c.in-Ok-Coded.is at c.in-Ok-Coded.field-0-is in
+    omega (arith, ap (λ (x : Result FoundPx Answer). found_px_word (values x)) (c.in-Ok-Coded.is ∙ ap Ok e))
 
-pub returns-in-Fill : goal.returns-in-Fill
+pub returns-in-Ok-Fill : goal.returns-in-Ok-Fill
 unfolding found_px_word
-returns-in-Fill c = omega (arith, ap (λ (x : FoundPx). found_px_word (values x)) c.in-Fill.is)
+returns-in-Ok-Fill c =
+    let e = rw c.in-Ok-Fill.is at c.in-Ok-Fill.field-0-is in
+    omega (arith, ap (λ (x : Result FoundPx Answer). found_px_word (values x)) (c.in-Ok-Fill.is ∙ ap Ok e))
 
-pub returns-in-Refused : goal.returns-in-Refused
+pub returns-in-Err : goal.returns-in-Err
 unfolding found_px_word answer_word
-returns-in-Refused c = omega (arith, ap (λ (x : FoundPx). found_px_word (values x)) c.in-Refused.is, c.answer_word.ensures)
+returns-in-Err c = omega (arith, ap (λ (x : Result FoundPx Answer). found_px_word (values x)) c.in-Err.is, c.answer_word.ensures)

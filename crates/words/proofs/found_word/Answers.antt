@@ -1,41 +1,25 @@
 -- `found_word` meets its contract: the fields are those of the case. Assumes nothing.
-use mathlib.Core.Path.{ap, subst}
+use mathlib.Core.Path.{ap, ◌∙◌}
 use native.Mathlib.Omega.{arith}
+use Rattle.std.specs.Prelude.{Result, Ok}
+use Rattle.runs.specs.declared.Answer.{Answer}
 use Rattle.queries.specs.declared.finder.Found.{Found}
 use Rattle.queries.specs.Finder.{values}
 use Rattle.words.specs.Words.{answer_word, found_word}
-use Rattle.words.proofs.Fields.{Small}
 use Rattle.words.proofs.found_word.Goals as goal
 
-pub overflow_mul-result : goal.overflow_mul-result
-overflow_mul-result c = let (p, f, b) = subst (λ (x : Found). Small (values x)) c.in-P1.is c.requires in omega arith
-
-pub overflow_add-result : goal.overflow_add-result
-overflow_add-result c = let (p, f, b) = subst (λ (x : Found). Small (values x)) c.in-P1.is c.requires in omega arith
-
-pub overflow_mul-result-in-Pids : goal.overflow_mul-result-in-Pids
-overflow_mul-result-in-Pids c = let (p, f, b) = subst (λ (x : Found). Small (values x)) c.in-Pids.is c.requires in omega arith
-
-pub overflow_add-result-in-Pids : goal.overflow_add-result-in-Pids
-overflow_add-result-in-Pids c = let (p, f, b) = subst (λ (x : Found). Small (values x)) c.in-Pids.is c.requires in omega arith
-
-pub overflow_mul-result-in-Pids-2 : goal.overflow_mul-result-in-Pids-2
-overflow_mul-result-in-Pids-2 c = let (p, f, b) = subst (λ (x : Found). Small (values x)) c.in-Pids.is c.requires in omega arith
-
-pub overflow_add-result-in-Pids-2 : goal.overflow_add-result-in-Pids-2
-overflow_add-result-in-Pids-2 c = let (p, f, b) = subst (λ (x : Found). Small (values x)) c.in-Pids.is c.requires in omega arith
-
-pub answer_word-requires : goal.answer_word-requires
-answer_word-requires c = let (p, f, b) = subst (λ (x : Found). Small (values x)) c.in-Refused.is c.requires in omega arith
-
-pub returns-in-P1 : goal.returns-in-P1
+pub returns-in-Ok-P1 : goal.returns-in-Ok-P1
 unfolding found_word
-returns-in-P1 c = omega (arith, ap (λ (x : Found). found_word (values x)) c.in-P1.is)
+returns-in-Ok-P1 c =
+    let e = rw c.in-Ok-P1.is at c.in-Ok-P1.field-0-is in
+    omega (arith, ap (λ (x : Result Found Answer). found_word (values x)) (c.in-Ok-P1.is ∙ ap Ok e))
 
-pub returns-in-Pids : goal.returns-in-Pids
+pub returns-in-Ok-Pids : goal.returns-in-Ok-Pids
 unfolding found_word
-returns-in-Pids c = omega (arith, ap (λ (x : Found). found_word (values x)) c.in-Pids.is)
+returns-in-Ok-Pids c =
+    let e = rw c.in-Ok-Pids.is at c.in-Ok-Pids.field-0-is in
+    omega (arith, ap (λ (x : Result Found Answer). found_word (values x)) (c.in-Ok-Pids.is ∙ ap Ok e))
 
-pub returns-in-Refused : goal.returns-in-Refused
+pub returns-in-Err : goal.returns-in-Err
 unfolding found_word answer_word
-returns-in-Refused c = omega (arith, ap (λ (x : Found). found_word (values x)) c.in-Refused.is, c.answer_word.ensures)
+returns-in-Err c = omega (arith, ap (λ (x : Result Found Answer). found_word (values x)) c.in-Err.is, c.answer_word.ensures)

@@ -1,19 +1,18 @@
 -- `looked_up_word` meets its contract: the fields are those of the case. Assumes nothing.
 use mathlib.Core.Path.{ap, subst}
 use native.Mathlib.Omega.{arith}
-use Rattle.queries.specs.declared.blocks.LookedUp.{LookedUp}
 use Rattle.queries.specs.Lookup.{values}
 use Rattle.words.specs.Words.{answer_word, looked_up_word}
 use Prim.Native.Nat.{◌<◌, ◌^◌}
 use Rattle.words.proofs.looked_up_word.Goals as goal
 
 pub answer_word-requires : goal.answer_word-requires
-answer_word-requires c = let p = subst (λ (x : LookedUp). (values x).place < 2 ^ 8) c.in-Refused.is c.requires in omega arith
+answer_word-requires c = let p = subst (λ x. (values x).place < 2 ^ 8) c.in-Err.is c.requires in omega arith
 
-pub returns-in-Found : goal.returns-in-Found
+pub returns-in-Ok : goal.returns-in-Ok
 unfolding looked_up_word
-returns-in-Found c = omega (arith, ap (λ (x : LookedUp). looked_up_word (values x)) c.in-Found.is)
+returns-in-Ok c = omega (arith, ap (λ x. looked_up_word (values x)) c.in-Ok.is)
 
-pub returns-in-Refused : goal.returns-in-Refused
+pub returns-in-Err : goal.returns-in-Err
 unfolding looked_up_word answer_word
-returns-in-Refused c = omega (arith, ap (λ (x : LookedUp). looked_up_word (values x)) c.in-Refused.is, c.answer_word.ensures)
+returns-in-Err c = omega (arith, ap (λ x. looked_up_word (values x)) c.in-Err.is, c.answer_word.ensures)

@@ -11,15 +11,6 @@ loop-d-init c = (omega arith, filled_none 7 _ _ refl)
 pub back-requires : goal.back-requires
 back-requires c = (omega arith, omega arith, omega arith, omega arith)
 
-pub bounds-seven-d : goal.bounds-seven-d
-bounds-seven-d c = omega arith
-
-pub overflow_add-d : goal.overflow_add-d
-overflow_add-d c = omega arith
-
-pub loop-d-smaller : goal.loop-d-smaller
-loop-d-smaller c = omega arith
-
 pub loop-d-preserved : goal.loop-d-preserved
 loop-d-preserved c =
     (omega arith, filled-turn _ c.loop-d.invariant.1 c.loop-d-test.true (c.sequence_bit.ensures ∙ ap sequence c.back.ensures.0))

@@ -1,5 +1,5 @@
 -- `seven_added` meets its contract. The loop's invariant: the first d are in place. Assumes nothing.
-use Prim.Native.Nat.{◌-◌, ◌≤◌}
+use Prim.Native.Nat.{◌≤◌}
 use Rattle.bits.proofs.Listed.{Filled}
 use Rattle.coding.specs.Coder.{back}
 use Rattle.scrambling.specs.Scrambler.{sequence}
@@ -7,6 +7,3 @@ use Rattle.workings.proofs.seven_added.Given as goal
 
 abbrev pub invariant-loop-d : goal.invariant-loop-d
 invariant-loop-d l = (l.d ≤ 7) × Filled 7 (λ d. sequence (back l.n l.j d)) l.seven l.d
-
-abbrev pub decreases-loop-d : goal.decreases-loop-d
-decreases-loop-d l = 7 - l.d

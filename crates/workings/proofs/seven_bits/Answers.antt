@@ -12,21 +12,6 @@ loop-d-init c = (omega arith, filled_none 7 _ _ refl)
 pub back-requires : goal.back-requires
 back-requires c = (omega arith, omega arith, omega arith, omega arith)
 
-pub overflow_add-start : goal.overflow_add-start
-overflow_add-start c = omega arith
-
-pub get-requires : goal.get-requires
-get-requires c = omega arith
-
-pub bounds-seven-d : goal.bounds-seven-d
-bounds-seven-d c = omega arith
-
-pub overflow_add-d : goal.overflow_add-d
-overflow_add-d c = omega arith
-
-pub loop-d-smaller : goal.loop-d-smaller
-loop-d-smaller c = omega arith
-
 pub loop-d-preserved : goal.loop-d-preserved
 loop-d-preserved c =
     let a = c.args in

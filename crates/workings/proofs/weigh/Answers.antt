@@ -7,12 +7,6 @@ use Rattle.workings.proofs.weigh.Goals as goal
 pub loop-d-init : goal.loop-d-init
 loop-d-init c = (omega arith, added_none _, omega arith)
 
-pub bounds-bits-d : goal.bounds-bits-d
-bounds-bits-d c = omega arith
-
-pub bounds-scrambling-d : goal.bounds-scrambling-d
-bounds-scrambling-d c = omega arith
-
 pub overflow_add-bits : goal.overflow_add-bits
 overflow_add-bits c =
     let p = c.requires in
@@ -27,12 +21,6 @@ taken-sum-requires c =
 
 pub overflow_add-sum : goal.overflow_add-sum
 overflow_add-sum c = omega (arith, c.taken-sum.ensures.1)
-
-pub overflow_add-d : goal.overflow_add-d
-overflow_add-d c = omega arith
-
-pub loop-d-smaller : goal.loop-d-smaller
-loop-d-smaller c = omega arith
 
 pub loop-d-preserved : goal.loop-d-preserved
 loop-d-preserved c =

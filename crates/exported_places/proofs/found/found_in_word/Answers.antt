@@ -1,79 +1,32 @@
 -- `found_in_word` meets its contract: the fields are those of the case. Assumes nothing.
-use mathlib.Core.Path.{ap, subst}
+use mathlib.Core.Path.{ap, ◌∙◌}
 use native.Mathlib.Omega.{arith}
+use Rattle.std.specs.Prelude.{Result, Ok}
+use Rattle.runs.specs.declared.Answer.{Answer}
 use Rattle.finding.specs.declared.finder.Owner.{Owner}
 use Rattle.finding.specs.Finder.{values}
 use Rattle.words.specs.Words.{answer_word}
-use Rattle.exported_places.specs.Found.{SmallFound, found_in_word}
+use Rattle.exported_places.specs.Found.{found_in_word}
 use Rattle.exported_places.proofs.found.found_in_word.Goals as goal
 
-pub overflow_mul-result : goal.overflow_mul-result
-overflow_mul-result c =
-    let (p, f, b) = subst (λ (x : Owner). SmallFound (values x)) c.in-P1.is c.requires in
-    omega arith
-
-pub overflow_add-result : goal.overflow_add-result
-overflow_add-result c =
-    let (p, f, b) = subst (λ (x : Owner). SmallFound (values x)) c.in-P1.is c.requires in
-    omega arith
-
-pub overflow_mul-result-in-P1 : goal.overflow_mul-result-in-P1
-overflow_mul-result-in-P1 c =
-    let (p, f, b) = subst (λ (x : Owner). SmallFound (values x)) c.in-P1.is c.requires in
-    omega arith
-
-pub overflow_add-result-in-P1 : goal.overflow_add-result-in-P1
-overflow_add-result-in-P1 c =
-    let (p, f, b) = subst (λ (x : Owner). SmallFound (values x)) c.in-P1.is c.requires in
-    omega arith
-
-pub overflow_mul-result-in-P2 : goal.overflow_mul-result-in-P2
-overflow_mul-result-in-P2 c =
-    let (p, f, b) = subst (λ (x : Owner). SmallFound (values x)) c.in-P2.is c.requires in
-    omega arith
-
-pub overflow_add-result-in-P2 : goal.overflow_add-result-in-P2
-overflow_add-result-in-P2 c =
-    let (p, f, b) = subst (λ (x : Owner). SmallFound (values x)) c.in-P2.is c.requires in
-    omega arith
-
-pub overflow_mul-result-in-Pids : goal.overflow_mul-result-in-Pids
-overflow_mul-result-in-Pids c =
-    let (p, f, b) = subst (λ (x : Owner). SmallFound (values x)) c.in-Pids.is c.requires in
-    omega arith
-
-pub overflow_add-result-in-Pids : goal.overflow_add-result-in-Pids
-overflow_add-result-in-Pids c =
-    let (p, f, b) = subst (λ (x : Owner). SmallFound (values x)) c.in-Pids.is c.requires in
-    omega arith
-
-pub overflow_mul-result-in-Pids-2 : goal.overflow_mul-result-in-Pids-2
-overflow_mul-result-in-Pids-2 c =
-    let (p, f, b) = subst (λ (x : Owner). SmallFound (values x)) c.in-Pids.is c.requires in
-    omega arith
-
-pub overflow_add-result-in-Pids-2 : goal.overflow_add-result-in-Pids-2
-overflow_add-result-in-Pids-2 c =
-    let (p, f, b) = subst (λ (x : Owner). SmallFound (values x)) c.in-Pids.is c.requires in
-    omega arith
-
-pub answer_word-requires : goal.answer_word-requires
-answer_word-requires c =
-    let (p, f, b) = subst (λ (x : Owner). SmallFound (values x)) c.in-Refused.is c.requires in
-    omega arith
-
-pub returns-in-P1 : goal.returns-in-P1
+pub returns-in-Ok-P1 : goal.returns-in-Ok-P1
 unfolding found_in_word
-returns-in-P1 c = omega (arith, ap (λ (x : Owner). found_in_word (values x)) c.in-P1.is)
+returns-in-Ok-P1 c =
+    let e = rw c.in-Ok-P1.is at c.in-Ok-P1.field-0-is in
+    omega (arith, ap (λ (x : Result Owner Answer). found_in_word (values x)) (c.in-Ok-P1.is ∙ ap Ok e))
 
-pub returns-in-P2 : goal.returns-in-P2
+pub returns-in-Ok-P2 : goal.returns-in-Ok-P2
 unfolding found_in_word
-returns-in-P2 c = omega (arith, ap (λ (x : Owner). found_in_word (values x)) c.in-P2.is)
+returns-in-Ok-P2 c =
+    let e = rw c.in-Ok-P2.is at c.in-Ok-P2.field-0-is in
+    omega (arith, ap (λ (x : Result Owner Answer). found_in_word (values x)) (c.in-Ok-P2.is ∙ ap Ok e))
 
-pub returns-in-Pids : goal.returns-in-Pids
+pub returns-in-Ok-Pids : goal.returns-in-Ok-Pids
 unfolding found_in_word
-returns-in-Pids c = omega (arith, ap (λ (x : Owner). found_in_word (values x)) c.in-Pids.is)
+returns-in-Ok-Pids c =
+    let e = rw c.in-Ok-Pids.is at c.in-Ok-Pids.field-0-is in
+    omega (arith, ap (λ (x : Result Owner Answer). found_in_word (values x)) (c.in-Ok-Pids.is ∙ ap Ok e))
 
-pub returns-in-Refused : goal.returns-in-Refused
+pub returns-in-Err : goal.returns-in-Err
 unfolding found_in_word answer_word
-returns-in-Refused c = omega (arith, ap (λ (x : Owner). found_in_word (values x)) c.in-Refused.is, c.answer_word.ensures)
+returns-in-Err c = omega (arith, ap (λ (x : Result Owner Answer). found_in_word (values x)) c.in-Err.is, c.answer_word.ensures)

@@ -3,9 +3,6 @@ use mathlib.Core.Path.{◌∙◌}
 use Rattle.exported_places.proofs.Numbers.{refused-left, length-left, done-left}
 use Rattle.exported_places.proofs.worked.leave.Goals as goal
 
-pub answer_word-requires : goal.answer_word-requires
-answer_word-requires c = c.requires.0
-
 pub returns-then-number-ne0 : goal.returns-then-number-ne0
 returns-then-number-ne0 c =
     refused-left _ _ _ c.number.ensures c.if-number-ne0.true _ c.answer_word.ensures
@@ -14,12 +11,12 @@ pub returns-then-out-ne25 : goal.returns-then-out-ne25
 returns-then-out-ne25 c =
     length-left _ _ _ c.number.ensures c.if-number-ne0.false c.if-out-ne25.true _ c.answer_word-then-out-ne25.ensures
 
-pub numbers-told-requires : goal.numbers-told-requires
-numbers-told-requires c =
+pub numbers-requires : goal.numbers-requires
+numbers-requires c =
     let h = c.requires in
     (h.1, h.2)
 
 pub returns : goal.returns
 returns c =
     done-left _ _ _ c.number.ensures c.if-number-ne0.false c.if-out-ne25.false _
-    (c.copy.ensures ∙ c.numbers-told.ensures)
+    (c.copy_from_slice.ensures.after ∙ c.numbers.ensures)

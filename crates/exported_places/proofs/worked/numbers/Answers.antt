@@ -5,17 +5,17 @@ use Rattle.exported_places.proofs.worked.numbers.Goals as goal
 pub returns : goal.returns
 returns c =
     numbers-are _ c.requires.0 c.requires.1 _ _ _ _ _ _ _ _ _ _ _ _ _ _
-    c.wide.ensures
-    c.wide-2.ensures
-    c.wide-3.ensures
-    c.wide-4.ensures
-    c.wide-5.ensures
-    c.wide-6.ensures
-    c.wide-7.ensures
-    c.wide-8.ensures
-    c.wide-9.ensures
-    c.wide-10.ensures
-    c.wide-11.ensures
-    c.wide-12.ensures
-    c.wide-13.ensures
-    c.wide-14.ensures
+    c.from.ensures
+    c.from-2.ensures
+    c.from-3.ensures
+    c.from-4.ensures
+    c.from-5.ensures
+    c.from-6.ensures
+    c.from-7.ensures
+    c.from-8.ensures
+    c.from-9.ensures
+    c.from-10.ensures
+    c.from-11.ensures
+    c.from-12.ensures
+    c.from-13.ensures
+    c.from-14.ensures

@@ -6,11 +6,11 @@ use Rattle.finding.proofs.locator.locate_p1.Goals as goal
 
 pub returns-then-frame-p1_coded : goal.returns-then-frame-p1_coded
 returns-then-frame-p1_coded c =
-    c.refused.ensures ∙ frame-out _ _ _ _ c.frame_coded-n.ensures.0 c.p1_coded.ensures.0 refl _ _ c.if-frame-p1_coded.true
+    frame-out _ _ _ _ c.frame_coded-n.ensures.0 c.p1_coded.ensures.0 refl _ _ c.if-frame-p1_coded.true
 
 pub returns-then-bit-n : goal.returns-then-bit-n
 returns-then-bit-n c =
-    c.refused-then-bit-n.ensures ∙ bit-out _ _ _ _ c.frame_coded-n.ensures.0 c.p1_coded.ensures.0 refl _ _ c.if-frame-p1_coded.false c.if-bit-n.true
+    bit-out _ _ _ _ c.frame_coded-n.ensures.0 c.p1_coded.ensures.0 refl _ _ c.if-frame-p1_coded.false c.if-bit-n.true
 
 pub overflow_mul-frame : goal.overflow_mul-frame
 overflow_mul-frame c =

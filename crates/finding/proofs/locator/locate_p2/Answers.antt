@@ -5,15 +5,15 @@ use Rattle.finding.proofs.locator.locate_p2.Goals as goal
 
 pub returns-then-n-eq0 : goal.returns-then-n-eq0
 returns-then-n-eq0 c =
-    c.refused.ensures ∙ p2-none _ _ _ _ refl refl c.p2_coded-n.ensures.0 _ _ c.if-n-eq0.true
+    p2-none _ _ _ _ refl refl c.p2_coded-n.ensures.0 _ _ c.if-n-eq0.true
 
 pub returns-then-frame-ge1 : goal.returns-then-frame-ge1
 returns-then-frame-ge1 c =
-    c.refused-then-frame-ge1.ensures ∙ p2-other-frame _ _ _ _ refl refl c.p2_coded-n.ensures.0 _ _ c.if-n-eq0.false c.if-frame-ge1.true
+    p2-other-frame _ _ _ _ refl refl c.p2_coded-n.ensures.0 _ _ c.if-n-eq0.false c.if-frame-ge1.true
 
 pub returns-then-bit-n : goal.returns-then-bit-n
 returns-then-bit-n c =
-    c.refused-then-bit-n.ensures ∙ p2-past _ _ _ _ refl refl c.p2_coded-n.ensures.0 _ _ c.if-n-eq0.false c.if-frame-ge1.false c.if-bit-n.true
+    p2-past _ _ _ _ refl refl c.p2_coded-n.ensures.0 _ _ c.if-n-eq0.false c.if-frame-ge1.false c.if-bit-n.true
 
 pub returns : goal.returns
 returns c =

@@ -2,19 +2,20 @@
 use mathlib.Core.Path.{ap, ◌∙◌}
 use native.Mathlib.Omega.{arith}
 use Prim.Native.Nat.{ℕ}
+use Rattle.std.specs.Prelude.{Ok}
 use Rattle.finding_px.specs.declared.finder.FoundPxIn.TheVariants.{Second}
 use Rattle.finding_px.proofs.Cases.{pair-out, row_out, column-out, delay-zero, second_is}
 use Rattle.finding_px.proofs.finder.find_second.Goals as goal
 
 pub returns-then-pair-ge8 : goal.returns-then-pair-ge8
-returns-then-pair-ge8 c = c.refused.ensures ∙ pair-out _ _ _ _ _ c.if-pair-ge8.true
+returns-then-pair-ge8 c = pair-out _ _ _ _ _ c.if-pair-ge8.true
 
 pub returns-then-row-ge64 : goal.returns-then-row-ge64
-returns-then-row-ge64 c = c.refused-then-row-ge64.ensures ∙ row_out _ _ _ _ _ c.if-pair-ge8.false c.if-row-ge64.true
+returns-then-row-ge64 c = row_out _ _ _ _ _ c.if-pair-ge8.false c.if-row-ge64.true
 
 pub returns-then-column-columns : goal.returns-then-column-columns
 returns-then-column-columns c =
-    c.refused-then-column-columns.ensures ∙ column-out _ _ _ _ _ c.if-pair-ge8.false c.if-row-ge64.false (omega (arith, c.columns.ensures.0, c.if-column-columns.true))
+    column-out _ _ _ _ _ c.if-pair-ge8.false c.if-row-ge64.false (omega (arith, c.columns.ensures.0, c.if-column-columns.true))
 
 pub returns-then-age-delay : goal.returns-then-age-delay
 returns-then-age-delay c =
@@ -28,6 +29,6 @@ bit_of-bit-requires c =
 pub returns : goal.returns
 returns c =
     let a = c.args in
-    ap (λ (b : ℕ). Second a.pair b) c.bit_of-bit.ensures
+    ap (λ (b : ℕ). Ok (Second a.pair b)) c.bit_of-bit.ensures
     ∙ second_is _ _ _ _ _ c.if-pair-ge8.false c.if-row-ge64.false (omega (arith, c.columns.ensures.0, c.if-column-columns.false))
     (omega (arith, c.delay.ensures, c.if-age-delay.false))

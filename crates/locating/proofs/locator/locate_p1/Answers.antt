@@ -1,5 +1,6 @@
 -- `locate_p1` meets its contract: the case that the tests chose. Assumes nothing.
 use mathlib.Core.Path.{ap, sym, subst, ◌∙◌}
+use Rattle.std.specs.Prelude.{Ok}
 use Rattle.interleaving.specs.Matrix.{Inside}
 use Rattle.interleaving.proofs.PositionsPM.{positions-pm}
 use Rattle.locating.specs.Locator.{standing}
@@ -18,4 +19,4 @@ standing-requires c =
 
 pub returns : goal.returns
 returns c =
-    c.standing.ensures ∙ ap standing c.p1_position.ensures ∙ p1-in _ _ c.if-frame-ge1.false c.if-bit-ge365440.false
+    ap Ok (c.standing.ensures ∙ ap standing c.p1_position.ensures) ∙ p1-in _ _ c.if-frame-ge1.false c.if-bit-ge365440.false

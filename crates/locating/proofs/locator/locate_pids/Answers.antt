@@ -1,6 +1,7 @@
 -- `locate_pids` meets its contract: the case that the tests chose. Assumes nothing.
 use mathlib.Core.Path.{ap, sym, subst, ◌∙◌}
 use native.Mathlib.Omega.{arith}
+use Rattle.std.specs.Prelude.{Ok}
 use Rattle.interleaving.specs.Matrix.{Inside}
 use Rattle.interleaving.proofs.PositionsPM.{positions-pm}
 use Rattle.locating.specs.Locator.{standing}
@@ -19,4 +20,4 @@ standing-requires c =
 
 pub returns : goal.returns
 returns c =
-    c.standing.ensures ∙ ap standing c.pids_position.ensures ∙ pids-in _ _ c.if-frame-ge16.false c.if-bit-ge200.false
+    ap Ok (c.standing.ensures ∙ ap standing c.pids_position.ensures) ∙ pids-in _ _ c.if-frame-ge16.false c.if-bit-ge200.false

@@ -1,6 +1,7 @@
 -- `locate_px` meets its contract: the case that the tests chose. Assumes nothing.
-use mathlib.Core.Path.{sym, ◌∙◌}
+use mathlib.Core.Path.{sym, ap, ◌∙◌}
 use native.Mathlib.Omega.{arith}
+use Rattle.std.specs.Prelude.{Ok}
 use Rattle.calls.proofs.Admitted.{valid-says}
 use Rattle.queries.proofs.Origins.{frame-holds, used}
 use Rattle.queries.proofs.Valued.{valued}
@@ -40,5 +41,5 @@ pub returns : goal.returns
 returns c =
     let v = sym c.is_valid.ensures ∙ c.if-not-is_valid.false in
     valued values
-    (c.standing.ensures
+    (ap Ok c.standing.ensures
     ∙ inside _ _ _ _ v _ c.kind_of_number-kind.ensures _ c.columns-c.ensures.0 c.if-c-eq0.false (omega arith) (omega arith))

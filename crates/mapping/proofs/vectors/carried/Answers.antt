@@ -2,7 +2,7 @@
 use mathlib.Core.Path.{sym, ap, ◌∙◌}
 use native.Mathlib.Omega.{arith}
 use lib.Ieee.{of_bits}
-use Rattle.calls.specs.Called.{signal}
+use Rattle.calls.specs.Called.{signal_behind}
 use Rattle.subcarriers.specs.declared.Source.{Source}
 use Rattle.points.specs.Points.{no_point}
 use Rattle.mapping.specs.Vector.{point_for}
@@ -63,33 +63,33 @@ pub returns-in-Unused : goal.returns-in-Unused
 unfolding point_for no_point of_bits
 returns-in-Unused c =
     let a = c.args in
-    let g = signal a.pm.now a.px1.now a.px2.now a.control.now in
-    ap (λ (x : Source). point_for a.symbol a.width1 a.width2 g x a.scale) (sym c.in-Unused.is)
+    let g = signal_behind a.signal.now in
+    ap (λ (x : Source). point_for a.symbol a.widths.px1 a.widths.px2 g x a.scale) (sym c.in-Unused.is)
 
 pub returns-in-Pm : goal.returns-in-Pm
 unfolding point_for
 returns-in-Pm c =
     let a = c.args in
-    let g = signal a.pm.now a.px1.now a.px2.now a.control.now in
-    c.pair.ensures ∙ ap (λ (x : Source). point_for a.symbol a.width1 a.width2 g x a.scale) (sym c.in-Pm.is)
+    let g = signal_behind a.signal.now in
+    c.pair.ensures ∙ ap (λ (x : Source). point_for a.symbol a.widths.px1 a.widths.px2 g x a.scale) (sym c.in-Pm.is)
 
 pub returns-in-Px1 : goal.returns-in-Px1
 unfolding point_for
 returns-in-Px1 c =
     let a = c.args in
-    let g = signal a.pm.now a.px1.now a.px2.now a.control.now in
-    c.pair-in-Px1.ensures ∙ ap (λ (x : Source). point_for a.symbol a.width1 a.width2 g x a.scale) (sym c.in-Px1.is)
+    let g = signal_behind a.signal.now in
+    c.pair-in-Px1.ensures ∙ ap (λ (x : Source). point_for a.symbol a.widths.px1 a.widths.px2 g x a.scale) (sym c.in-Px1.is)
 
 pub returns-in-Px2 : goal.returns-in-Px2
 unfolding point_for
 returns-in-Px2 c =
     let a = c.args in
-    let g = signal a.pm.now a.px1.now a.px2.now a.control.now in
-    c.pair-in-Px2.ensures ∙ ap (λ (x : Source). point_for a.symbol a.width1 a.width2 g x a.scale) (sym c.in-Px2.is)
+    let g = signal_behind a.signal.now in
+    c.pair-in-Px2.ensures ∙ ap (λ (x : Source). point_for a.symbol a.widths.px1 a.widths.px2 g x a.scale) (sym c.in-Px2.is)
 
 pub returns-in-Control : goal.returns-in-Control
 unfolding point_for
 returns-in-Control c =
     let a = c.args in
-    let g = signal a.pm.now a.px1.now a.px2.now a.control.now in
-    c.single.ensures ∙ ap (λ (x : Source). point_for a.symbol a.width1 a.width2 g x a.scale) (sym c.in-Control.is)
+    let g = signal_behind a.signal.now in
+    c.single.ensures ∙ ap (λ (x : Source). point_for a.symbol a.widths.px1 a.widths.px2 g x a.scale) (sym c.in-Control.is)

@@ -1,6 +1,6 @@
 use mathlib.Core.Path.{sym, ◌∙◌}
 use native.Mathlib.Omega.{arith}
-use Rattle.calls.specs.Called.{signal}
+use Rattle.calls.specs.Called.{signal_behind}
 use Rattle.bits.proofs.Listed.{filled_none, filled-stored, filled-all}
 use Rattle.mapping.proofs.VectorCases.{of-mode, width1-is, width2-is, readable-is}
 use Rattle.mapping.proofs.vectors.fill_points.Goals as goal
@@ -16,16 +16,10 @@ loop-k-init c =
 pub element-p-requires : goal.element-p-requires
 element-p-requires c =
     let a = c.args in
-    (c.mode_number-n.ensures.0, c.loop-k-test.true, width1-is a.mode c.mode_number-n.result c.mode_number-n.ensures.1 c.kind_of.ensures c.width_of-width1.ensures c.kind_of-2.ensures c.width_of-width2.ensures, width2-is a.mode c.mode_number-n.result c.mode_number-n.ensures.1 c.kind_of.ensures c.width_of-width1.ensures c.kind_of-2.ensures c.width_of-width2.ensures, readable-is a.mode c.mode_number-n.result c.mode_number-n.ensures.1 c.kind_of.ensures c.width_of-width1.ensures c.kind_of-2.ensures c.width_of-width2.ensures _ _ c.requires.readable)
+    (c.mode_number-n.ensures.0, c.loop-k-test.true, width1-is a.mode c.mode_number-n.result c.mode_number-n.ensures.1 c.kind_of.ensures c.width_of-px1.ensures c.kind_of-2.ensures c.width_of-px2.ensures, width2-is a.mode c.mode_number-n.result c.mode_number-n.ensures.1 c.kind_of.ensures c.width_of-px1.ensures c.kind_of-2.ensures c.width_of-px2.ensures, readable-is a.mode c.mode_number-n.result c.mode_number-n.ensures.1 c.kind_of.ensures c.width_of-px1.ensures c.kind_of-2.ensures c.width_of-px2.ensures _ _ c.requires.readable)
 
 pub store-requires : goal.store-requires
 store-requires c = let l = c.loop-k in (omega (arith, l.invariant.1.long, c.loop-k-test.true), omega (arith, l.invariant.2.long, c.loop-k-test.true))
-
-pub overflow_add-k : goal.overflow_add-k
-overflow_add-k c = omega arith
-
-pub loop-k-smaller : goal.loop-k-smaller
-loop-k-smaller c = omega arith
 
 pub loop-k-preserved : goal.loop-k-preserved
 loop-k-preserved c =
@@ -33,7 +27,7 @@ loop-k-preserved c =
     let l = c.loop-k in
     let s = c.args in
     let n = c.mode_number-n in
-    let (a, b) = of-mode s.mode n.result s.symbol s.lower s.upper (signal s.pm.now s.px1.now s.px2.now s.control.now) l.k c.element-p.result
+    let (a, b) = of-mode s.mode n.result s.symbol s.scales.lower s.scales.upper (signal_behind s.signal.now) l.k c.element-p.result
     n.ensures.1 c.element-p.ensures in
     (omega arith, filled-stored c.store.ensures.0 l.invariant.1 t a, filled-stored c.store.ensures.1 l.invariant.2 t b)
 

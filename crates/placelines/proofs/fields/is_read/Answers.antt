@@ -1,28 +1,16 @@
-use mathlib.Core.Path.{◌≡◌, sym, ap, subst, ◌∙◌}
-use Prim.Native.Nat.{ℕ, ◌<◌, ◌≤◌}
-use native.Mathlib.Omega.{arith}
-use Rattle.placelines.specs.Read.{is_read}
+use mathlib.Core.Path.{sym, ap, ◌∙◌}
+use mathlib.Core.Bool.{not}
+use Rattle.std.specs.Prelude.{is_some}
 use Rattle.placelines.proofs.Numbers.{read_none, read_more, not-read}
 use Rattle.placelines.proofs.fields.is_read.Goals as goal
 
 pub loop-k-init : goal.loop-k-init
-loop-k-init c = (omega arith, read_none _)
+loop-k-init c = read_none _
 
-pub returns-then-number_at-ge256 : goal.returns-then-number_at-ge256
-returns-then-number_at-ge256 c =
-    sym (not-read c.args.line.now c.loop-k.k 16 c.loop-k-test.true (subst (λ (n : ℕ). 256 ≤ n) c.number_at.ensures c.if-number_at-ge256.true))
-
-pub overflow_add-k : goal.overflow_add-k
-overflow_add-k c = omega arith
-
-pub loop-k-smaller : goal.loop-k-smaller
-loop-k-smaller c = omega arith
+pub returns-then-is_none : goal.returns-then-is_none
+returns-then-is_none c =
+    sym (not-read c.args.line.now c.loop-k.k 16 c.loop-k-test.true (sym (ap is_some c.number_at.ensures) ∙ c.is_none.ensures ∙ ap not c.if-is_none.true))
 
 pub loop-k-preserved : goal.loop-k-preserved
 loop-k-preserved c =
-    (omega arith, read_more c.args.line.now c.loop-k.k c.loop-k.invariant.1 (subst (λ (n : ℕ). n < 256) c.number_at.ensures c.if-number_at-ge256.false))
-
-pub returns : goal.returns
-returns c =
-    let e : c.loop-k.k ≡ 16 = omega arith in
-    sym c.loop-k.invariant.1 ∙ ap (λ (k : ℕ). is_read k c.args.line.now) e
+    read_more c.args.line.now c.loop-k.k c.loop-k.invariant (sym (ap is_some c.number_at.ensures) ∙ c.is_none.ensures ∙ ap not c.if-is_none.false)

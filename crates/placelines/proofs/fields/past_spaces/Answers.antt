@@ -8,9 +8,6 @@ use Rattle.placelines.proofs.fields.past_spaces.Goals as goal
 pub loop-i-init : goal.loop-i-init
 loop-i-init c = (omega arith, omega arith, spaces-none _)
 
-pub loop-i-smaller : goal.loop-i-smaller
-loop-i-smaller c = omega arith
-
 pub loop-i-preserved : goal.loop-i-preserved
 loop-i-preserved c =
     (omega arith, c.past_space-at.ensures.0, spaces-more c.args.line.now c.loop-i.at c.past_space-at.result c.loop-i.i c.past_space-at.ensures.1 c.loop-i.invariant.2)

@@ -13,12 +13,6 @@ pub put_byte-end-requires : goal.put_byte-end-requires
 put_byte-end-requires c =
     omega (arith, c.requires, c.loop-k.invariant.1.within, c.loop-k.invariant.1.size)
 
-pub overflow_add-k : goal.overflow_add-k
-overflow_add-k c = omega arith
-
-pub loop-k-smaller : goal.loop-k-smaller
-loop-k-smaller c = omega arith
-
 pub loop-k-preserved : goal.loop-k-preserved
 loop-k-preserved c =
     (omega arith, more-places _ _ _ _ refl c.separator.ensures c.loop-k.invariant.1 c.put_byte-end.ensures)

@@ -18,7 +18,7 @@ put_columns-requires c =
     let pm = c.args.pm.now in
     let loop = c.loop-r in
     let made = c.read_row.ensures in (
-      c.nibble_spreads-spreads.ensures,
+      c.spreads-spreads.ensures,
       c.index_table-table.ensures,
       nibbles-in-lt (bit_at pm) (bit_at_lt pm) loop.r _ made.0 made.1,
       loop.invariant.1,

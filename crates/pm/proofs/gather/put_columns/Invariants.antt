@@ -1,6 +1,6 @@
 -- `pm::gather::put_columns` meets its contract. The loop's invariant: the columns before 4 x are written. Assumes nothing.
 use mathlib.Core.Path.{◌≡◌}
-use Prim.Native.Nat.{ℕ, ◌≤◌, ◌<◌, ◌+◌, ◌-◌, ◌*◌}
+use Prim.Native.Nat.{ℕ, ◌≤◌, ◌<◌, ◌+◌, ◌*◌}
 use lib.ListN.{length}
 use Rattle.transposing.specs.Words.{Begins}
 use Rattle.pm.specs.Rows.{nibble_in, ColumnsDone}
@@ -10,6 +10,3 @@ abbrev pub invariant-loop-x : goal.invariant-loop-x
 invariant-loop-x l =
     (l.x ≤ 9) × (length l.coded ≡ 45680) × (length l.words ≡ 40)
     × ((f : ℕ → ℕ) → ((q : ℕ) → f q < 2) → Begins (nibble_in f l.r) 2880 l.nibbles → ColumnsDone f (36 * l.r) l.initial.coded → ColumnsDone f (36 * l.r + 4 * l.x) l.coded)
-
-abbrev pub decreases-loop-x : goal.decreases-loop-x
-decreases-loop-x l = 9 - l.x

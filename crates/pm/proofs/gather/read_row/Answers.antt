@@ -1,8 +1,7 @@
-use mathlib.Core.Path.{◌≡◌, sym, ap, ◌∙◌}
+use mathlib.Core.Path.{sym, ap, ◌∙◌}
 use Prim.Native.Nat.{ℕ, ◌+◌, ◌*◌}
 use native.Mathlib.Omega.{arith}
 use Rattle.bits.specs.Bits.{bit_at, number}
-use Rattle.interleaving.specs.PM.{p1_place}
 use Rattle.pm.specs.Rows.{nibble_in}
 use Rattle.transposing.proofs.Words.{begins-none, begins-at}
 use Rattle.pm.proofs.BackLaws.{row-cell, nibble-at}
@@ -16,14 +15,14 @@ pub overflow_add-c : goal.overflow_add-c
 overflow_add-c c =
     let t = c.loop-t.t in
     let r = c.args.r in
-    let first : c.wide_cell-c.result ≡ p1_place t = c.wide_cell-c.ensures ∙ c.requires.1 t (omega arith) in
+    let first = c.requires.1 t (omega arith) in
     omega (arith, (row-cell t r (omega arith) (omega arith)).0)
 
 pub read_columns-requires : goal.read_columns-requires
 read_columns-requires c =
     let t = c.loop-t.t in
     let r = c.args.r in
-    let first : c.wide_cell-c.result ≡ p1_place t = c.wide_cell-c.ensures ∙ c.requires.1 t (omega arith) in
+    let first = c.requires.1 t (omega arith) in
     let cell = row-cell t r (omega arith) (omega arith) in
     (c.requires.0, omega (arith, cell.0), rw first cell.1, omega arith, c.loop-t.invariant.1)
 
@@ -33,7 +32,7 @@ loop-t-preserved c =
     let t = loop.t in
     let a = c.args in
     let f : ℕ → ℕ = bit_at a.pm.now in
-    let first : c.wide_cell-c.result ≡ p1_place t = c.wide_cell-c.ensures ∙ c.requires.1 t (omega arith) in (
+    let first = c.requires.1 t (omega arith) in (
       search rules,
       c.read_columns.ensures.0,
       begins-at _

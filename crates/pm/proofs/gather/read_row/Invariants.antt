@@ -1,6 +1,6 @@
 -- `pm::gather::read_row` meets its contract. The loop's invariant: the nibbles of the first t numbers are read. Assumes nothing.
 use mathlib.Core.Path.{◌≡◌}
-use Prim.Native.Nat.{◌≤◌, ◌-◌, ◌*◌}
+use Prim.Native.Nat.{◌≤◌, ◌*◌}
 use lib.ListN.{length}
 use Rattle.bits.specs.Bits.{bit_at}
 use Rattle.transposing.specs.Words.{Begins}
@@ -9,6 +9,3 @@ use Rattle.pm.proofs.gather.read_row.Given as goal
 
 abbrev pub invariant-loop-t : goal.invariant-loop-t
 invariant-loop-t l = (l.t ≤ 320) × (length l.out ≡ 2880) × Begins (nibble_in (bit_at l.pm) l.r) (9 * l.t) l.out
-
-abbrev pub decreases-loop-t : goal.decreases-loop-t
-decreases-loop-t l = 320 - l.t

@@ -7,17 +7,11 @@ use Rattle.transposing.specs.Words.{spread_of}
 use Rattle.pm.proofs.BackLaws.{spread-number, spread-low-le}
 use Rattle.pm.proofs.gather.spread_at.Goals as goal
 
-pub offset_bounds-spreads-wide : goal.offset_bounds-spreads-wide
-offset_bounds-spreads-wide c = omega (arith, c.wide.ensures, c.requires.2 c.args.n)
-
-pub bounds-spreads-wide : goal.bounds-spreads-wide
-bounds-spreads-wide c = omega (arith, c.wide.ensures, c.requires.2 c.args.n)
-
 pub returns : goal.returns
 returns c =
     let a = c.args in
     let x : ℕ = get_or a.nibbles.now a.n 0 in
     let lt : x < 16 = c.requires.2 a.n in
-    let is : get_or a.spreads.now c.wide.result 0 ≡ spread_of x =
-    ap (λ (i : ℕ). get_or a.spreads.now i 0) c.wide.ensures ∙ c.requires.0.is x (omega arith) in
+    let is : get_or a.spreads.now c.from.result 0 ≡ spread_of x =
+    ap (λ (i : ℕ). get_or a.spreads.now i 0) c.from.ensures ∙ c.requires.0.is x (omega arith) in
     (omega (arith, is, spread-low-le x lt), λ f b e. is ∙ ap spread_of e ∙ spread-number f b)

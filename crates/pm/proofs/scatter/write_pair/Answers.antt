@@ -9,16 +9,11 @@ use Rattle.pm.proofs.scatter.write_pair.Goals as goal
 pub loop-y-init : goal.loop-y-init
 loop-y-init c = (search rules, search rules, λ g e. changed-at _ (changed-none _ g _) (omega arith))
 
-pub joined-requires : goal.joined-requires
-joined-requires c =
-    let pre = c.requires in
-    (pre.3 _, pre.3 _)
-
 pub loop-y-preserved : goal.loop-y-preserved
 loop-y-preserved c =
     let loop = c.loop-y in
     let a = c.args in
-    let is = c.joined.ensures ∙ ap₂ (λ (i j : ℕ). 16 * get_or a.nibbles.now i 0 + get_or a.nibbles.now j 0) c.seat-a.ensures.0 c.seat-b.ensures.0 in (
+    let is = ap₂ (λ (i j : ℕ). 16 * get_or a.nibbles.now i 0 + get_or a.nibbles.now j 0) c.seat-a.ensures.0 c.seat-b.ensures.0 in (
       search rules,
       simp length-set loop.invariant.1,
       λ g e. changed-at _ (changed-turn _ (loop.invariant.2 g e) (omega arith) (omega arith) (is ∙ sym (e loop.y (omega arith)))) (omega arith),

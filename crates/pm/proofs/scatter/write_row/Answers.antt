@@ -14,8 +14,8 @@ pub write_pair-requires : goal.write_pair-requires
 write_pair-requires c =
     let i = c.loop-i.i in
     let is = c.requires.1.is in (
-      omega (arith, c.wide.ensures, is (2 * i) (omega arith), shown-lt (2 * i / 20) (2 * i % 20) (omega arith)),
-      omega (arith, c.wide-in-loop-i.ensures, is (2 * i + 1) (omega arith), shown-lt ((2 * i + 1) / 20) ((2 * i + 1) % 20) (omega arith)),
+      omega (arith, c.from.ensures, is (2 * i) (omega arith), shown-lt (2 * i / 20) (2 * i % 20) (omega arith)),
+      omega (arith, c.from-in-loop-i.ensures, is (2 * i + 1) (omega arith), shown-lt ((2 * i + 1) / 20) ((2 * i + 1) % 20) (omega arith)),
       omega arith,
       c.requires.3,
     )
@@ -28,7 +28,7 @@ loop-i-preserved c =
       search rules,
       search rules,
       λ f b d. pairs-turn c.requires.2 (omega arith) (loop.invariant.2 f b d)
-          (c.write_pair.ensures (byte_of (λ c. bit_for f (position_of 20 36 c))) (λ y h. rw (c.wide.ensures, c.wide-in-loop-i.ensures) (pair-shown f a.r loop.i a.shown.now a.nibbles.now c.requires.2 (omega arith) b is y h))),
+          (c.write_pair.ensures (byte_of (λ c. bit_for f (position_of 20 36 c))) (λ y h. rw (c.from.ensures, c.from-in-loop-i.ensures) (pair-shown f a.r loop.i a.shown.now a.nibbles.now c.requires.2 (omega arith) b is y h))),
     )
 
 pub returns : goal.returns

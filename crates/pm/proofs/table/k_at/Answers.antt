@@ -13,5 +13,5 @@ unfolding k_for
 returns c =
     let r = c.args.r in
     let k = c.args.c in
-    let is : c.wide.result ≡ k_for r k = c.wide.ensures ∙ ap (λ (l : List ℕ). get_or l (36 * r + k) 0) c.requires.0 in
+    let is : c.from.result ≡ k_for r k = c.from.ensures ∙ ap (λ (l : List ℕ). get_or l (36 * r + k) 0) c.requires.0 in
     (is, omega (arith, together.below r k c.requires.1 c.requires.2))

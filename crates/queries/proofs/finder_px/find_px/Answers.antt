@@ -1,6 +1,7 @@
 -- `find_px` meets its contract: the case that the tests chose. Assumes nothing.
-use mathlib.Core.Path.{sym, ◌∙◌}
+use mathlib.Core.Path.{sym, ap, ◌∙◌}
 use native.Mathlib.Omega.{arith}
+use Rattle.std.specs.Prelude.{Ok}
 use Rattle.calls.proofs.Admitted.{valid-says}
 use Rattle.queries.specs.FinderPX.{values}
 use Rattle.queries.proofs.CasesPX.{state-refused, channel-refused, pair-refused, row-refused, column-refused, inside}
@@ -49,6 +50,6 @@ content-requires c =
 pub returns : goal.returns
 returns c =
     valued values
-    (c.content.ensures
+    (ap Ok c.content.ensures
     ∙ inside _ _ _ _ _ (sym c.is_valid.ensures ∙ c.if-not-is_valid.false) _ c.kind_of_number-kind.ensures _ c.columns-n.ensures.0
     c.if-n-eq0.false (omega arith) (omega arith) (omega arith))

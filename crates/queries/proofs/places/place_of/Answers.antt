@@ -1,6 +1,6 @@
 -- `place_of` meets its contract: the case that the tests chose. Assumes nothing.
 use mathlib.Core.Path.{ap, ◌∙◌}
-use Rattle.queries.specs.declared.places.Placed.TheVariants.{At}
+use Rattle.std.specs.Prelude.{Ok}
 use Rattle.queries.specs.Places.{values}
 use Rattle.queries.proofs.Placing.{row_out, column-out, within}
 use Rattle.queries.proofs.Valued.{valued}
@@ -13,4 +13,4 @@ pub returns-then-column-ge720 : goal.returns-then-column-ge720
 returns-then-column-ge720 c = valued values (column-out _ _ c.if-row-ge512.false c.if-column-ge720.true)
 
 pub returns : goal.returns
-returns c = valued values (ap At c.position_of-position.ensures ∙ within _ _ c.if-row-ge512.false c.if-column-ge720.false)
+returns c = valued values (ap Ok c.position_of.ensures ∙ within _ _ c.if-row-ge512.false c.if-column-ge720.false)

@@ -1,11 +1,8 @@
 -- `number_of` meets its contract: past the end of the input the number is 0. Assumes nothing.
-use mathlib.Core.Path.{refl, sym}
+use mathlib.Core.Path.{sym}
 use native.Mathlib.Omega.{arith}
 use lib.ListN.{get_or-eq_default}
 use Rattle.run_input.proofs.inputs.number_of.Goals as goal
 
 pub returns-then-input-eq0 : goal.returns-then-input-eq0
 returns-then-input-eq0 c = sym (get_or-eq_default c.args.input.now 0 (omega (arith, c.if-input-eq0.true)))
-
-pub returns : goal.returns
-returns c = refl

@@ -7,21 +7,9 @@ use Rattle.sheetinputs.proofs.inputs.empty_line.Goals as goal
 pub loop-i-init : goal.loop-i-init
 loop-i-init c = (omega arith, omega arith)
 
-pub empty_at-requires : goal.empty_at-requires
-empty_at-requires c = omega arith
-
 pub returns-then-ends : goal.returns-then-ends
 returns-then-ends c =
     (omega (arith, c.loop-i.invariant.1, empty-here c.args.input.now c.loop-i.i c.loop-i.fresh c.loop-i-test.true _ c.empty_at.ensures.0 (sym c.ends.ensures ∙ c.if-ends.true)), c.loop-i.invariant.0)
-
-pub bounds-input-i : goal.bounds-input-i
-bounds-input-i c = omega arith
-
-pub overflow_add-i : goal.overflow_add-i
-overflow_add-i c = omega arith
-
-pub loop-i-smaller : goal.loop-i-smaller
-loop-i-smaller c = omega arith
 
 pub loop-i-preserved : goal.loop-i-preserved
 loop-i-preserved c =
@@ -29,4 +17,4 @@ loop-i-preserved c =
 
 pub returns : goal.returns
 returns c =
-    (omega (arith, c.loop-i.invariant.1, empty-nowhere c.args.input.now c.loop-i.i c.loop-i.fresh c.loop-i-test.false), c.loop-i.invariant.0)
+    (omega (arith, c.loop-i.invariant.1, empty-nowhere c.args.input.now c.loop-i.i c.loop-i.fresh c.loop-i-test.false), omega arith)

@@ -4,10 +4,7 @@ use Rattle.sheetlines.proofs.Ranges.{pm-placed-in-range}
 use Rattle.sheetlines.proofs.entries.pm_placed.Goals as goal
 
 pub in_pm-requires : goal.in_pm-requires
-in_pm-requires c = pm-placed-in-range _ _ _ _ _ _ (sym c.locate.ensures.0 ∙ c.in-At.is)
+in_pm-requires c = pm-placed-in-range _ _ _ _ _ _ (sym c.locate.ensures.0 ∙ c.in-Ok.is)
 
-pub returns-in-At : goal.returns-in-At
-returns-in-At c = rw (sym c.locate.ensures.0 ∙ c.in-At.is) c.in_pm.ensures
-
-pub returns-in-Refused : goal.returns-in-Refused
-returns-in-Refused c = rw (sym c.locate.ensures.0 ∙ c.in-Refused.is)
+pub returns-in-Ok : goal.returns-in-Ok
+returns-in-Ok c = rw (sym c.locate.ensures.0 ∙ c.in-Ok.is) c.in_pm.ensures

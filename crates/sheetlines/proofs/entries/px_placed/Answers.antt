@@ -4,14 +4,11 @@ use Rattle.sheetlines.proofs.Ranges.{located-as, px-placed-in-range}
 use Rattle.sheetlines.proofs.entries.px_placed.Goals as goal
 
 pub overflow_add-sent : goal.overflow_add-sent
-overflow_add-sent c = omega (arith, (px-placed-in-range _ _ _ _ _ _ _ _ (located-as _ _ _ _ _ c.state_before-state.ensures c.locate_px.ensures.0 c.in-At.is)).0)
+overflow_add-sent c = omega (arith, (px-placed-in-range _ _ _ _ _ _ _ _ (located-as _ _ _ _ _ c.state_before-state.ensures c.locate_px.ensures.0 c.in-Ok.is)).0)
 
 pub in_px-requires : goal.in_px-requires
-in_px-requires c = let h = px-placed-in-range _ _ _ _ _ _ _ _ (located-as _ _ _ _ _ c.state_before-state.ensures c.locate_px.ensures.0 c.in-At.is) in
+in_px-requires c = let h = px-placed-in-range _ _ _ _ _ _ _ _ (located-as _ _ _ _ _ c.state_before-state.ensures c.locate_px.ensures.0 c.in-Ok.is) in
     (h.1, h.2, h.3)
 
-pub returns-in-At : goal.returns-in-At
-returns-in-At c = rw (located-as _ _ _ _ _ c.state_before-state.ensures c.locate_px.ensures.0 c.in-At.is) c.in_px.ensures
-
-pub returns-in-Refused : goal.returns-in-Refused
-returns-in-Refused c = rw (located-as _ _ _ _ _ c.state_before-state.ensures c.locate_px.ensures.0 c.in-Refused.is)
+pub returns-in-Ok : goal.returns-in-Ok
+returns-in-Ok c = rw (located-as _ _ _ _ _ c.state_before-state.ensures c.locate_px.ensures.0 c.in-Ok.is) c.in_px.ensures

@@ -23,12 +23,6 @@ pub overflow_add-to : goal.overflow_add-to
 overflow_add-to c =
     omega (arith, frame-within c.loop-t.invariant.5 c.loop-t-test.true, c.loop-t.invariant.0, c.ranges, c.well_formed)
 
-pub slice_bounds-take_turn-count : goal.slice_bounds-take_turn-count
-slice_bounds-take_turn-count c = omega arith
-
-pub slice_bounds-take_turn-start : goal.slice_bounds-take_turn-start
-slice_bounds-take_turn-start c = omega arith
-
 pub slice_bounds-take_turn-end : goal.slice_bounds-take_turn-end
 slice_bounds-take_turn-end c = omega (arith, frame-within c.loop-t.invariant.5 c.loop-t-test.true, c.loop-t.invariant.0)
 
@@ -69,14 +63,6 @@ pub returns-then-number-ne0 : goal.returns-then-number-ne0
 returns-then-number-ne0 c =
     put_first _ _ (omega (arith, c.requires.6, c.loop-t.invariant.4, c.take_turn-turned.ensures.size))
     (going-stops c.loop-t.invariant.5 c.loop-t-test.true _ _ c.loop-t.invariant.0 refl _ refl _ c.take_turn-turned.result _ c.take_turn-turned.ensures (λ z. c.if-number-ne0.true (c.number.ensures ∙ z))) c.put_no_frame.ensures
-
-pub overflow_add-t : goal.overflow_add-t
-overflow_add-t c =
-    omega (arith, c.loop-t-test.true, c.requires.3)
-
-pub loop-t-smaller : goal.loop-t-smaller
-loop-t-smaller c =
-    omega (arith, c.loop-t-test.true)
 
 pub loop-t-preserved : goal.loop-t-preserved
 loop-t-preserved c = (

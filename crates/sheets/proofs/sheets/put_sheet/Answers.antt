@@ -9,6 +9,7 @@ use Rattle.sheetworks.specs.Works.{work_text}
 use Rattle.sheetinputs.specs.Run.{sent}
 use Rattle.sheetruns.specs.Told.{told}
 use Rattle.sheetruns.proofs.Loop.{put_first}
+use Rattle.sheets.specs.Sheet.{no_long, no_short}
 use Rattle.sheets.proofs.Texts.{by_frames, by-short, by-surplus}
 use Rattle.sheets.proofs.sheets.put_sheet.Goals as goal
 
@@ -16,17 +17,19 @@ pub shape_of-out-then-bytes-want : goal.shape_of-out-then-bytes-want
 shape_of-out-then-bytes-want c = c.out-1.given
 
 pub returns-then-bytes-want : goal.returns-then-bytes-want
+unfolding no_short
 returns-then-bytes-want c =
     put_first _ _ (omega (arith, c.requires.5))
-    (by-short c.args.mode c.args.count c.args.without3 c.args.without4 c.args.work c.args.n3 c.args.n4 c.args.list.now c.args.bytes.now _ c.frames_size-want.ensures c.if-bytes-want.true) c.put_short.ensures
+    (by-short c.args.mode c.args.count c.args.without3 c.args.without4 c.args.work c.args.n3 c.args.n4 c.args.list.now c.args.bytes.now _ c.frames_size-want.ensures c.if-bytes-want.true) c.put_want.ensures
 
 pub shape_of-out-then-bytes-want-2 : goal.shape_of-out-then-bytes-want-2
 shape_of-out-then-bytes-want-2 c = c.out-then-bytes-want-2-1.given
 
 pub returns-then-bytes-want-2 : goal.returns-then-bytes-want-2
+unfolding no_long
 returns-then-bytes-want-2 c =
     put_first _ _ (omega (arith, c.requires.5))
-    (by-surplus c.args.mode c.args.count c.args.without3 c.args.without4 c.args.work c.args.n3 c.args.n4 c.args.list.now c.args.bytes.now _ c.frames_size-want.ensures c.if-bytes-want-2.true) c.put_long.ensures
+    (by-surplus c.args.mode c.args.count c.args.without3 c.args.without4 c.args.work c.args.n3 c.args.n4 c.args.list.now c.args.bytes.now _ c.frames_size-want.ensures c.if-bytes-want-2.true) c.put_want-then-bytes-want-2.ensures
 
 pub put_run-requires : goal.put_run-requires
 put_run-requires c = (

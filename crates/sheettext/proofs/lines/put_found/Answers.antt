@@ -7,16 +7,16 @@ use Rattle.sheettext.proofs.lines.put_found.Goals as goal
 
 pub returns-in-Pm : goal.returns-in-Pm
 unfolding found
-returns-in-Pm c = put-text (sym (rw c.in-Pm.is)) c.put_owner.ensures
+returns-in-Pm c = put-text (sym (rw (c.in-Some.is, c.in-Pm.is))) c.put_owner.ensures
 
 pub returns-in-Px : goal.returns-in-Px
 unfolding found
-returns-in-Px c = put-text (sym (rw c.in-Px.is)) c.put_owner-in-Px.ensures
+returns-in-Px c = put-text (sym (rw (c.in-Some.is, c.in-Px.is))) c.put_owner-in-Px.ensures
 
 pub returns-in-Bit : goal.returns-in-Bit
 unfolding found
-returns-in-Bit c = put-text (sym (rw c.in-Bit.is)) c.put_place.ensures
+returns-in-Bit c = put-text (sym (rw (c.in-Some.is, c.in-Bit.is))) c.put_place.ensures
 
-pub returns-in-Wrong : goal.returns-in-Wrong
+pub returns-in_default : goal.returns-in_default
 unfolding found
-returns-in-Wrong c = put-nothing _ _ _ _ (rw c.in-Wrong.is)
+returns-in_default c = put-nothing _ _ _ _ (rw c.in_default.is)

@@ -20,9 +20,6 @@ slice_bounds-px2-end c = room-px2 _ _ c.sender_lengths-want.ensures c.requires.1
 pub slice_bounds-send_and_put-end-3 : goal.slice_bounds-send_and_put-end-3
 slice_bounds-send_and_put-end-3 c = sym (length-take-le _ _ (room-px2 _ _ c.sender_lengths-want.ensures c.requires.1))
 
-pub send_and_put-requires : goal.send_and_put-requires
-send_and_put-requires c = c.requires.2
-
 pub shape_of-memory3 : goal.shape_of-memory3
 shape_of-memory3 c = c.memory3-1.given
 

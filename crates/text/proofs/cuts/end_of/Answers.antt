@@ -2,23 +2,11 @@ use native.Mathlib.Omega.{arith}
 use Rattle.text.proofs.Ends.{end-here, end_later, end-nowhere}
 use Rattle.text.proofs.cuts.end_of.Goals as goal
 
-pub loop-i-init : goal.loop-i-init
-loop-i-init c = omega arith
-
-pub bounds-text-i : goal.bounds-text-i
-bounds-text-i c = omega arith
-
 pub returns-then-text-i : goal.returns-then-text-i
 returns-then-text-i c =
     let a = c.args in
     let e = end-here a.separator a.text.now c.loop-i.i c.loop-i-test.true c.if-text-i.true in
     omega (arith, c.loop-i.invariant.1, e)
-
-pub overflow_add-i : goal.overflow_add-i
-overflow_add-i c = omega arith
-
-pub loop-i-smaller : goal.loop-i-smaller
-loop-i-smaller c = omega arith
 
 pub loop-i-preserved : goal.loop-i-preserved
 loop-i-preserved c =

@@ -34,9 +34,6 @@ nonzero_rem-left c = unit-pos c.loop-k.k _ c.power-unit.ensures
 pub overflow_add-end : goal.overflow_add-end
 overflow_add-end c = omega arith
 
-pub loop-k-smaller : goal.loop-k-smaller
-loop-k-smaller c = omega arith
-
 pub loop-k-preserved : goal.loop-k-preserved
 loop-k-preserved c =
     let l = c.loop-k in (

@@ -1,9 +1,0 @@
--- `recover_narrow` meets its contract: the work arrays are of the channel's lengths. Assumes nothing.
-use native.Mathlib.Omega.{arith}
-use Rattle.recover.proofs.Extended.{room_of}
-use Rattle.recover.proofs.recover_narrow.Goals as goal
-
-pub decode_px-requires : goal.decode_px-requires
-decode_px-requires c =
-    let e = c.requires.0 in
-    (c.requires.1, c.requires.2, c.requires.3, room_of c.args.kind c.args.frames.now 13824 4608 2304 (rw e (omega arith)) (rw e) (rw e) (rw e) c.requires.4)
