@@ -66,7 +66,7 @@ fn put_shared(out: &mut [u8], at: usize, line: &[u8]) -> usize
     let waiting = eight_at(line, 8);
     let mut places = [0u8; 16];
     let answer = allocation::share_places(shares, waiting, &mut places);
-    if causes::number(answer) == 0 {
+    if causes::is_success(answer) {
         return put_places(out, at, &places);
     }
     put_refused(out, at, answer)
