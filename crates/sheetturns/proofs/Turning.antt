@@ -1,5 +1,5 @@
 -- A turn of the loop over the L1 frames of an input. Assumes nothing.
-use mathlib.Core.Path.{◌≡◌, refl, ap, subst, ◌∙◌}
+use mathlib.Core.Path.{◌≡◌, refl, ap, subst}
 use mathlib.Core.Bool.{true}
 use mathlib.Core.List.{List}
 use Prim.Native.Nat.{ℕ, ◌+◌, ◌*◌, ◌≤◌}
@@ -41,15 +41,15 @@ blank-lent mode want lengths o = blank-is mode want lengths o
 
 -- the sending left these buffers
 module _ (g : Result) (r : Outcome) (m : Memory) (l : Lent) (e : gave r m l ≡ g) (working : Entry → List ℕ)
-    (mode count t : ℕ) (list old : List ℕ) (at n : ℕ) (is : n ≡ number_of r.answer) where
-  pub turned_down : (n ≡ 0 → ⊥) → Turned g working mode count t list old old at (record { answer = r.answer; state = r.state; end = at }) m
+    (mode count t : ℕ) (list old : List ℕ) (at : ℕ) where
+  pub turned_down : (number_of r.answer ≡ 0 → ⊥) → Turned g working mode count t list old old at (record { answer = r.answer; state = r.state; end = at }) m
   turned_down ne =
       record {
         answer = ap (λ (g : Result). g.answer) e;
         state = ap (λ (g : Result). g.state) e;
         memory = ap (λ (g : Result). g.memory) e;
         size = refl;
-        text = λ z. absurd (ne (is ∙ z));
+        text = λ z. absurd (ne z);
       }
 
   pub turned_up : (new : List ℕ) (end : ℕ)
