@@ -89,13 +89,10 @@ pub fn answer(input: &[u8], out: &mut [u8]) -> usize
     ensures { (IsPrefixLen result out.new) × (take result out.new ≡ output input.now) }
 {
     let mut end: usize = 0;
-    let mut at: usize = 0;
     let mut number: u64 = 1;
-    while at < input.len() {
-        let stop = text::line_end(input, at);
-        end = put_line(out, end, number, &input[at..stop]);
+    for line in text::lines(input) {
+        end = put_line(out, end, number, line);
         number += 1;
-        at = stop + 1;
     }
     end
 }
