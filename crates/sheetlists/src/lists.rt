@@ -15,7 +15,7 @@ use sheettext::{is_refused, put_names, put_value, value_of};
 use sheetworks::put_working;
 
 // Whether an entry stands among the answers of L1 frame t.
-fn stands_in(count: u64, t: u64, entry: Entry) -> bool
+fn stands_in(count: u64, t: u64, entry: Option<Entry>) -> bool
     ensures { result ≡ stands_in count t entry }
 {
     if is_refused(entry) {
