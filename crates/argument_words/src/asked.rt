@@ -36,6 +36,7 @@ pub fn mode_and_count(text: &[u8]) -> Option<Run>
 }
 
 // The words for channels without data.
+// Not a `match`: it leaves a goal for each byte that can differ, 33 in all, and the check closes none of them. This form needs no answer.
 #[tactic(auto, unfolding(crate::specs::Asked::channels_in, crate::specs::Words::ended))]
 fn channels_in(text: &[u8]) -> Option<Without>
     ensures { result ≡ channels_in text.now }

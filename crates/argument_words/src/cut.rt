@@ -6,20 +6,14 @@ ghost use Rattle.argument_words.specs.Words.{ends_with, first, others, without};
 pub fn first_word(text: &[u8]) -> &[u8]
     ensures { result.now ≡ first text.now }
 {
-    let end = text::end_of(text, 0, 0);
-    &text[..end]
+    text::cut(text, 0).0
 }
 
 // The text of the words behind it.
 pub fn other_words(text: &[u8]) -> &[u8]
     ensures { result.now ≡ others text.now }
 {
-    let end = text::end_of(text, 0, 0);
-    if end < text.len() {
-        let next = end + 1;
-        return &text[next..];
-    }
-    &text[end..]
+    text::cut(text, 0).1
 }
 
 // Whether a text ends with another.

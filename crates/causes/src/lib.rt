@@ -1,10 +1,17 @@
 // Documents 01 and 02, the table of causes: the number and the place of an answer.
 #![tactic(auto)]
 
-ghost use Rattle.std.specs.Prelude.{◌≡◌};
+ghost use Rattle.std.specs.Prelude.{◌≡◌, ◌↔◌, IsTrue};
 ghost use Rattle.runs.specs.Answers.{number_of, place_of};
 
 use runs::Answer;
+
+// Whether an answer is the one that is no cause.
+pub fn is_success(answer: Answer) -> bool
+    ensures { IsTrue result ↔ number_of answer ≡ 0 }
+{
+    matches!(answer, Answer::Success)
+}
 
 pub fn number(answer: Answer) -> u8
     ensures { result ≡ number_of answer }

@@ -3,6 +3,7 @@
 
 ghost use Rattle.std.specs.Prelude.{◌≡◌, [], ◌∷◌, ◌++◌, ◌+◌, ◌*◌, ◌/◌, ◌%◌, ◌<◌, ◌≤◌, length, get_or, take};
 ghost use Rattle.bits.specs.Tests.{all};
+ghost use Rattle.runs.specs.Answers.{number_of};
 ghost use Rattle.io.specs.Counts.{IsPrefixLen};
 ghost use Rattle.text.specs.Letters.{ascii};
 ghost use Rattle.text.specs.Put.{Put};
@@ -10,6 +11,8 @@ ghost use Rattle.celltext.specs.Found.{digit as «digit-of», found, hexadecimal
 ghost use Rattle.celltext.specs.Lines.{cell_of, CellsOf, is_cell, Read};
 ghost use Rattle.celltext.specs.Nearest.{NearestLine};
 ghost use Rattle.celltext.specs.Restored.{RestoredLine, told};
+
+use runs::Answer;
 
 // Whether a character stands for a cell.
 #[tactic(auto, unfolding(crate::specs::Lines::is_cell))]
@@ -137,17 +140,15 @@ fn put_frame(out: &mut [u8], frame: &[u8]) -> usize
 }
 
 // Puts the line of a frame that was restored, or why there is none.
-fn put_restored(out: &mut [u8], frame: &[u8], number: u8) -> usize
+fn put_restored(out: &mut [u8], frame: &[u8], answer: Answer) -> usize
     requires { (length frame.now ≡ 10) × (21 ≤ length out.old) }
-    ensures { Put out.old out.new 0 result 21 (told number frame.now) }
+    ensures { Put out.old out.new 0 result 21 (told (number_of answer) frame.now) }
 {
-    if number == 0 {
-        return put_frame(out, frame);
+    match answer {
+        Answer::Success => put_frame(out, frame),
+        Answer::NoFrameFits => text::put(out, 0, b"NO FRAME FITS\n"),
+        _ => text::put(out, 0, b"SEVERAL FRAMES FIT\n"),
     }
-    if number == 14 {
-        return text::put(out, 0, b"NO FRAME FITS\n");
-    }
-    text::put(out, 0, b"SEVERAL FRAMES FIT\n")
 }
 
 // S-11: puts what is printed for line `number`: the frame that fits, why there is none, or that the line is refused.
@@ -161,6 +162,5 @@ pub fn print_restored(number: u64, line: &[u8], out: &mut [u8]) -> usize
     }
     let mut frame = [0u8; 10];
     let answer = restoring::restore(&cells, &mut frame);
-    let said = causes::number(answer);
-    put_restored(out, &frame, said)
+    put_restored(out, &frame, answer)
 }

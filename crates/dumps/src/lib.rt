@@ -9,7 +9,7 @@ ghost use Rattle.dumps.specs.Next.{judged_one, next};
 ghost use Rattle.dumps.specs.Judged.{judged, judged_fresh, verdict};
 
 use calls::start_reader;
-use causes::number;
+use causes::is_success;
 use frames::read_frame;
 use layout::{frame_bytes, head_answer, word_at};
 use modes::reader_lengths;
@@ -84,7 +84,7 @@ fn judge_frames(
         let judged = judge_frame(mode, t, state, &frames[at..], memory3, memory4, delay);
         let verdict = judged.verdict;
         let answer = verdict.answer;
-        if number(answer) != 0 {
+        if !is_success(answer) {
             return verdict;
         }
         state = judged.state;
@@ -101,7 +101,7 @@ pub fn judge(dump: &[u8]) -> Verdict
     ensures { result ≡ judged dump.now }
 {
     let head = head_answer(dump);
-    if number(head) != 0 {
+    if !is_success(head) {
         return judged_as(head, 0);
     }
     let mode = dump[5];

@@ -66,25 +66,25 @@ numbers-fields w lb ls =
     let rest = w.sum ∷ w.coded ∷ g.step ∷ g.k ∷ p.block ∷ p.row ∷ p.partition ∷ p.column ∷ g.cell ∷ [] in
     parted w.bits w.scrambling rest w.number w.generator lb ls
 
-module _ (w : Worked) (out : List ℕ) (n : ℕ) (number : n ≡ number_of w.answer) where
-  pub refused-left : (n ≡ 0 → ⊥) → (word : ℕ) → word ≡ answer_word w.answer → working_left word out ≡ working_left_by w out
+module _ (w : Worked) (out : List ℕ) where
+  pub refused-left : (number_of w.answer ≡ 0 → ⊥) → (word : ℕ) → word ≡ answer_word w.answer → working_left word out ≡ working_left_by w out
   unfolding working_left_by
   refused-left h word e =
       ap (λ (r : ℕ). working_left r out) e
-      ∙ sym (rw (ne_eqb (number_of w.answer) 0 (λ z. h (number ∙ z))))
+      ∙ sym (rw (ne_eqb (number_of w.answer) 0 h))
 
-  module _ (done : n ≡ 0) where
+  module _ (done : number_of w.answer ≡ 0) where
     pub length-left : (length out ≡ 25 → ⊥) → (word : ℕ) → word ≡ answer_word (WrongLength 4) → working_left word out ≡ working_left_by w out
     unfolding working_left_by
     length-left h word e =
         ap (λ (r : ℕ). working_left r out) e
-        ∙ sym (rw (eq-eqb (number_of w.answer) 0 (sym number ∙ done), ne_eqb (length out) 25 h))
+        ∙ sym (rw (eq-eqb (number_of w.answer) 0 done, ne_eqb (length out) 25 h))
 
     pub done-left : length out ≡ 25 → (after : List ℕ) → after ≡ numbers_of w → working_left 0 after ≡ working_left_by w out
     unfolding working_left_by
     done-left h after e =
         ap (λ (xs : List ℕ). working_left 0 xs) e
-        ∙ sym (rw (eq-eqb (number_of w.answer) 0 (sym number ∙ done), eq-eqb (length out) 25 h))
+        ∙ sym (rw (eq-eqb (number_of w.answer) 0 done, eq-eqb (length out) 25 h))
 
 pub left_by : {w x : Worked} (out : List ℕ) → w ≡ x → working_left_by w out ≡ working_left_by x out
 left_by out e = ap (λ (y : Worked). working_left_by y out) e

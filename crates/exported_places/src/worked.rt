@@ -53,7 +53,7 @@ fn leave(w: Worked, out: &mut [u64]) -> u64
     ensures { working_left result out.new ≡ working_left_by w out.old }
 {
     let answer = w.answer;
-    if causes::number(answer) != 0 {
+    if !causes::is_success(answer) {
         return answer_word(answer);
     }
     if out.len() != 25 {

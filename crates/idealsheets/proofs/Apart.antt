@@ -1,4 +1,5 @@
 -- What begins as a sheet is one: of an input whose L1 frames are not all sent nothing is printed that begins with its head. Assumes nothing.
+use Rattle.std.specs.Prelude.{Option}
 use mathlib.Core.Path.{◌≡◌, refl, sym, ap, ◌∙◌}
 use mathlib.Core.Bool.{Bool, true, false}
 use mathlib.Core.List.{List, [], ◌∷◌, ◌++◌}
@@ -67,7 +68,7 @@ surplus-none : (want : ℕ) → first (no_long want) ≡ 78
 unfolding no_long
 surplus-none want = refl
 
-module _ (working : Entry → List ℕ) (mode count : ℕ) (ls : List (List ℕ)) where
+module _ (working : Option Entry → List ℕ) (mode count : ℕ) (ls : List (List ℕ)) where
   told-on : (t : ℕ) (text : List ℕ) (c : Call) (cs : List Call) → number_of c.result.answer ≡ 0
       → told working mode count ls t text (c ∷ cs) ≡ told working mode count ls (suc t) (text ++ answers (valued working count (value_in c.result.lent.signal.matrices)) mode count t ls) cs
   unfolding told

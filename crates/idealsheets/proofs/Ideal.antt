@@ -16,7 +16,7 @@ use Rattle.runs.proofs.Readable.{start-clear}
 use Rattle.layout.specs.Inputs.{frames_in}
 use Rattle.text.specs.Lines.{lines}
 use Rattle.sheetlines.specs.Entries.{entry_of, turn_of}
-use Rattle.std.specs.Prelude.{Option}
+use Rattle.std.specs.Prelude.{Option, Some}
 use Rattle.sheetlines.specs.declared.questions.Question.{Question}
 use Rattle.sheetlines.specs.declared.entries.Cell.{Cell}
 use Rattle.sheetlines.specs.declared.entries.CodedBit.{CodedBit}
@@ -41,7 +41,7 @@ use Rattle.idealsheets.proofs.Worked.{Comes, asked-comes}
 abbrev signal_of : Call → Signal
 signal_of c = c.result.lent.signal
 
-module _ (working : Entry → List ℕ) (mode count : ℕ) (ls : List (List ℕ)) (F : ℕ → Frames) where
+module _ (working : Option Entry → List ℕ) (mode count : ℕ) (ls : List (List ℕ)) (F : ℕ → Frames) where
   told-ideal : (cs : List Call) (t : ℕ) (text : List ℕ) → Every Ok cs
       → ((i u : ℕ) → i < length cs → u ≡ t + i → answers (valued working count (value_in (get_or (map signal_of cs) i no_signal).matrices)) mode count u ls ≡ answers (valued working count (coded_bit mode F)) mode count u ls)
       → told working mode count ls t text cs ≡ text ++ (ideal_answers working mode count ls F (length cs) t ++ (unsent working mode count ls ++ ending (answered mode count ls)))
@@ -106,7 +106,7 @@ module _ (mode n : ℕ) (without3 without4 : Bool) (input : List ℕ) (small : B
   bit_is t h q e = asked-value mode w.mode-older run t (subst (λ (k : ℕ). t < k) (sym run_length) h) (frames_at mode n3 n4 B) (λ u l. frame_is u (omega arith)) n h q e
 
   module _ (work : Bool) where
-    abbrev working : Entry → List ℕ
+    abbrev working : Option Entry → List ℕ
     working = work_text work mode n3 n4 B
 
     value-is : (t : ℕ) → t < n → (q : Option Question) → turn_of n (entry_of mode n q) ≡ t
@@ -137,13 +137,13 @@ module _ (mode n : ℕ) (without3 without4 : Bool) (input : List ℕ) (small : B
   handed-is u l = frame_is u l
 
   -- the working below an answer whose bit is sent comes to the answer's value
-  pub worked-value : (q : Option Question) (coded : CodedBit) (cell : Cell) → entry_of mode n q ≡ Stands coded cell → cell.sent < n
+  pub worked-value : (q : Option Question) (coded : CodedBit) (cell : Cell) → entry_of mode n q ≡ Some (Stands coded cell) → cell.sent < n
       → SumsTo (bit_of mode (frames_at mode n3 n4 B) coded) (working_of mode n3 n4 B coded)
   unfolding working_of coded_bit turn_of
   worked-value q coded cell e h =
       let t : ℕ = cell.sent in
       let inside = subst (λ (k : ℕ). t < k) (sym run_length) h in
-      let turn : turn_of n (Stands coded cell) ≡ t = omega arith in
-      let value = subst (λ (x : Entry). turn_of n x ≡ t → value_in (matrices_at mode run t) x ≡ coded_bit mode (frames_at mode n3 n4 B) x) e (bit_is t h q) turn in
+      let turn : turn_of n (Some (Stands coded cell)) ≡ t = omega arith in
+      let value = subst (λ (x : Option Entry). turn_of n x ≡ t → value_in (matrices_at mode run t) x ≡ coded_bit mode (frames_at mode n3 n4 B) x) e (bit_is t h q) turn in
       let comes = subst (Comes mode w.mode-older run t inside G (λ u l. handed-is u (omega arith))) e (asked-comes mode w.mode-older run t inside G (λ u l. handed-is u (omega arith)) n q) refl in
       subst (λ (b : ℕ). SumsTo b (working_of mode n3 n4 B coded)) value comes

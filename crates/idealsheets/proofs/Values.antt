@@ -45,7 +45,6 @@ use Rattle.std.specs.Prelude.{Option, Some, None}
 use Rattle.sheetlines.specs.declared.questions.Question.{Question}
 use Rattle.sheetlines.specs.declared.questions.Question.TheVariants.{Bit, Pm, Px}
 use Rattle.sheetlines.specs.declared.entries.Entry.{Entry}
-use Rattle.sheetlines.specs.declared.entries.Entry.TheVariants.{Refused}
 use Rattle.sheetlines.proofs.Ranges.{by-channel}
 use Rattle.sheettext.specs.Texts.{value_in}
 use Rattle.sheetinputs.specs.Inputs.{older}
@@ -104,10 +103,10 @@ module _ (mode : ℕ) (o : older mode ≡ true) (a : SenderRun mode) (t : ℕ) (
   X = matrices_at mode a t
 
   -- the value that stands in the cell is that of the coded bit
-  abbrev Right : Entry → Type 0
+  abbrev Right : Option Entry → Type 0
   Right e = turn_of n e ≡ t → value_in X e ≡ coded_bit mode F e
 
-  refused-right : Right Refused
+  refused-right : Right None
   unfolding value_in coded_bit
   refused-right q = refl
 
@@ -136,7 +135,7 @@ module _ (mode : ℕ) (o : older mode ≡ true) (a : SenderRun mode) (t : ℕ) (
   pm-located : (u c frame bit : ℕ) (l : Result Located Answer) → located c frame bit ≡ l → Right (pm_placed u c frame bit l)
   unfolding value_in coded_bit bit_of turn_of
   pm-located u c frame bit (Ok cell) e q =
-      by-channel (λ (k f : ℕ). value_in X (in_pm u k f bit cell.row cell.column) ≡ coded_bit mode F (in_pm u k f bit cell.row cell.column)) bit cell.row cell.column cell.position
+      by-channel (λ (k f : ℕ). value_in X (Some (in_pm u k f bit cell.row cell.column)) ≡ coded_bit mode F (Some (in_pm u k f bit cell.row cell.column))) bit cell.row cell.column cell.position
       (λ d. p1-is u (cell.row * 720 + cell.column) bit (sent-here u q) (L.p1-bit bit cell.row cell.column cell.position d))
       (λ f d. pids-is u (cell.row * 720 + cell.column) (f * 200 + bit) (sent-here u q) (L.pids-bit f bit cell.row cell.column cell.position d))
       c frame e
@@ -233,7 +232,7 @@ module _ (mode : ℕ) (o : older mode ≡ true) (a : SenderRun mode) (t : ℕ) (
       go true = pm-located u c frame bit (located c frame bit) refl
       go false = px-located u c frame bit
 
-  if-sent : (b : Bool) (e : Entry) → Right e → Right (cond b e Refused)
+  if-sent : (b : Bool) (e : Option Entry) → Right e → Right (cond b e None)
   if-sent true e r = r
   if-sent false e r = refused-right
 

@@ -42,7 +42,7 @@ use Rattle.sheetlines.specs.declared.questions.Question.{Question}
 use Rattle.sheetlines.specs.declared.questions.Question.TheVariants.{Bit, Pm, Px}
 use Rattle.sheetlines.specs.declared.entries.CodedBit.{CodedBit}
 use Rattle.sheetlines.specs.declared.entries.Entry.{Entry}
-use Rattle.sheetlines.specs.declared.entries.Entry.TheVariants.{Stands, Fill, Refused}
+use Rattle.sheetlines.specs.declared.entries.Entry.TheVariants.{Stands, Fill}
 use Rattle.sheetlines.proofs.Ranges.{by-channel, p1-in-range, pids-in-range}
 use Rattle.sheettext.specs.Texts.{value_in}
 use Rattle.sheetinputs.specs.Inputs.{older}
@@ -91,20 +91,20 @@ module _ (mode : ℕ) (o : older mode ≡ true) (a : SenderRun mode) (t : ℕ) (
   working_in coded = worked (state_at mode 0 coded.from) coded.channel (channel_in (G coded.from) coded.channel) coded.frame coded.bit
 
   -- an answer of this L1 frame
-  abbrev pub Comes : Entry → Type 0
-  Comes (Stands coded cell) = cell.sent ≡ t → SumsTo (value_in X (Stands coded cell)) (working_in coded)
-  Comes (Fill sent) = Unit {0}
-  Comes Refused = Unit {0}
+  abbrev pub Comes : Option Entry → Type 0
+  Comes (Some (Stands coded cell)) = cell.sent ≡ t → SumsTo (value_in X (Some (Stands coded cell))) (working_in coded)
+  Comes (Some (Fill sent)) = Unit {0}
+  Comes None = Unit {0}
 
   -- ---- PM
 
-  p1-sums : (bit row column : ℕ) (p : Position) → located 1 0 bit ≡ Ok (at_cell p row column) → Comes (in_pm t 1 0 bit row column)
+  p1-sums : (bit row column : ℕ) (p : Position) → located 1 0 bit ≡ Ok (at_cell p row column) → Comes (Some (in_pm t 1 0 bit row column))
   unfolding value_in channel_in filled
   p1-sums bit row column p e q =
       let c = (worked-sheets mode (older-main mode o) a t h).p1-bit 0 bit row column p (omega arith) e in
       subst (λ (f : Frames). SumsTo (bit_at X.pm (row * 720 + column)) (worked (state_at mode 0 t) 1 f.p1 0 bit)) (agree t (omega arith)) (sums-to _ _ (state_at mode 0 t) 1 (frame_at mode a t).p1 0 bit c)
 
-  pids-sums : (frame bit row column : ℕ) (p : Position) → located 2 frame bit ≡ Ok (at_cell p row column) → Comes (in_pm t 2 frame bit row column)
+  pids-sums : (frame bit row column : ℕ) (p : Position) → located 2 frame bit ≡ Ok (at_cell p row column) → Comes (Some (in_pm t 2 frame bit row column))
   unfolding value_in channel_in filled
   pids-sums frame bit row column p e q =
       let c = (worked-sheets mode (older-main mode o) a t h).pids-bit 0 frame bit row column p (omega arith) e in
@@ -118,17 +118,17 @@ module _ (mode : ℕ) (o : older mode ≡ true) (a : SenderRun mode) (t : ℕ) (
 
   pm-found : (u row column : ℕ) (f : Result Found Answer) → found row column ≡ f → Comes (pm_entry u row column f)
   pm-found u row column (Ok (found-p1 bit)) e = λ q.
-      here (λ (v : ℕ). v ≡ t → SumsTo (value_in X (in_pm v 1 0 bit row column)) (working_in (record { channel = 1; from = v; frame = 0; bit = bit }))) u q
+      here (λ (v : ℕ). v ≡ t → SumsTo (value_in X (Some (in_pm v 1 0 bit row column))) (working_in (record { channel = 1; from = v; frame = 0; bit = bit }))) u q
       (p1-sums bit row column _ (back row column (Ok (found-p1 bit)) e (p1-in-range row column bit e))) q
   pm-found u row column (Ok (found-pids frame bit)) e = λ q.
-      here (λ (v : ℕ). v ≡ t → SumsTo (value_in X (in_pm v 2 frame bit row column)) (working_in (record { channel = 2; from = v; frame = frame; bit = bit }))) u q
+      here (λ (v : ℕ). v ≡ t → SumsTo (value_in X (Some (in_pm v 2 frame bit row column))) (working_in (record { channel = 2; from = v; frame = frame; bit = bit }))) u q
       (pids-sums frame bit row column _ (back row column (Ok (found-pids frame bit)) e (pids-in-range row column frame bit e))) q
   pm-found u row column (Err r) e = tt
 
   pm-located : (u c frame bit : ℕ) (l : Result Located Answer) → located c frame bit ≡ l → Comes (pm_placed u c frame bit l)
   pm-located u c frame bit (Ok cell) e = λ q.
-      here (λ (v : ℕ). v ≡ t → SumsTo (value_in X (in_pm v c frame bit cell.row cell.column)) (working_in (record { channel = c; from = v; frame = frame; bit = bit }))) u q
-      (by-channel (λ (k f : ℕ). Comes (in_pm t k f bit cell.row cell.column)) bit cell.row cell.column cell.position (λ d. p1-sums bit cell.row cell.column cell.position d) (λ f d. pids-sums f bit cell.row cell.column cell.position d) c frame e) q
+      here (λ (v : ℕ). v ≡ t → SumsTo (value_in X (Some (in_pm v c frame bit cell.row cell.column))) (working_in (record { channel = c; from = v; frame = frame; bit = bit }))) u q
+      (by-channel (λ (k f : ℕ). Comes (Some (in_pm t k f bit cell.row cell.column))) bit cell.row cell.column cell.position (λ d. p1-sums bit cell.row cell.column cell.position d) (λ f d. pids-sums f bit cell.row cell.column cell.position d) c frame e) q
   pm-located u c frame bit (Err r) e = tt
 
   -- ---- PX
@@ -222,7 +222,7 @@ module _ (mode : ℕ) (o : older mode ≡ true) (a : SenderRun mode) (t : ℕ) (
       go true = pm-located u c frame bit (located c frame bit) refl
       go false = px-located u c frame bit
 
-  if-sent : (b : Bool) (e : Entry) → Comes e → Comes (cond b e Refused)
+  if-sent : (b : Bool) (e : Option Entry) → Comes e → Comes (cond b e None)
   if-sent true e r = r
   if-sent false e r = tt
 

@@ -1,5 +1,5 @@
 -- The sheet that SY_IDD_1011s lays down for the transfer frames of an input: every value is a coded bit of theirs. No matrix and no run is named here.
-use Rattle.std.specs.Prelude.{ℕ, zero, suc, ◌+◌, ◌*◌, ◌%◌, ◌<◌, ◌≤◌, ◌≡◌, Bool, true, cond, List, [], ◌++◌, eqb, length, take, drop}
+use Rattle.std.specs.Prelude.{ℕ, zero, suc, ◌+◌, ◌*◌, ◌%◌, ◌<◌, ◌≤◌, ◌≡◌, Bool, true, cond, List, [], ◌++◌, eqb, length, take, drop, Option, Some, None}
 use Rattle.bits.specs.Bits.{bit_at}
 use Rattle.coding.specs.declared.Rate.TheVariants.{TwoFifths}
 use Rattle.coding.specs.Channel.{channel}
@@ -16,7 +16,7 @@ use Rattle.layout.specs.Inputs.{frames_in}
 use Rattle.text.specs.Lines.{lines}
 use Rattle.sheetlines.specs.declared.entries.CodedBit.{CodedBit}
 use Rattle.sheetlines.specs.declared.entries.Entry.{Entry}
-use Rattle.sheetlines.specs.declared.entries.Entry.TheVariants.{Stands, Fill, Refused}
+use Rattle.sheetlines.specs.declared.entries.Entry.TheVariants.{Stands, Fill}
 use Rattle.sheettext.specs.Texts.{ending, head}
 use Rattle.workings.specs.declared.Worked.{Worked}
 use Rattle.sheetworks.specs.Works.{work_text}
@@ -41,13 +41,13 @@ bit_of mode F coded =
     (coded_of (kind_of mode e) (frame_of (F coded.from) e) (coded.frame * frame_coded (kind_of mode e) + coded.bit)))
 
 -- the value of an answer: of the coded bit that it names, or that its line asks for
-unfoldable pub coded_bit : (mode : ℕ) (F : ℕ → Frames) → Entry → ℕ
-coded_bit mode F (Stands coded cell) = bit_of mode F coded
-coded_bit mode F (Fill sent) = 0
-coded_bit mode F Refused = 0
+unfoldable pub coded_bit : (mode : ℕ) (F : ℕ → Frames) → Option Entry → ℕ
+coded_bit mode F (Some (Stands coded cell)) = bit_of mode F coded
+coded_bit mode F (Some (Fill sent)) = 0
+coded_bit mode F None = 0
 
 -- the answers of n L1 frames from number t on
-unfoldable pub ideal_answers : (working : Entry → List ℕ) (mode count : ℕ) (list : List (List ℕ)) (F : ℕ → Frames) (n t : ℕ) → List ℕ
+unfoldable pub ideal_answers : (working : Option Entry → List ℕ) (mode count : ℕ) (list : List (List ℕ)) (F : ℕ → Frames) (n t : ℕ) → List ℕ
 ideal_answers working mode count list F zero t = []
 ideal_answers working mode count list F (suc n) t =
     answers (valued working count (coded_bit mode F)) mode count t list ++ ideal_answers working mode count list F n (suc t)

@@ -78,7 +78,7 @@ fn judge(rt: &impl Streams, line: &mut [u8]) -> usize
     let mut head = [0u8; 8];
     let n = programs::read_full(rt, &mut head);
     let answer = layout::head_answer(&head[..n]);
-    if causes::number(answer) != 0 {
+    if !causes::is_success(answer) {
         return judge_step::put_line(dumps::judged_as(answer, 0), line);
     }
     judge_rest(rt, head[5], layout::word_at(&head, 6), line)

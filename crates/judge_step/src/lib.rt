@@ -15,10 +15,10 @@ pub fn put_line(verdict: Verdict, out: &mut [u8]) -> usize
     ensures { IsPrefixLen result out.new × (take result out.new ≡ line_of verdict) }
 {
     let answer = verdict.answer;
-    let number = causes::number(answer);
-    if number == 0 {
+    if causes::is_success(answer) {
         return text::put(out, 0, b"accepted\n");
     }
+    let number = causes::number(answer);
     let place = causes::place(answer);
     let frame = verdict.frame;
     messages::put_in_words(out, number, place, frame as u64)
@@ -69,7 +69,7 @@ pub fn judge_bytes(
     let next = judged.state;
     let verdict = judged.verdict;
     let answer = verdict.answer;
-    if causes::number(answer) == 0 {
+    if causes::is_success(answer) {
         return Judged {
             state: next,
             length: 0,

@@ -18,7 +18,7 @@ ghost use Rattle.recover.specs.Rooms.{late_bad};
 ghost use Rattle.judging.specs.Stages.{Brought, Extends, Recovered, after, fill_answer, fill_cells, fill_row, fourth, frames_answer, lower as «lower_of», pm_answer, px_answer, signal_answer};
 
 use calls::{FramesMut, Memory, Signal};
-use causes::number;
+use causes::is_success;
 use modes::{kind_of, main_of, matrix_len};
 use recover::past;
 use runs::{Answer, Extended, Main, State};
@@ -157,7 +157,7 @@ fn judge_px(state: State, signal: &Signal, memory: &Memory, own: &mut FramesMut)
     ensures others { (own.new.p1.now ≡ own.old.p1.now) × (own.new.pids.now ≡ own.old.pids.now) × (own.new.p2.now ≡ own.old.p2.now) }
 {
     let answer = judge_fill(state, signal);
-    if number(answer) != 0 {
+    if !is_success(answer) {
         return answer;
     }
     if state.age < 2 {
@@ -179,7 +179,7 @@ pub fn judge_signal(state: State, signal: &Signal, memory: &Memory, own: &mut Fr
         return Answer::WrongControl(block as usize);
     }
     let answer = judge_pm(state, signal, memory, own);
-    if number(answer) != 0 {
+    if !is_success(answer) {
         return answer;
     }
     judge_px(state, signal, memory, own)

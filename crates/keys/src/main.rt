@@ -42,7 +42,7 @@ fn sum_all(rt: &impl Streams, n: u64, count: u64, sum: &mut [u8], more: &mut [u8
 fn covers(rt: &impl Streams, mode: u8) -> bool {
     let started = calls::start_sender(mode, &mut [0u8; 0], &mut [0u8; 0], &mut [0u8; 0]);
     let answer = started.answer;
-    if causes::number(answer) == 1 {
+    if matches!(answer, runs::Answer::ModeNotCovered) {
         messages::refuse(rt, 1, 0, 0);
         return false;
     }

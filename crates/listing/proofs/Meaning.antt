@@ -8,7 +8,7 @@ use mathlib.Core.Bool.{Bool, true, false, cond, ◌&&◌}
 use mathlib.Core.List.{List, [], ◌∷◌}
 use borrow.Author.Tests.{ltb-true, ltb-false}
 use lib.Dec.{ltb}
-use Rattle.std.specs.Prelude.{Result}
+use Rattle.std.specs.Prelude.{Result, None, unwrap_or}
 use Rattle.runs.specs.declared.Answer.{Answer}
 use Rattle.queries.specs.Finder.{found}
 use Rattle.queries.specs.declared.finder.Found.{Found}
@@ -20,6 +20,7 @@ use Rattle.listing.specs.Printed.{told, printed}
 use Rattle.linewise.specs.Going.{begun}
 use Rattle.listing.specs.Running.{part_of, line_of, known, shown}
 use Rattle.listing.specs.declared.parsing.Line.{Line}
+use Rattle.listing.proofs.Cuts.{column_is}
 
 -- the number that a part is known by
 numbered : (bytes : List ℕ) → known (part_of bytes) ≡ cond (is_number bytes) (min 1000 (value bytes)) 1000
@@ -72,11 +73,11 @@ pub shown-printed : (number : ℕ) (line : Line) (bytes : List ℕ) → line ≡
 unfolding shown printed line_of
 shown-printed number line bytes e =
     ap (shown number) e
-    ∙ ap₂ (asked number) (numbered (before space bytes)) (numbered (after space bytes))
+    ∙ ap₂ (asked number) (numbered (before space bytes)) (ap known (column_is bytes) ∙ numbered (after space bytes))
     ∙ both number (is_number (before space bytes)) (is_number (after space bytes)) (value (before space bytes)) (value (after space bytes))
 
 -- what is printed for what was found is what the line's state tells
-pub told-shown : (number : ℕ) (line : Line) (row column : ℕ) (f : Result Found Answer) → row ≡ known line.row → column ≡ known line.column
+pub told-shown : (number : ℕ) (line : Line) (row column : ℕ) (f : Result Found Answer) → row ≡ known line.row → column ≡ known (unwrap_or line.column None)
     → f ≡ found row column → told number row column f ≡ shown number line
 unfolding shown
 told-shown number line row column f e g h = ap (told number row column) h ∙ ap₂ (asked number) e g

@@ -1,17 +1,17 @@
 -- A part with one more byte: its digits, their worth and its state. Assumes nothing.
-use mathlib.Core.Path.{◌≡◌, refl, sym, ap, ◌∙◌}
+use mathlib.Core.Path.{◌≡◌, refl, sym, ap, ap₂, ◌∙◌}
 use Prim.Native.Nat.{ℕ, suc, ◌+◌, ◌-◌, ◌*◌, ◌^◌, ◌<◌, ◌≤◌, min}
-use native.Mathlib.Nat.{pow-suc, mul_assoc, min-eq_left, min-eq_right, le_of_lt}
+use native.Mathlib.Nat.{pow-suc, mul_assoc}
 use native.Mathlib.Omega.{arith}
 use mathlib.Core.Bool.{Bool, true, false, cond, ◌&&◌, and-true, and-false, and_assoc}
 use mathlib.Core.List.{List, [], ◌∷◌, ◌++◌}
 use borrow.Author.Tests.{le-leb, lt-leb}
 use lib.Dec.{leb}
 use lib.ListN.{length}
+use Rattle.std.specs.Prelude.{Option, Some, unwrap_or}
 use Rattle.text.specs.Numbers.{is_digit, digits_alone, value}
 use Rattle.linewise.specs.Going.{begun}
 use Rattle.listing.specs.Running.{part_of}
-use Rattle.listing.specs.declared.parsing.Part.{Part}
 
 length-snoc : (bytes : List ℕ) (b : ℕ) → length (bytes ++ (b ∷ [])) ≡ suc (length bytes)
 length-snoc [] b = refl
@@ -42,19 +42,21 @@ capped true false v d = omega arith
 capped false true v d = omega arith
 capped false false v d = omega arith
 
-pushed : (part : Part) (bytes : List ℕ) (b : ℕ) → part ≡ part_of bytes
-    → part_of (bytes ++ (b ∷ [])) ≡ record { begun = true; number = min 1000 (part.number * 10 + cond (is_digit b) (b - 48) 1000) }
+-- the number of a part so far, which is 0 without bytes
+number-so-far : (bytes : List ℕ) → unwrap_or (part_of bytes) 0 ≡ cond (digits_alone bytes) (min 1000 (value bytes)) 1000
+unfolding part_of begun digits_alone value
+number-so-far [] = refl
+number-so-far (b ∷ bytes) = refl
+
+one-more : (bytes : List ℕ) (b : ℕ) → part_of (bytes ++ (b ∷ [])) ≡ Some (cond (digits_alone bytes && is_digit b) (min 1000 (value bytes * 10 + (b - 48))) 1000)
 unfolding part_of
-pushed part bytes b e = rw (e, begun-snoc, digits-snoc, value-snoc, capped (digits_alone bytes) (is_digit b) (value bytes) (b - 48))
+one-more bytes b = rw (begun-snoc, digits-snoc, value-snoc)
 
--- the two answers, for the new byte's worth d
-module _ (part : Part) (b d : ℕ) (worth : d ≡ cond (is_digit b) (b - 48) 1000) where
-  pub pushed-full : 1000 ≤ part.number * 10 + d → (bytes : List ℕ) → part ≡ part_of bytes → record { begun = true; number = 1000 } ≡ part_of (bytes ++ (b ∷ []))
-  pushed-full h bytes e = sym (pushed part bytes b e ∙ rw (← worth, min-eq_left h))
-
-  pub pushed-small : part.number * 10 + d < 1000 → (bytes : List ℕ) → part ≡ part_of bytes
-      → record { begun = true; number = part.number * 10 + d } ≡ part_of (bytes ++ (b ∷ []))
-  pushed-small h bytes e = sym (pushed part bytes b e ∙ rw (← worth, min-eq_right (le_of_lt h)))
+pub pushed : (part : Option ℕ) (b d : ℕ) → d ≡ cond (is_digit b) (b - 48) 1000 → (bytes : List ℕ) → part ≡ part_of bytes
+    → Some (min 1000 (unwrap_or part 0 * 10 + d)) ≡ part_of (bytes ++ (b ∷ []))
+pushed part b d worth bytes e =
+    ap₂ (λ n m. Some (min 1000 (n * 10 + m))) (ap (λ (p : Option ℕ). unwrap_or p 0) e ∙ number-so-far bytes) worth
+    ∙ sym (one-more bytes b ∙ ap Some (capped (digits_alone bytes) (is_digit b) (value bytes) (b - 48)))
 
 -- a byte is below the digits, above them or one of them
 module _ (b : ℕ) where

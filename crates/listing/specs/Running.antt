@@ -1,29 +1,30 @@
 -- What the code knows of the bytes of a line so far. Only the code's contracts need it: what a line means is said in Numbers, Lines and Printed.
-use Rattle.std.specs.Prelude.{ℕ, min, cond, List}
+use Rattle.std.specs.Prelude.{ℕ, min, cond, List, Option, Some, None, unwrap_or}
 use Rattle.queries.specs.Finder.{found}
 use Rattle.text.specs.Numbers.{digits_alone, value}
 use Rattle.text.specs.Lines.{after, before, space}
 use Rattle.linewise.specs.Going.{Going, begun, contains}
 use Rattle.listing.specs.Printed.{told, output, printed}
-use Rattle.listing.specs.declared.parsing.Part.{Part}
 use Rattle.listing.specs.declared.parsing.Line.{Line}
 use Rattle.listing.specs.declared.blocks.Progress.{Progress}
 
--- Whether there are bytes, and their number. 1000 stands for any number from 1000 on, and for bytes that are not digits alone: no row and no column goes so far.
-unfoldable pub part_of : List ℕ → Part
-part_of bytes = record { begun = begun bytes; number = cond (digits_alone bytes) (min 1000 (value bytes)) 1000 }
+-- The number of a part's bytes, if there are any. 1000 stands for any number from 1000 on, and for bytes that are not digits alone: no row and no column goes so far.
+unfoldable pub part_of : List ℕ → Option ℕ
+part_of bytes = cond (begun bytes) (Some (cond (digits_alone bytes) (min 1000 (value bytes)) 1000)) None
 
--- whether there was a space, and the parts before and after it
+-- the part before the space, and the part behind it, if there was a space
 unfoldable pub line_of : List ℕ → Line
-line_of bytes = record { cut = contains space bytes; row = part_of (before space bytes); column = part_of (after space bytes) }
+line_of bytes = record { row = part_of (before space bytes); column = cond (contains space bytes) (Some (part_of (after space bytes))) None }
 
 -- a part's number: 1000, which no row and no column reaches, where it has no bytes
-abbrev pub known : Part → ℕ
-known part = cond part.begun part.number 1000
+abbrev pub known : Option ℕ → ℕ
+known part = unwrap_or part 1000
 
 -- what is printed for a line with this number
 unfoldable pub shown : ℕ → Line → List ℕ
-shown number line = told number (known line.row) (known line.column) (found (known line.row) (known line.column))
+shown number line =
+    let column = unwrap_or line.column None in
+    told number (known line.row) (known column) (found (known line.row) (known column))
 
 -- after the bytes seen, with `text` printed
 abbrev pub Reached : (seen text : List ℕ) → Progress → Type 0

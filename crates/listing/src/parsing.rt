@@ -4,33 +4,20 @@ ghost use Rattle.text.specs.Numbers.{is_digit};
 ghost use Rattle.linewise.specs.Going.{begun};
 ghost use Rattle.listing.specs.Running.{part_of, line_of};
 
-// A part of a line: whether it has bytes, and their number, where 1000 is too many or no number.
-#[derive(Clone, Copy)]
-pub struct Part {
-    pub begun: bool,
-    pub number: usize,
-}
-
-// A line: whether a space cut it, and the parts before and after it.
+// A line: its row before the first space, and its column behind it, if the space has come. Either is None without bytes, or their number, where 1000 is too many or no number.
 #[derive(Clone, Copy)]
 pub struct Line {
-    pub cut: bool,
-    pub row: Part,
-    pub column: Part,
+    pub row: Option<usize>,
+    pub column: Option<Option<usize>>,
 }
 
 // A line with no bytes.
 pub fn empty() -> Line
     ensures { result ≡ line_of [] }
 {
-    let none = Part {
-        begun: false,
-        number: 0,
-    };
     Line {
-        cut: false,
-        row: none,
-        column: none,
+        row: None,
+        column: None,
     }
 }
 
@@ -38,11 +25,7 @@ pub fn empty() -> Line
 pub fn is_begun(line: Line) -> bool
     ensures { (bytes : List ℕ) → line ≡ line_of bytes → begun bytes ≡ result }
 {
-    let row = line.row;
-    if line.cut {
-        return true;
-    }
-    row.begun
+    line.column.is_some() || line.row.is_some()
 }
 
 // A digit's worth, or 1000 where b is no digit.
@@ -59,53 +42,36 @@ fn digit(b: u8) -> usize
 }
 
 // A part with one more byte.
-fn push(part: Part, b: u8) -> Part
+fn push(part: Option<usize>, b: u8) -> Option<usize>
     ensures { (bytes : List ℕ) → part ≡ part_of bytes → result ≡ part_of (bytes ++ (b ∷ [])) }
 {
-    let full = Part {
-        begun: true,
-        number: 1000,
-    };
-    let n = part.number;
+    let n = part.unwrap_or(0);
     if n >= 1000 {
-        return full;
+        return Some(1000);
     }
     let next = n * 10 + digit(b);
-    if next >= 1000 {
-        return full;
-    }
-    Part {
-        begun: true,
-        number: next,
-    }
+    Some(next.min(1000))
 }
 
 // A line with one more byte.
 pub fn step(line: Line, b: u8) -> Line
     ensures { (bytes : List ℕ) → line ≡ line_of bytes → result ≡ line_of (bytes ++ (b ∷ [])) }
 {
-    let cut = line.cut;
-    let row = line.row;
-    let column = line.column;
-    if cut {
-        let longer = push(column, b);
-        return Line {
-            cut: true,
-            row: row,
-            column: longer,
-        };
-    }
-    if b == 32 {
-        return Line {
-            cut: true,
-            row: row,
-            column: column,
-        };
-    }
-    let longer = push(row, b);
-    Line {
-        cut: false,
-        row: longer,
-        column: column,
+    match line.column {
+        Some(column) => {
+            let longer = push(column, b);
+            Line {
+                row: line.row,
+                column: Some(longer),
+            }
+        }
+        None if b == 32 => Line {
+            row: line.row,
+            column: Some(None),
+        },
+        None => Line {
+            row: push(line.row, b),
+            column: None,
+        },
     }
 }

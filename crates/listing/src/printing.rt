@@ -5,9 +5,9 @@ ghost use Rattle.text.specs.Letters.{ascii};
 ghost use Rattle.text.specs.Numbers.{decimal};
 ghost use Rattle.text.specs.Put.{Put};
 ghost use Rattle.listing.specs.Printed.{cell as «cell-of», printed};
-ghost use Rattle.listing.specs.Running.{line_of, known, shown};
+ghost use Rattle.listing.specs.Running.{line_of, shown};
 
-use crate::parsing::{Line, Part};
+use crate::parsing::Line;
 use queries::Found;
 use text::{field, put, refuse};
 
@@ -38,23 +38,14 @@ fn cell(
     pair(out, n, frame, bit, 10)
 }
 
-// A part's number, or 1000 where there is none.
-fn number_of(part: Part) -> usize
-    ensures { result ≡ known part }
-{
-    if part.begun { part.number } else { 1000 }
-}
-
 // Puts what a line means.
 pub fn print(table: &[u16; 1152], out: &mut [u8], at: usize, line: Line, number: u64) -> usize
     requires { (table.now ≡ ks) × (at + 92 ≤ length out.old) }
     ensures put { Put out.old out.new at result 92 (shown number line) }
     ensures by_index { (bytes : List ℕ) → line ≡ line_of bytes → shown number line ≡ printed number bytes }
 {
-    let first = line.row;
-    let second = line.column;
-    let row = number_of(first);
-    let column = number_of(second);
+    let row = line.row.unwrap_or(1000);
+    let column = line.column.unwrap_or(None).unwrap_or(1000);
     match queries::find_by(table, row, column) {
         Ok(Found::P1 { bit }) => cell(out, at, row, column, b"P1 ", 0, bit),
         Ok(Found::Pids { frame, bit }) => cell(out, at, row, column, b"PIDS ", frame, bit),

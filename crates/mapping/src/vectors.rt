@@ -12,7 +12,7 @@ ghost use Rattle.subcarriers.specs.Slots.{mode_at};
 ghost use Rattle.mapping.specs.Vector.{admitted, filled, imaginary_parts, point_at, point_for, real_parts, scale_at, vector, width};
 
 use calls::Signal;
-use causes::number;
+use causes::is_success;
 use modes::{first_wrong, kind_of, matrix_len};
 use points::{Point, constellation, is_usable};
 use runs::{Answer, Extended, Kind};
@@ -195,7 +195,7 @@ pub fn fill_vector(
     let want = lengths(mode);
     let scales = Scales { lower, upper };
     let answer = admit(mode, symbol, scales, &have, &want);
-    if number(answer) != 0 {
+    if !is_success(answer) {
         return answer;
     }
     let signal = Signal {

@@ -14,7 +14,7 @@ ghost use Rattle.calls.specs.Admitted.{admitted};
 ghost use Rattle.calls.specs.Called.{memory, start_gave};
 
 use calls::Outcome;
-use causes::number;
+use causes::is_success;
 use runs::{Answer, State};
 
 // Starts a sender.
@@ -25,7 +25,7 @@ pub fn start_sender(mode: u8, memory3: &mut [u8], memory4: &mut [u8], delay: &mu
     let started = calls::start_sender(mode, memory3, memory4, delay);
     let answer = started.answer;
     let state = started.state;
-    if number(answer) != 0 {
+    if !is_success(answer) {
         return Outcome { answer, state };
     }
     Outcome { answer, state }

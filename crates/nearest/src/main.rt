@@ -29,9 +29,8 @@ fn run(rt: &impl Streams, budget: usize) {
     let mut frame = [0u8; 10];
     let tried = decoding::nearest(&cells, &mut frame, budget);
     let answer = tried.answer;
-    let number = causes::number(answer);
-    if number != 0 {
-        messages::refuse(rt, number, causes::place(answer), 0);
+    if !causes::is_success(answer) {
+        messages::refuse(rt, causes::number(answer), causes::place(answer), 0);
         return;
     }
     answer_all(rt, budget);

@@ -1,17 +1,11 @@
 // owners MODE: reads lines that ask for a cell or for a coded bit of an L1 frame, and prints whose bit stands in the cell, or in which cell the bit stands.
 #![tactic(auto)]
 
-ghost use Rattle.std.specs.Prelude.{◌≡◌, ◌+◌, ◌^◌, ◌≤◌, ◌<◌, length};
+ghost use Rattle.std.specs.Prelude.{◌≡◌, ◌+◌, ◌^◌, ◌≤◌, ◌<◌, Some, length};
+ghost use Rattle.ownerlines.specs.declared.Progress.{Progress};
 
 use ownerlines::Progress;
 use programs::Streams;
-
-// Where the input's lines have been answered to, and whether there may be more.
-#[derive(Clone, Copy)]
-struct Turn {
-    at: Progress,
-    more: bool,
-}
 
 // Room for the open line.
 fn line_room() -> [u8; 4096]
@@ -27,63 +21,58 @@ fn room() -> [u8; 819200]
     [0; 819200]
 }
 
-// Reads a block of the input, and writes what is printed for the lines that end in it. Where it cannot be written, nothing more is answered.
+// Writes what is printed for the lines that end in a block of the input, and answers where its lines have been answered to. None: it did not all go out.
 fn answer_block(
-    rt: &(impl Streams + AllocGlobal),
+    rt: &impl Streams,
     mode: u8,
     at: Progress,
+    block: &[u8],
     line: &mut [u8],
     out: &mut [u8],
-) -> Turn
-    requires { (at.held ≤ 4096) × (length line.old ≡ 4096) × (length out.old ≡ 819200) × (at.number + 4096 < 2 ^ 64) }
-    ensures { (result.at.held ≤ 4096) × (length line.new ≡ 4096) × (length out.new ≡ 819200) × (result.at.number ≤ at.number + 4096) }
+) -> Option<Progress>
+    requires { (at.held ≤ 4096) × (length block.now ≤ 4096) × (length line.old ≡ 4096) × (length out.old ≡ 819200) × (at.number + 4096 < 2 ^ 64) }
+    ensures lengths { (length line.new ≡ 4096) × (length out.new ≡ 819200) }
+    ensures next { (next : Progress) → result ≡ Some next → (next.held ≤ 4096) × (next.number ≤ at.number + 4096) }
 {
-    let mut block = io::buffer();
-    let n = programs::read_some(rt, &mut block);
-    let next = ownerlines::answer(mode, at, &block[..n], line, out);
+    let next = ownerlines::answer(mode, at, block, line, out);
     let end = next.end;
-    if !programs::write_out(rt, &out[..end]) {
-        return Turn {
-            at: ownerlines::start(),
-            more: false,
-        };
-    }
-    Turn {
-        at: next,
-        more: n != 0,
-    }
+    programs::write_out(rt, &out[..end]).then_some(next)
 }
 
 // As many blocks as no run uses up: a proved loop has to end.
 const BLOCKS: u64 = 281474976710656;
 
-// Answers the input from block to block.
+// Answers the input from block to block, and answers where it has been answered to, unless something did not go out.
 fn answer_all(
     rt: &(impl Streams + AllocGlobal),
     mode: u8,
     at: Progress,
     line: &mut [u8],
     out: &mut [u8],
-) -> Progress
+) -> Option<Progress>
     requires { (at.held ≤ 4096) × (length line.old ≡ 4096) × (length out.old ≡ 819200) × (at.number ≡ 1) }
-    ensures { (result.held ≤ 4096) × (length line.new ≡ 4096) × (length out.new ≡ 819200) }
+    ensures lengths { (length line.new ≡ 4096) × (length out.new ≡ 819200) }
+    ensures held { (last : Progress) → result ≡ Some last → last.held ≤ 4096 }
 {
     let mut at = at;
     for block in 0..BLOCKS {
-        let turn = answer_block(rt, mode, at, line, out);
-        at = turn.at;
-        if !turn.more {
-            return at;
+        let mut bytes = io::buffer();
+        let n = programs::read_some(rt, &mut bytes);
+        at = answer_block(rt, mode, at, &bytes[..n], line, out)?;
+        if n == 0 {
+            return Some(at);
         }
     }
-    at
+    Some(at)
 }
 
-// Answers all of standard input.
+// Answers all of standard input. Where something cannot be written, nothing more is answered.
 fn run(rt: &(impl Streams + AllocGlobal), mode: u8) {
     let mut line = line_room();
     let mut out = room();
-    let last = answer_all(rt, mode, ownerlines::start(), &mut line, &mut out);
+    let Some(last) = answer_all(rt, mode, ownerlines::start(), &mut line, &mut out) else {
+        return;
+    };
     let end = ownerlines::finish(mode, last, &line, &mut out);
     programs::write_out(rt, &out[..end]);
 }

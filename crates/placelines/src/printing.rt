@@ -66,7 +66,7 @@ fn put_shared(out: &mut [u8], at: usize, line: &[u8]) -> usize
     let waiting = eight_at(line, 8);
     let mut places = [0u8; 16];
     let answer = allocation::share_places(shares, waiting, &mut places);
-    if causes::number(answer) == 0 {
+    if causes::is_success(answer) {
         return put_places(out, at, &places);
     }
     put_refused(out, at, answer)
@@ -89,13 +89,10 @@ pub fn answer(input: &[u8], out: &mut [u8]) -> usize
     ensures { (IsPrefixLen result out.new) × (take result out.new ≡ output input.now) }
 {
     let mut end: usize = 0;
-    let mut at: usize = 0;
     let mut number: u64 = 1;
-    while at < input.len() {
-        let stop = text::line_end(input, at);
-        end = put_line(out, end, number, &input[at..stop]);
+    for line in text::lines(input) {
+        end = put_line(out, end, number, line);
         number += 1;
-        at = stop + 1;
     }
     end
 }

@@ -80,9 +80,8 @@ fn begin(
     let started = calls::start_reader(mode, memory3, memory4, delay);
     let answer = started.answer;
     let state = started.state;
-    let number = causes::number(answer);
-    if number != 0 {
-        messages::refuse(rt, number, causes::place(answer), 0);
+    if !causes::is_success(answer) {
+        messages::refuse(rt, causes::number(answer), causes::place(answer), 0);
         return;
     }
     read_all(rt, state, count, on, input, memory3, memory4, delay);

@@ -98,8 +98,8 @@ fn read_lent(
     let answer = read.answer;
     let next = read.state;
     let reserved = read.reserved;
-    let number = causes::number(answer);
-    if number != 0 {
+    if !causes::is_success(answer) {
+        let number = causes::number(answer);
         let place = causes::place(answer);
         let length = messages::put_in_words(out, number, place, frame);
         return Stepped {

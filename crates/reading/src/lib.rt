@@ -6,7 +6,7 @@ ghost use Rattle.runs.specs.Reading.{read_step};
 ghost use Rattle.calls.specs.Called.{lent, memory, read_gave};
 
 use calls::{FramesMut, MemoryMut, ReadOutcome, Signal, admit};
-use causes::number;
+use causes::is_success;
 use modes::reader_lengths;
 use runs::State;
 
@@ -47,7 +47,7 @@ pub fn read(
     ];
     let want = reader_lengths(state.mode);
     let answer = admit(state, 0, &have, &want);
-    if number(answer) != 0 {
+    if !is_success(answer) {
         return ReadOutcome {
             answer,
             state,

@@ -7,7 +7,7 @@ ghost use Rattle.runs.specs.Reading.{read_step};
 ghost use Rattle.calls.specs.Called.{lent, memory, read_gave};
 
 use calls::ReadOutcome;
-use causes::number;
+use causes::is_success;
 use runs::State;
 
 // Reads an L1 frame.
@@ -34,7 +34,7 @@ pub fn read(
     let answer = outcome.answer;
     let next = outcome.state;
     let reserved = outcome.reserved;
-    if number(answer) != 0 {
+    if !is_success(answer) {
         return ReadOutcome {
             answer,
             state: next,

@@ -14,7 +14,7 @@ ghost use Rattle.judging.specs.Stages.{Brought, Recovered, after, fourth, signal
 ghost use Rattle.receiving.specs.Received.{SameLengths, receive_step};
 
 use calls::{FramesMut, Memory, MemoryMut, ReadOutcome, Signal, next_of};
-use causes::number;
+use causes::is_success;
 use modes::{kind_of, main_of, matrix_len};
 use runs::{Answer, Extended, Main, State};
 
@@ -96,7 +96,7 @@ pub fn receive(
     let answer = judge(state, signal, memory, own);
     let reserved = control::number_in(state.mode, signal.control);
     let next = next_of(state, reserved);
-    if number(answer) != 0 {
+    if !is_success(answer) {
         return ReadOutcome {
             answer,
             state,

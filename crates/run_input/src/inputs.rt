@@ -151,7 +151,7 @@ pub fn send_input(
         ≡ input_step n3 n4 state (memory memory3.old memory4.old delay.old) (handed (frames_in state.mode n3 n4 input.now) (signal pm.old px1.old px2.old control.old)) }
 {
     let answer = whole_answer(state, n3, n4, input);
-    if causes::number(answer) != 0 {
+    if !causes::is_success(answer) {
         return Outcome { answer, state };
     }
     send_frame(

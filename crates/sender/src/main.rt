@@ -88,9 +88,8 @@ fn begin(
     let started = calls::start_sender(mode, memory3, memory4, delay);
     let answer = started.answer;
     let state = started.state;
-    let number = causes::number(answer);
-    if number != 0 {
-        messages::refuse(rt, number, causes::place(answer), 0);
+    if !causes::is_success(answer) {
+        messages::refuse(rt, causes::number(answer), causes::place(answer), 0);
         return false;
     }
     if !write_header(rt, mode, count, dump) {

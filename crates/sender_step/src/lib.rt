@@ -51,8 +51,8 @@ fn send_lent(
     );
     let answer = sent.answer;
     let next = sent.state;
-    let number = causes::number(answer);
-    if number != 0 {
+    if !causes::is_success(answer) {
+        let number = causes::number(answer);
         let place = causes::place(answer);
         let length = messages::put_in_words(out, number, place, frame);
         return Stepped {

@@ -9,7 +9,7 @@ ghost use Rattle.calls.specs.Fits.{Fits};
 ghost use Rattle.calls.specs.Called.{frames, gave, lent, memory, signal};
 
 use calls::{Outcome, admit, next_of};
-use causes::number;
+use causes::is_success;
 use modes::{kind_of, main_of, meant_len, sender_lengths};
 use runs::{Extended, State};
 
@@ -87,7 +87,7 @@ pub fn send(
     ];
     let answer = admit(state, reserved, &have, &want);
     let next = next_of(state, reserved);
-    if number(answer) != 0 {
+    if !is_success(answer) {
         return Outcome { answer, state };
     }
     write(

@@ -7,7 +7,7 @@ ghost use Rattle.runs.specs.Sending.{send_step};
 ghost use Rattle.calls.specs.Called.{gave, lent, memory};
 
 use calls::Outcome;
-use causes::number;
+use causes::is_success;
 use runs::State;
 
 // Sends an L1 frame.
@@ -35,7 +35,7 @@ pub fn send(
     );
     let answer = sent.answer;
     let next = sent.state;
-    if number(answer) != 0 {
+    if !is_success(answer) {
         return Outcome {
             answer,
             state: next,

@@ -31,12 +31,11 @@ pub struct Cell {
     pub number: usize,
 }
 
-// This coded bit stands in this cell; or the zero fill, in a cell of L1 frame `sent`; or nothing: the line is refused.
+// This coded bit stands in this cell; or the zero fill, in a cell of L1 frame `sent`. Where there is no entry, the line is refused.
 #[derive(Clone, Copy)]
 pub enum Entry {
     Stands { coded: CodedBit, cell: Cell },
     Fill { sent: u64 },
-    Refused,
 }
 
 // The state before an L1 frame of a run, with the number 0: a finder's answer is the same for every number.
@@ -123,29 +122,36 @@ fn in_px(
 }
 
 // A cell of PM of L1 frame t.
-fn pm_entry(table: &[u16; 1152], t: u64, row: usize, column: usize) -> Entry
+fn pm_entry(table: &[u16; 1152], t: u64, row: usize, column: usize) -> Option<Entry>
     requires { table.now ≡ ks }
     ensures { result ≡ pm_entry t row column (found row column) }
 {
     match queries::find_by(table, row, column) {
-        Ok(Found::P1 { bit }) => in_pm(t, 1, 0, bit, row, column),
-        Ok(Found::Pids { frame, bit }) => in_pm(t, 2, frame, bit, row, column),
-        Err(_) => Entry::Refused,
+        Ok(Found::P1 { bit }) => Some(in_pm(t, 1, 0, bit, row, column)),
+        Ok(Found::Pids { frame, bit }) => Some(in_pm(t, 2, frame, bit, row, column)),
+        Err(_) => None,
     }
 }
 
 // A coded bit of P1 or PIDS of L1 frame t.
-fn pm_placed(t: u64, channel: u8, frame: usize, bit: usize) -> Entry
+fn pm_placed(t: u64, channel: u8, frame: usize, bit: usize) -> Option<Entry>
     ensures { result ≡ pm_placed t channel frame bit (located channel frame bit) }
 {
     match locating::locate(channel, frame, bit) {
-        Ok(cell) => in_pm(t, channel, frame, bit, cell.row, cell.column),
-        Err(_) => Entry::Refused,
+        Ok(cell) => Some(in_pm(t, channel, frame, bit, cell.row, cell.column)),
+        Err(_) => None,
     }
 }
 
 // A cell of PX1 or PX2 of the L1 frame `sent`.
-fn px_entry(mode: u8, sent: u64, channel: u8, pair: usize, row: usize, column: usize) -> Entry
+fn px_entry(
+    mode: u8,
+    sent: u64,
+    channel: u8,
+    pair: usize,
+    row: usize,
+    column: usize,
+) -> Option<Entry>
     ensures { result ≡ px_entry mode channel sent pair row column (found_px (state_at mode 0 sent) channel pair row column) }
 {
     let state = state_before(mode, sent);
@@ -158,15 +164,16 @@ fn px_entry(mode: u8, sent: u64, channel: u8, pair: usize, row: usize, column: u
             },
         ) => {
             let from = sent - earlier as u64;
-            in_px(mode, channel, from, sent, frame, bit, pair, row, column)
+            let entry = in_px(mode, channel, from, sent, frame, bit, pair, row, column);
+            Some(entry)
         }
-        Ok(FoundPx::Fill) => Entry::Fill { sent },
-        Err(_) => Entry::Refused,
+        Ok(FoundPx::Fill) => Some(Entry::Fill { sent }),
+        Err(_) => None,
     }
 }
 
 // A coded bit of P3 or P4 of the L1 frame `from`.
-fn px_placed(mode: u8, from: u64, channel: u8, frame: usize, bit: usize) -> Entry
+fn px_placed(mode: u8, from: u64, channel: u8, frame: usize, bit: usize) -> Option<Entry>
     requires { from < 4294967296 }
     ensures { result ≡ px_placed mode channel from frame bit (located_px (state_at mode 0 from) channel frame bit) }
 {
@@ -174,7 +181,7 @@ fn px_placed(mode: u8, from: u64, channel: u8, frame: usize, bit: usize) -> Entr
     match locating::locate_px(state, channel, frame, bit) {
         Ok(cell) => {
             let sent = from + cell.later as u64;
-            in_px(
+            let entry = in_px(
                 mode,
                 channel,
                 from,
@@ -184,14 +191,15 @@ fn px_placed(mode: u8, from: u64, channel: u8, frame: usize, bit: usize) -> Entr
                 cell.pair,
                 cell.row,
                 cell.column,
-            )
+            );
+            Some(entry)
         }
-        Err(_) => Entry::Refused,
+        Err(_) => None,
     }
 }
 
 // A coded bit of the L1 frame `from`.
-fn bit_entry(mode: u8, from: u64, channel: u8, frame: usize, bit: usize) -> Entry
+fn bit_entry(mode: u8, from: u64, channel: u8, frame: usize, bit: usize) -> Option<Entry>
     requires { from < 4294967296 }
     ensures { result ≡ bit_entry mode channel from frame bit }
 {
@@ -203,19 +211,21 @@ fn bit_entry(mode: u8, from: u64, channel: u8, frame: usize, bit: usize) -> Entr
 
 // What the sheet of a run of `count` L1 frames says of what a line asks for. The table of S-1 is lent, since a list asks for many cells.
 #[tactic(auto, unfolding(crate::specs::Entries::entry_of))]
-pub fn entry_for(table: &[u16; 1152], mode: u8, count: u64, question: Option<Question>) -> Entry
+pub fn entry_for(
+    table: &[u16; 1152],
+    mode: u8,
+    count: u64,
+    question: Option<Question>,
+) -> Option<Entry>
     requires { (table.now ≡ ks) × (count ≤ 4294967296) }
     ensures { result ≡ entry_of mode count question }
 {
-    let Some(question) = question else {
-        return Entry::Refused;
-    };
-    match question {
+    match question? {
         Question::Pm { frame, row, column } => {
             if frame < count {
                 return pm_entry(table, frame, row, column);
             }
-            Entry::Refused
+            None
         }
         Question::Px {
             frame,
@@ -227,7 +237,7 @@ pub fn entry_for(table: &[u16; 1152], mode: u8, count: u64, question: Option<Que
             if frame < count {
                 return px_entry(mode, frame, channel, pair, row, column);
             }
-            Entry::Refused
+            None
         }
         Question::Bit {
             frame,
@@ -238,15 +248,18 @@ pub fn entry_for(table: &[u16; 1152], mode: u8, count: u64, question: Option<Que
             if frame < count {
                 return bit_entry(mode, frame, channel, tframe, bit);
             }
-            Entry::Refused
+            None
         }
     }
 }
 
 // Among the answers of which L1 frame an entry stands, in a run of `count`; `count` where the cell is sent after the last one.
-pub fn turn_of(count: u64, entry: Entry) -> u64
+pub fn turn_of(count: u64, entry: Option<Entry>) -> u64
     ensures { result ≡ turn_of count entry }
 {
+    let Some(entry) = entry else {
+        return count;
+    };
     match entry {
         Entry::Stands { coded: _, cell } => {
             let sent = cell.sent;
@@ -256,6 +269,5 @@ pub fn turn_of(count: u64, entry: Entry) -> u64
             count
         }
         Entry::Fill { sent } => sent,
-        Entry::Refused => count,
     }
 }

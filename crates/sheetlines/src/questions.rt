@@ -29,6 +29,7 @@ pub enum Question {
 }
 
 // The number of a name: 0 of PM, 1 to 4 of P1, PIDS, P3 and P4, 5 of any other.
+// Not a `match`: it leaves a goal for each byte that can differ, 14 in all, and the check closes none of them. This form needs no answer; so it is in `asked_plain`.
 #[tactic(auto, unfolding(crate::specs::Questions::named))]
 fn name_number(name: &[u8]) -> u8
     ensures { result ≡ named name.now }

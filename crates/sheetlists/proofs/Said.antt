@@ -19,15 +19,15 @@ use Rattle.sheetlists.specs.Lists.{answer, answered, answers, asking, asks, refu
 
 -- ---- a line
 
-pub stood : (count t : ℕ) (e : Entry) (b : Bool) (n : ℕ) → b ≡ is_refused e → n ≡ turn_of count e → b ≡ false → eqb n t ≡ stands_in count t e
+pub stood : (count t : ℕ) (e : Option Entry) (b : Bool) (n : ℕ) → b ≡ is_refused e → n ≡ turn_of count e → b ≡ false → eqb n t ≡ stands_in count t e
 unfolding stands_in
 stood count t e b n is n-is f = sym (rw (sym is ∙ f, sym n-is))
 
-pub refused-stands : (count t : ℕ) (e : Entry) (b : Bool) → b ≡ is_refused e → b ≡ true → false ≡ stands_in count t e
+pub refused-stands : (count t : ℕ) (e : Option Entry) (b : Bool) → b ≡ is_refused e → b ≡ true → false ≡ stands_in count t e
 unfolding stands_in
 refused-stands count t e b is f = sym (rw (sym is ∙ f))
 
-module _ (behind : Entry → List ℕ) (mode count t : ℕ) (line : List ℕ) (q : Option Question) (is : q ≡ question_of line) (e : Entry) (e-is : e ≡ entry_of mode count q)
+module _ (behind : Option Entry → List ℕ) (mode count t : ℕ) (line : List ℕ) (q : Option Question) (is : q ≡ question_of line) (e : Option Entry) (e-is : e ≡ entry_of mode count q)
     (b : Bool) (b-is : b ≡ stands_in count t e) (a : List ℕ) (at : ℕ) where
   entry-is : e ≡ entry_of mode count (question_of line)
   entry-is = e-is ∙ ap (entry_of mode count) is
@@ -45,13 +45,13 @@ module _ (behind : Entry → List ℕ) (mode count t : ℕ) (line : List ℕ) (q
   is-asked f z end m fits p =
       let test : stands_in count t (entry_of mode count (question_of line)) ≡ true = test-is ∙ f in
       let told : names q e ++ behind e ≡ answer behind mode count t (question_of line) =
-      ap₂ (λ (r : Option Question) (x : Entry). names r x ++ behind x) is entry-is
+      ap₂ (λ (r : Option Question) (x : Option Entry). names r x ++ behind x) is entry-is
       ∙ sym (ap (λ (b : Bool). cond b (names (question_of line) (entry_of mode count (question_of line)) ++ behind (entry_of mode count (question_of line))) []) test) in
       let one : asks mode count t (question_of line) ≡ 1 = ap (λ (b : Bool). cond b 1 0) test in
       put-most (omega arith) (put-text told p)
 
 -- the value that the code read, and what is put behind it
-pub value-known : (count : ℕ) (e : Entry) (value : Entry → ℕ) (working : Entry → List ℕ) {v : ℕ} → v ≡ value e → value_text count e v ++ working e ≡ valued working count value e
+pub value-known : (count : ℕ) (e : Option Entry) (value : Option Entry → ℕ) (working : Option Entry → List ℕ) {v : ℕ} → v ≡ value e → value_text count e v ++ working e ≡ valued working count value e
 value-known count e value working f = ap (λ (x : ℕ). value_text count e x ++ working e) f
 
 module _ (mode count number : ℕ) (line a : List ℕ) (at : ℕ) (b : Bool) (is : b ≡ is_refused (entry_of mode count (question_of line))) where
@@ -66,7 +66,7 @@ module _ (mode count number : ℕ) (line a : List ℕ) (at : ℕ) (b : Bool) (is
 -- ---- the lines from one on
 
 module _ (line : List ℕ) (ls rest : List (List ℕ)) (e : ls ≡ line ∷ rest) where
-  pub answers-on : (behind : Entry → List ℕ) (mode count t : ℕ)
+  pub answers-on : (behind : Option Entry → List ℕ) (mode count t : ℕ)
       → answers behind mode count t ls ≡ answer behind mode count t (question_of line) ++ answers behind mode count t rest
   unfolding answers
   answers-on behind mode count t = ap (answers behind mode count t) e
@@ -84,7 +84,7 @@ module _ (line : List ℕ) (ls rest : List (List ℕ)) (e : ls ≡ line ∷ rest
   answered-on mode count = ap (answered mode count) e
 
 module _ (ls : List (List ℕ)) (e : ls ≡ []) where
-  pub answers-none : (behind : Entry → List ℕ) (mode count t : ℕ) → answers behind mode count t ls ≡ []
+  pub answers-none : (behind : Option Entry → List ℕ) (mode count t : ℕ) → answers behind mode count t ls ≡ []
   unfolding answers
   answers-none behind mode count t = ap (answers behind mode count t) e
 

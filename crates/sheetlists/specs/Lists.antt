@@ -10,15 +10,15 @@ use Rattle.sheettext.specs.Texts.{is_refused, names, value_text}
 -- ---- an answer
 
 -- what stands behind the names of an answer: the value in a run of `count` L1 frames, and the working, which ends in a newline where there is one
-abbrev pub valued : (working : Entry → List ℕ) (count : ℕ) (value : Entry → ℕ) → Entry → List ℕ
+abbrev pub valued : (working : Option Entry → List ℕ) (count : ℕ) (value : Option Entry → ℕ) → Option Entry → List ℕ
 valued working count value e = value_text count e (value e) ++ working e
 
 -- whether an entry stands among the answers of L1 frame t; what is refused stands among none
-unfoldable pub stands_in : (count t : ℕ) → Entry → Bool
+unfoldable pub stands_in : (count t : ℕ) → Option Entry → Bool
 stands_in count t e = not (is_refused e) && eqb (turn_of count e) t
 
 -- what is said of a question there, where this text stands behind the names
-unfoldable pub answer : (behind : Entry → List ℕ) (mode count t : ℕ) → Option Question → List ℕ
+unfoldable pub answer : (behind : Option Entry → List ℕ) (mode count t : ℕ) → Option Question → List ℕ
 answer behind mode count t q =
     let e = entry_of mode count q in
     cond (stands_in count t e) (names q e ++ behind e) []
@@ -26,7 +26,7 @@ answer behind mode count t q =
 -- ---- a list
 
 -- the answers of L1 frame t, in the order of the list
-unfoldable pub answers : (behind : Entry → List ℕ) (mode count t : ℕ) → List (List ℕ) → List ℕ
+unfoldable pub answers : (behind : Option Entry → List ℕ) (mode count t : ℕ) → List (List ℕ) → List ℕ
 answers behind mode count t [] = []
 answers behind mode count t (line ∷ rest) = answer behind mode count t (question_of line) ++ answers behind mode count t rest
 

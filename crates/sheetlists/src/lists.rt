@@ -15,7 +15,7 @@ use sheettext::{is_refused, put_names, put_value, value_of};
 use sheetworks::put_working;
 
 // Whether an entry stands among the answers of L1 frame t.
-fn stands_in(count: u64, t: u64, entry: Entry) -> bool
+fn stands_in(count: u64, t: u64, entry: Option<Entry>) -> bool
     ensures { result ≡ stands_in count t entry }
 {
     if is_refused(entry) {
@@ -78,26 +78,10 @@ pub fn put_answers(
 {
     let table = pm::index_table();
     let mut end = at;
-    let mut i: usize = 0;
-    while i < list.len() {
-        let stop = text::line_end(list, i);
+    for line in text::lines(list) {
         end = put_answer(
-            &table,
-            out,
-            end,
-            mode,
-            count,
-            t,
-            &list[i..stop],
-            pm,
-            px1,
-            px2,
-            work,
-            n3,
-            n4,
-            bytes,
+            &table, out, end, mode, count, t, line, pm, px1, px2, work, n3, n4, bytes,
         );
-        i = stop + 1;
     }
     end
 }
@@ -137,13 +121,10 @@ pub fn put_refusals(out: &mut [u8], at: usize, mode: u8, count: u64, list: &[u8]
 {
     let table = pm::index_table();
     let mut end = at;
-    let mut i: usize = 0;
     let mut number: u64 = 1;
-    while i < list.len() {
-        let stop = text::line_end(list, i);
-        end = put_refusal(&table, out, end, mode, count, number, &list[i..stop]);
+    for line in text::lines(list) {
+        end = put_refusal(&table, out, end, mode, count, number, line);
         number += 1;
-        i = stop + 1;
     }
     end
 }
@@ -155,11 +136,8 @@ pub fn count_answers(mode: u8, count: u64, list: &[u8]) -> u64
 {
     let table = pm::index_table();
     let mut n: u64 = 0;
-    let mut i: usize = 0;
-    while i < list.len() {
-        let stop = text::line_end(list, i);
-        n = one_more(n, line_refused(&table, mode, count, &list[i..stop]));
-        i = stop + 1;
+    for line in text::lines(list) {
+        n = one_more(n, line_refused(&table, mode, count, line));
     }
     n
 }

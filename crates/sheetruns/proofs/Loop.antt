@@ -1,4 +1,5 @@
 -- From L1 frame to L1 frame of an input: what is put, and what is left to put. Assumes nothing.
+use Rattle.std.specs.Prelude.{Option}
 use mathlib.Core.Path.{◌≡◌, refl, sym, ap, subst, ◌∙◌}
 use mathlib.Core.Bool.{true}
 use mathlib.Core.List.{List, ◌++◌}
@@ -57,7 +58,7 @@ bytes-few count size n h k e = omega (arith, mul-le-mul {n₁ = count} {m₁ = s
 abbrev first : (mode n3 n4 : ℕ) → State → Memory → List ℕ → Result
 first mode n3 n4 s m bytes = send_step s m (handed (frames_in mode n3 n4 (take (frame_size mode n3 n4) bytes)) (blank mode))
 
-module _ (working : Entry → List ℕ) (mode count n3 n4 : ℕ) (ls : List (List ℕ)) (k t : ℕ) (text : List ℕ) (s : State) (m : Memory) (bytes : List ℕ) where
+module _ (working : Option Entry → List ℕ) (mode count n3 n4 : ℕ) (ls : List (List ℕ)) (k t : ℕ) (text : List ℕ) (s : State) (m : Memory) (bytes : List ℕ) where
   told-on : number_of (first mode n3 n4 s m bytes).answer ≡ 0
       → told working mode count ls t text (calls send_step s m (lents mode n3 n4 (suc k) bytes))
       ≡ told working mode count ls (suc t) (text ++ answers (valued working count (value_in (first mode n3 n4 s m bytes).lent.signal.matrices)) mode count t ls)
@@ -70,14 +71,14 @@ module _ (working : Entry → List ℕ) (mode count n3 n4 : ℕ) (ls : List (Lis
   unfolding lents calls told
   told-stops ne = not-success (first mode n3 n4 s m bytes).answer _ _ (λ z. ne (ap number_of z))
 
-told-ends : (working : Entry → List ℕ) (mode count n3 n4 : ℕ) (ls : List (List ℕ)) (t : ℕ) (text : List ℕ) (s : State) (m : Memory) (bytes : List ℕ)
+told-ends : (working : Option Entry → List ℕ) (mode count n3 n4 : ℕ) (ls : List (List ℕ)) (t : ℕ) (text : List ℕ) (s : State) (m : Memory) (bytes : List ℕ)
     → told working mode count ls t text (calls send_step s m (lents mode n3 n4 0 bytes)) ≡ text ++ (unsent working mode count ls ++ ending (answered mode count ls))
 unfolding lents calls told
 told-ends working mode count n3 n4 ls t text s m bytes = refl
 
 -- ---- the loop
 
-pub record Going (working : Entry → List ℕ) (mode count n3 n4 : ℕ) (list bytes text : List ℕ) (at : ℕ) (out : List ℕ) (s : State) (m : Memory) (end from t : ℕ) : Type 0 where
+pub record Going (working : Option Entry → List ℕ) (mode count n3 n4 : ℕ) (list bytes text : List ℕ) (at : ℕ) (out : List ℕ) (s : State) (m : Memory) (end from t : ℕ) : Type 0 where
   pub turns : t ≤ count
   pub inside : from ≤ length bytes
   pub size : length (drop from bytes) ≡ (count - t) * frame_size mode n3 n4
@@ -86,7 +87,7 @@ pub record Going (working : Entry → List ℕ) (mode count n3 n4 : ℕ) (list b
   pub left : told working mode count (lines list) 0 text (sent mode count n3 n4 bytes)
       ≡ told working mode count (lines list) t (take end out) (calls send_step s m (lents mode n3 n4 (count - t) (drop from bytes)))
 
-module _ (working : Entry → List ℕ) (mode count n3 n4 : ℕ) (list bytes : List ℕ) (at : ℕ) (out : List ℕ) where
+module _ (working : Option Entry → List ℕ) (mode count n3 n4 : ℕ) (list bytes : List ℕ) (at : ℕ) (out : List ℕ) where
   pub going-begins : older mode ≡ true → length bytes ≡ count * frame_size mode n3 n4 → (r : Outcome) (m m₀ : Memory) → start_gave r m ≡ start sender_len mode m₀
       → m₀ ≡ zeros sender_len mode → Going working mode count n3 n4 list bytes (take at out) at out r.state m at 0 0
   unfolding sent
@@ -105,7 +106,7 @@ module _ (working : Entry → List ℕ) (mode count n3 n4 : ℕ) (list bytes : L
             ∙ ap (λ (k : ℕ). told working mode count (lines list) 0 (take at out) (calls send_step r.state m (lents mode n3 n4 k bytes))) (sym none);
       }
 
-module _ {working : Entry → List ℕ} {mode count n3 n4 : ℕ} {list bytes text : List ℕ} {at : ℕ} {out : List ℕ} {s : State} {m : Memory} {end from t : ℕ}
+module _ {working : Option Entry → List ℕ} {mode count n3 n4 : ℕ} {list bytes text : List ℕ} {at : ℕ} {out : List ℕ} {s : State} {m : Memory} {end from t : ℕ}
     (w : Going working mode count n3 n4 list bytes text at out s m end from t) (h : t < count) where
   more : count - t ≡ suc (count - (t + 1))
   more = omega arith
@@ -167,7 +168,7 @@ module _ {working : Entry → List ℕ} {mode count n3 n4 : ℕ} {list bytes tex
               ∙ (λ i. told working mode count (lines list) (one i) (text-is i) (calls send_step (state-is i) (memory-is i) (lents mode n3 n4 (count - (t + 1)) (rest i))));
         }
 
-module _ {working : Entry → List ℕ} {mode count n3 n4 : ℕ} {list bytes text : List ℕ} {at : ℕ} {out : List ℕ} {s : State} {m : Memory} {end from t : ℕ}
+module _ {working : Option Entry → List ℕ} {mode count n3 n4 : ℕ} {list bytes text : List ℕ} {at : ℕ} {out : List ℕ} {s : State} {m : Memory} {end from t : ℕ}
     (w : Going working mode count n3 n4 list bytes text at out s m end from t) (h : count ≤ t) where
   pub room-last : end + 782 * asking mode count count (lines list) ≤ at + 98 * length list
   room-last =

@@ -8,16 +8,16 @@ use lib.Dec.{eqb}
 use borrow.Author.Tests.{eqb-true, le-ltb}
 use Rattle.sheetlines.specs.Entries.{entry_of, turn_of}
 use Rattle.sheetlines.specs.Questions.{question_of}
-use Rattle.std.specs.Prelude.{Option}
+use Rattle.std.specs.Prelude.{Option, Some, None}
 use Rattle.sheetlines.specs.declared.questions.Question.{Question}
 use Rattle.sheetlines.specs.declared.entries.Entry.{Entry}
-use Rattle.sheetlines.specs.declared.entries.Entry.TheVariants.{Stands, Fill, Refused}
+use Rattle.sheetlines.specs.declared.entries.Entry.TheVariants.{Stands, Fill}
 use Rattle.sheettext.specs.Texts.{bit_text, is_refused, names, value_text}
 use Rattle.sheetlists.specs.Lists.{answer, answers, stands_in, valued}
 use Rattle.sheetruns.specs.Told.{unsent}
 
-module _ (v w : Entry → List ℕ) (mode count t : ℕ) where
-  stood-turn : (e : Entry) → stands_in count t e ≡ true → turn_of count e ≡ t
+module _ (v w : Option Entry → List ℕ) (mode count t : ℕ) where
+  stood-turn : (e : Option Entry) → stands_in count t e ≡ true → turn_of count e ≡ t
   unfolding stands_in
   stood-turn e h = go (is_refused e) (eqb (turn_of count e) t) refl h
     where
@@ -43,13 +43,13 @@ module _ (v w : Entry → List ℕ) (mode count t : ℕ) where
   answers-same h (line ∷ ls) = ap₂ (λ (a b : List ℕ). a ++ b) (answer-same (question_of line) (h (question_of line))) (answers-same h ls)
 
 -- of a cell that is not sent no value is said
-no_value : (working : Entry → List ℕ) (count : ℕ) (v w : Entry → ℕ) (e : Entry) → turn_of count e ≡ count → valued working count v e ≡ valued working count w e
+no_value : (working : Option Entry → List ℕ) (count : ℕ) (v w : Option Entry → ℕ) (e : Option Entry) → turn_of count e ≡ count → valued working count v e ≡ valued working count w e
 unfolding turn_of value_text bit_text
-no_value working count v w (Stands coded cell) q = let h : count ≤ cell.sent = omega arith in rw (le-ltb cell.sent count h)
-no_value working count v w (Fill sent) q = refl
-no_value working count v w Refused q = refl
+no_value working count v w (Some (Stands coded cell)) q = let h : count ≤ cell.sent = omega arith in rw (le-ltb cell.sent count h)
+no_value working count v w (Some (Fill sent)) q = refl
+no_value working count v w None q = refl
 
-pub later_same : (working : Entry → List ℕ) (value : Entry → ℕ) (mode count : ℕ) (ls : List (List ℕ)) → answers (valued working count value) mode count count ls ≡ unsent working mode count ls
+pub later_same : (working : Option Entry → List ℕ) (value : Option Entry → ℕ) (mode count : ℕ) (ls : List (List ℕ)) → answers (valued working count value) mode count count ls ≡ unsent working mode count ls
 unfolding unsent
 later_same working value mode count ls =
     answers-same (valued working count value) (valued working count (λ e. 0)) mode count count (λ q e. no_value working count value (λ e. 0) (entry_of mode count q) e) ls

@@ -1,4 +1,5 @@
 -- A line that is answered stands among the answers of one L1 frame, and has eight bytes at least, so that a sheet has no more answers than eighths of its list. Assumes nothing.
+use Rattle.std.specs.Prelude.{Option}
 use mathlib.Core.Path.{◌≡◌, refl, ap}
 use mathlib.Core.Bool.{Bool, true, false, cond, not, ◌&&◌}
 use mathlib.Core.List.{List, [], ◌∷◌}
@@ -79,7 +80,7 @@ module _ (mode count : ℕ) where
   total-none zero t = refl
   total-none (suc n) t = let h = total-none n (suc t) in omega arith
 
-  abbrev entry : List ℕ → Entry
+  abbrev entry : List ℕ → Option Entry
   entry line = entry_of mode count (question_of line)
 
   abbrev test : List ℕ → ℕ → Bool

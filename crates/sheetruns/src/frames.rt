@@ -98,7 +98,7 @@ fn put_frames(
             end,
         );
         let answer = turned.answer;
-        if causes::number(answer) != 0 {
+        if !causes::is_success(answer) {
             return put_no_frame(out, t, answer);
         }
         state = turned.state;

@@ -26,7 +26,7 @@ module _ (sent : Bool) (value : ℕ) where
   bit-now e = sym (rw e)
 
 -- without values
-module _ (mode number : ℕ) (line : List ℕ) (q : Option Question) (is : q ≡ question_of line) (e : Entry) (e-is : e ≡ entry_of mode 4294967296 q)
+module _ (mode number : ℕ) (line : List ℕ) (q : Option Question) (is : q ≡ question_of line) (e : Option Entry) (e-is : e ≡ entry_of mode 4294967296 q)
     (b : Bool) (b-is : b ≡ is_refused e) (a z : List ℕ) (at end : ℕ) where
   owner-is : e ≡ entry_of mode 4294967296 (question_of line)
   owner-is = e-is ∙ ap (entry_of mode 4294967296) is
@@ -42,4 +42,4 @@ module _ (mode number : ℕ) (line : List ℕ) (q : Option Question) (is : q ≡
   unfolding owner_line
   owner-said f m fits p =
       put-most fits
-      (put-text (ap₂ (λ (r : Option Question) (x : Entry). names r x ++ ascii "\n") is owner-is ∙ sym (rw (test-is ∙ f))) p)
+      (put-text (ap₂ (λ (r : Option Question) (x : Option Entry). names r x ++ ascii "\n") is owner-is ∙ sym (rw (test-is ∙ f))) p)

@@ -9,7 +9,7 @@ use Rattle.sheetlines.specs.declared.questions.Question.TheVariants.{Bit, Pm, Px
 use Rattle.sheetlines.specs.declared.entries.Cell.{Cell}
 use Rattle.sheetlines.specs.declared.entries.CodedBit.{CodedBit}
 use Rattle.sheetlines.specs.declared.entries.Entry.{Entry}
-use Rattle.sheetlines.specs.declared.entries.Entry.TheVariants.{Stands, Fill, Refused}
+use Rattle.sheetlines.specs.declared.entries.Entry.TheVariants.{Stands, Fill}
 
 -- a number and a space; a number that ends its line
 abbrev pub word : ℕ → List ℕ
@@ -71,10 +71,10 @@ found (Some (Bit frame channel tframe bit)) coded cell = place coded.channel cel
 found None coded cell = []
 
 -- the names of an answer: what is asked and what is found, or FILL. Of what is refused nothing is said here
-unfoldable pub names : Option Question → Entry → List ℕ
-names q (Stands coded cell) = asked q ++ found q coded cell
-names q (Fill sent) = asked q ++ ascii "FILL"
-names q Refused = []
+unfoldable pub names : Option Question → Option Entry → List ℕ
+names q (Some (Stands coded cell)) = asked q ++ found q coded cell
+names q (Some (Fill sent)) = asked q ++ ascii "FILL"
+names q None = []
 
 -- ---- what stands behind them
 
@@ -83,21 +83,20 @@ unfoldable pub bit_text : (sent : Bool) (value : ℕ) → List ℕ
 bit_text sent value = cond sent (ascii " " ++ last value) (ascii " LATER\n")
 
 -- in a run of `count` L1 frames; behind FILL nothing
-unfoldable pub value_text : (count : ℕ) → Entry → (value : ℕ) → List ℕ
-value_text count (Stands coded cell) value = bit_text (ltb cell.sent count) value
-value_text count (Fill sent) value = ascii "\n"
-value_text count Refused value = []
+unfoldable pub value_text : (count : ℕ) → Option Entry → (value : ℕ) → List ℕ
+value_text count (Some (Stands coded cell)) value = bit_text (ltb cell.sent count) value
+value_text count (Some (Fill sent)) value = ascii "\n"
+value_text count None value = []
 
 -- the bit that stands in the cell, in the matrices of an L1 frame: P1 and PIDS are in PM, P3 in PX1 and P4 in PX2
-unfoldable pub value_in : Matrices → Entry → ℕ
-value_in x (Stands coded cell) =
+unfoldable pub value_in : Matrices → Option Entry → ℕ
+value_in x (Some (Stands coded cell)) =
     cond (ltb coded.channel 3) (bit_at x.pm cell.number)
     (cond (eqb coded.channel 3) (bit_at x.px1 cell.number) (bit_at x.px2 cell.number))
-value_in x (Fill sent) = 0
-value_in x Refused = 0
+value_in x (Some (Fill sent)) = 0
+value_in x None = 0
 
 -- whether nothing can be answered
-unfoldable pub is_refused : Entry → Bool
-is_refused (Stands coded cell) = false
-is_refused (Fill sent) = false
-is_refused Refused = true
+unfoldable pub is_refused : Option Entry → Bool
+is_refused (Some entry) = false
+is_refused None = true

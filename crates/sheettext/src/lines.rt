@@ -136,10 +136,18 @@ fn put_found(
 }
 
 // Puts the names of an answer.
-pub fn put_names(out: &mut [u8], at: usize, question: Option<Question>, entry: Entry) -> usize
+pub fn put_names(
+    out: &mut [u8],
+    at: usize,
+    question: Option<Question>,
+    entry: Option<Entry>,
+) -> usize
     requires { at + 175 ≤ length out.old }
     ensures { Put out.old out.new at result 175 (names question entry) }
 {
+    let Some(entry) = entry else {
+        return at;
+    };
     match entry {
         Entry::Stands { coded, cell } => {
             let m = put_asked(out, at, question);
@@ -149,7 +157,6 @@ pub fn put_names(out: &mut [u8], at: usize, question: Option<Question>, entry: E
             let m = put_asked(out, at, question);
             put(out, m, b"FILL")
         }
-        Entry::Refused => at,
     }
 }
 
@@ -166,21 +173,26 @@ fn put_bit(out: &mut [u8], at: usize, sent: bool, value: u8) -> usize
 }
 
 // Puts what stands behind the names of an answer, in a run of `count` L1 frames.
-pub fn put_value(out: &mut [u8], at: usize, count: u64, entry: Entry, value: u8) -> usize
+pub fn put_value(out: &mut [u8], at: usize, count: u64, entry: Option<Entry>, value: u8) -> usize
     requires { at + 22 ≤ length out.old }
     ensures { Put out.old out.new at result 22 (value_text count entry value) }
 {
+    let Some(entry) = entry else {
+        return at;
+    };
     match entry {
         Entry::Stands { coded: _, cell } => put_bit(out, at, cell.sent < count, value),
         Entry::Fill { sent: _ } => put(out, at, b"\n"),
-        Entry::Refused => at,
     }
 }
 
 // The bit that stands in a cell, of the matrices of its L1 frame.
-pub fn value_of(entry: Entry, pm: &[u8], px1: &[u8], px2: &[u8]) -> u8
+pub fn value_of(entry: Option<Entry>, pm: &[u8], px1: &[u8], px2: &[u8]) -> u8
     ensures { result ≡ value_in (matrices pm.now px1.now px2.now) entry }
 {
+    let Some(entry) = entry else {
+        return 0;
+    };
     match entry {
         Entry::Stands { coded, cell } => {
             if coded.channel < 3 {
@@ -192,17 +204,12 @@ pub fn value_of(entry: Entry, pm: &[u8], px1: &[u8], px2: &[u8]) -> u8
             sheetlines::bit_at(px2, cell.number)
         }
         Entry::Fill { sent: _ } => 0,
-        Entry::Refused => 0,
     }
 }
 
 // Whether nothing can be answered.
-pub fn is_refused(entry: Entry) -> bool
+pub fn is_refused(entry: Option<Entry>) -> bool
     ensures { result ≡ is_refused entry }
 {
-    match entry {
-        Entry::Stands { coded: _, cell: _ } => false,
-        Entry::Fill { sent: _ } => false,
-        Entry::Refused => true,
-    }
+    entry.is_none()
 }

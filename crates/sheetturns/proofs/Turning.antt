@@ -1,5 +1,6 @@
 -- A turn of the loop over the L1 frames of an input. Assumes nothing.
-use mathlib.Core.Path.{◌≡◌, refl, ap, subst, ◌∙◌}
+use Rattle.std.specs.Prelude.{Option}
+use mathlib.Core.Path.{◌≡◌, refl, ap, subst}
 use mathlib.Core.Bool.{true}
 use mathlib.Core.List.{List}
 use Prim.Native.Nat.{ℕ, ◌+◌, ◌*◌, ◌≤◌}
@@ -40,16 +41,16 @@ blank-lent mode want lengths o = blank-is mode want lengths o
 -- ---- a turn
 
 -- the sending left these buffers
-module _ (g : Result) (r : Outcome) (m : Memory) (l : Lent) (e : gave r m l ≡ g) (working : Entry → List ℕ)
-    (mode count t : ℕ) (list old : List ℕ) (at n : ℕ) (is : n ≡ number_of r.answer) where
-  pub turned_down : (n ≡ 0 → ⊥) → Turned g working mode count t list old old at (record { answer = r.answer; state = r.state; end = at }) m
+module _ (g : Result) (r : Outcome) (m : Memory) (l : Lent) (e : gave r m l ≡ g) (working : Option Entry → List ℕ)
+    (mode count t : ℕ) (list old : List ℕ) (at : ℕ) where
+  pub turned_down : (number_of r.answer ≡ 0 → ⊥) → Turned g working mode count t list old old at (record { answer = r.answer; state = r.state; end = at }) m
   turned_down ne =
       record {
         answer = ap (λ (g : Result). g.answer) e;
         state = ap (λ (g : Result). g.state) e;
         memory = ap (λ (g : Result). g.memory) e;
         size = refl;
-        text = λ z. absurd (ne (is ∙ z));
+        text = λ z. absurd (ne z);
       }
 
   pub turned_up : (new : List ℕ) (end : ℕ)
@@ -64,7 +65,7 @@ module _ (g : Result) (r : Outcome) (m : Memory) (l : Lent) (e : gave r m l ≡ 
         text = λ f. put-text (ap (λ (g : Result). answers (valued working count (value_in g.lent.signal.matrices)) mode count t (lines list)) e) p;
       }
 
-pub turned_as : (s : State) (m : Memory) {after : Memory} {l k : Lent} {working : Entry → List ℕ} {mode count t : ℕ} {list old new : List ℕ} {at : ℕ} {r : Turn} → l ≡ k
+pub turned_as : (s : State) (m : Memory) {after : Memory} {l k : Lent} {working : Option Entry → List ℕ} {mode count t : ℕ} {list old new : List ℕ} {at : ℕ} {r : Turn} → l ≡ k
     → Turned (send_step s m l) working mode count t list old new at r after → Turned (send_step s m k) working mode count t list old new at r after
 turned_as s m {after} {l} {k} {working} {mode} {count} {t} {list} {old} {new} {at} {r} e h =
     subst (λ (j : Lent). Turned (send_step s m j) working mode count t list old new at r after) e h

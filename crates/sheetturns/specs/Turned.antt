@@ -1,5 +1,5 @@
 -- For the code alone: what a sending leaves, and what a turn of the loop asks for and what it leaves.
-use Rattle.std.specs.Prelude.{ℕ, ◌+◌, ◌*◌, ◌^◌, ◌≤◌, ◌<◌, ◌≡◌, List, length}
+use Rattle.std.specs.Prelude.{ℕ, ◌+◌, ◌*◌, ◌^◌, ◌≤◌, ◌<◌, ◌≡◌, List, length, Option}
 use Rattle.runs.specs.Answers.{number_of}
 use Rattle.runs.specs.Lent.{Matrices, Memory, Result}
 use Rattle.calls.specs.declared.states.Outcome.{Outcome}
@@ -27,7 +27,7 @@ pub record Asks (mode count t n3 n4 : ℕ) (list all out : List ℕ) (at : ℕ) 
   pub p4 : n4 ≤ 4608
 
 -- a turn whose sending gave g, and put the answers of L1 frame t, with these workings, behind `at` if it succeeded
-pub record Turned (g : Result) (working : Entry → List ℕ) (mode count t : ℕ) (list : List ℕ) (old new : List ℕ) (at : ℕ) (r : Turn) (m : Memory) : Type 0 where
+pub record Turned (g : Result) (working : Option Entry → List ℕ) (mode count t : ℕ) (list : List ℕ) (old new : List ℕ) (at : ℕ) (r : Turn) (m : Memory) : Type 0 where
   pub answer : r.answer ≡ g.answer
   pub state : r.state ≡ g.state
   pub memory : m ≡ g.memory

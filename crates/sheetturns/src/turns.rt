@@ -49,7 +49,7 @@ fn send_and_put(
     );
     let answer = sent.answer;
     let next = sent.state;
-    if causes::number(answer) != 0 {
+    if !causes::is_success(answer) {
         return Turn {
             answer,
             state: next,

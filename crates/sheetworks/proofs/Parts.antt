@@ -1,4 +1,5 @@
 -- The bytes of an L1 frame in those of all, the transfer frames of a channel in them, and the working that they give. Assumes nothing.
+use Rattle.std.specs.Prelude.{Option, Some, None}
 use mathlib.Core.Path.{◌≡◌, refl, sym, ap, ap₂, ◌∙◌}
 use mathlib.Core.Bool.{Bool, true, false}
 use mathlib.Core.List.{List, []}
@@ -19,7 +20,7 @@ use Rattle.sheetinputs.specs.Inputs.{frame_size}
 use Rattle.sheetlines.specs.declared.entries.CodedBit.{CodedBit}
 use Rattle.sheetlines.specs.declared.entries.Cell.{Cell}
 use Rattle.sheetlines.specs.declared.entries.Entry.{Entry}
-use Rattle.sheetlines.specs.declared.entries.Entry.TheVariants.{Stands, Fill, Refused}
+use Rattle.sheetlines.specs.declared.entries.Entry.TheVariants.{Stands, Fill}
 use Rattle.workings.specs.declared.Worked.{Worked}
 use Rattle.workings.specs.Shown.{worked}
 use Rattle.worktext.specs.Texts.{work_line}
@@ -82,20 +83,20 @@ module _ (mode n3 n4 : ℕ) (bytes : List ℕ) where
       (h ∙ ap (λ (l : List ℕ). channel_in (frames_in mode n3 n4 l) coded.channel) f)
 
   module _ (work : Bool) where
-    pub no-work : (e : Entry) → work ≡ false → work_text work mode n3 n4 bytes e ≡ []
+    pub no-work : (e : Option Entry) → work ≡ false → work_text work mode n3 n4 bytes e ≡ []
     unfolding work_text
     no-work e f = rw f
 
-    module _ (f : work ≡ true) (e : Entry) where
-      pub work-stands : (coded : CodedBit) (cell : Cell) → e ≡ Stands coded cell → (w : Worked) → w ≡ working_of mode n3 n4 bytes coded
+    module _ (f : work ≡ true) (e : Option Entry) where
+      pub work-stands : (coded : CodedBit) (cell : Cell) → e ≡ Some (Stands coded cell) → (w : Worked) → w ≡ working_of mode n3 n4 bytes coded
           → work_line w ≡ work_text work mode n3 n4 bytes e
       unfolding work_text working_text
       work-stands coded cell q w h = ap work_line h ∙ sym (rw (f, q))
 
-      pub work-fill : (sent : ℕ) → e ≡ Fill sent → work_text work mode n3 n4 bytes e ≡ []
+      pub work-fill : (sent : ℕ) → e ≡ Some (Fill sent) → work_text work mode n3 n4 bytes e ≡ []
       unfolding work_text working_text
       work-fill sent q = rw (f, q)
 
-      pub work-refused : e ≡ Refused → work_text work mode n3 n4 bytes e ≡ []
+      pub work-refused : e ≡ None → work_text work mode n3 n4 bytes e ≡ []
       unfolding work_text working_text
       work-refused q = rw (f, q)

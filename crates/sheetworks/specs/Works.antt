@@ -1,5 +1,5 @@
 -- House matter: the working below an answer of a sheet, for a technician who contests it.
-use Rattle.std.specs.Prelude.{ℕ, ◌*◌, Bool, cond, List, [], eqb}
+use Rattle.std.specs.Prelude.{ℕ, ◌*◌, Bool, cond, List, [], eqb, Option, Some, None}
 use Rattle.runs.specs.Lent.{Frames}
 use Rattle.runs.specs.Starting.{state_at}
 use Rattle.layout.specs.Inputs.{frames_in}
@@ -7,7 +7,7 @@ use Rattle.layout.specs.Layout.{cut}
 use Rattle.sheetinputs.specs.Inputs.{frame_size}
 use Rattle.sheetlines.specs.declared.entries.CodedBit.{CodedBit}
 use Rattle.sheetlines.specs.declared.entries.Entry.{Entry}
-use Rattle.sheetlines.specs.declared.entries.Entry.TheVariants.{Stands, Fill, Refused}
+use Rattle.sheetlines.specs.declared.entries.Entry.TheVariants.{Stands, Fill}
 use Rattle.workings.specs.declared.Worked.{Worked}
 use Rattle.workings.specs.Shown.{worked}
 use Rattle.worktext.specs.Texts.{work_line}
@@ -27,11 +27,11 @@ working_of mode n3 n4 bytes coded =
     coded.frame coded.bit
 
 -- the line below an answer that names a coded bit, sent or not; below FILL there is none
-unfoldable pub working_text : (mode n3 n4 : ℕ) (bytes : List ℕ) → Entry → List ℕ
-working_text mode n3 n4 bytes (Stands coded cell) = work_line (working_of mode n3 n4 bytes coded)
-working_text mode n3 n4 bytes (Fill sent) = []
-working_text mode n3 n4 bytes Refused = []
+unfoldable pub working_text : (mode n3 n4 : ℕ) (bytes : List ℕ) → Option Entry → List ℕ
+working_text mode n3 n4 bytes (Some (Stands coded cell)) = work_line (working_of mode n3 n4 bytes coded)
+working_text mode n3 n4 bytes (Some (Fill sent)) = []
+working_text mode n3 n4 bytes None = []
 
 -- where workings are asked for
-unfoldable pub work_text : (work : Bool) (mode n3 n4 : ℕ) (bytes : List ℕ) → Entry → List ℕ
+unfoldable pub work_text : (work : Bool) (mode n3 n4 : ℕ) (bytes : List ℕ) → Option Entry → List ℕ
 work_text work mode n3 n4 bytes e = cond work (working_text mode n3 n4 bytes e) []

@@ -82,7 +82,7 @@ pub fn put_working(
     n3: usize,
     n4: usize,
     bytes: &[u8],
-    entry: Entry,
+    entry: Option<Entry>,
 ) -> usize
     requires { (n3 ≤ 4608) × (n4 ≤ 4608) × (length bytes.now < 2 ^ 32) × (at + 582 ≤ length out.old) }
     ensures { Put out.old out.new at result 582 (work_text work mode n3 n4 bytes.now entry) }
@@ -90,11 +90,13 @@ pub fn put_working(
     if !work {
         return at;
     }
+    let Some(entry) = entry else {
+        return at;
+    };
     match entry {
         Entry::Stands { coded, cell: _ } => {
             worktext::put_work(out, at, working_of(mode, n3, n4, bytes, coded))
         }
         Entry::Fill { sent: _ } => at,
-        Entry::Refused => at,
     }
 }

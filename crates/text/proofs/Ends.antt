@@ -29,19 +29,6 @@ module _ (separator : ℕ) (text : List ℕ) (i : ℕ) where
   unfolding before
   end-nowhere h = rw (drop_of_length-le text {i = i} h)
 
--- no later than the text's end
-before-length : (separator : ℕ) (text : List ℕ) → length (before separator text) ≤ length text
-unfolding before
-before-length separator [] = omega arith
-before-length separator (b ∷ text) = go (eqb b separator) (before-length separator text)
-  where
-    go : (t : Bool) → length (before separator text) ≤ length text → length (cond t [] (b ∷ before separator text)) ≤ suc (length text)
-    go true h = omega arith
-    go false h = omega arith
-
-pub end-within : (separator : ℕ) (text : List ℕ) (i : ℕ) → i ≤ length text → i + length (before separator (drop i text)) ≤ length text
-end-within separator text i h = omega (arith, before-length separator (drop i text), length-drop i text)
-
 part_to_end : (n : ℕ) (text : List ℕ) → take (length text - n) (drop n text) ≡ drop n text
 part_to_end n text = take_all (length text - n) (drop n text) (omega (arith, length-drop n text))
 

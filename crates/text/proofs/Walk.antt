@@ -1,15 +1,12 @@
--- The lines of a text, walked by their ends. Assumes nothing.
-use mathlib.Core.Path.{◌≡◌, refl, sym, ap, ap₂, subst, ◌∙◌}
+-- The lines of a text, walked one after the other. Assumes nothing.
+use mathlib.Core.Path.{◌≡◌, refl, sym, ap, ap₂, ◌∙◌}
 use mathlib.Core.Bool.{Bool, true, false, cond}
 use mathlib.Core.List.{List, [], ◌∷◌}
-use Prim.Native.Nat.{ℕ, suc, ◌+◌, ◌-◌, ◌<◌, ◌≤◌}
+use Prim.Native.Nat.{ℕ, suc, ◌<◌, ◌≤◌}
 use native.Mathlib.Omega.{arith}
 use lib.Dec.{eqb}
-use lib.ListN.{get_or, length, take, drop, drop_of_length-le}
-use lib.Seq.{drop-cons, drop-drop}
-use Rattle.text.specs.Lines.{after, before, newline}
-use Rattle.text.proofs.Ends.{after-dropped, before-taken}
-use Rattle.text.specs.Lines.{joined, lines}
+use lib.ListN.{length}
+use Rattle.text.specs.Lines.{after, before, joined, lines, newline}
 
 -- a text that is not empty: its first line, and the lines after its newline
 first-line : (b : ℕ) (text : List ℕ) → lines (b ∷ text) ≡ before newline (b ∷ text) ∷ lines (after newline (b ∷ text))
@@ -27,26 +24,15 @@ first-line b (c ∷ text) = go (eqb b 10) (first-line c text)
     go true e = refl
     go false e = ap (joined b) e
 
-module _ (input : List ℕ) (at : ℕ) where
-  -- the line at `at`, which ends at `stop`, and those after its newline
-  pub walk-on : (stop : ℕ) → at < length input → stop ≡ at + length (before newline (drop at input))
-      → lines (drop at input) ≡ take (stop - at) (drop at input) ∷ lines (drop (stop + 1) input)
-  walk-on stop h s =
-      let text = drop at input in
-      let line = before newline text in
-      let opened : text ≡ get_or input at 0 ∷ drop (suc at) input = drop-cons input at 0 h in
-      let first : lines text ≡ line ∷ lines (after newline text) =
-      subst (λ (t : List ℕ). lines t ≡ before newline t ∷ lines (after newline t)) (sym opened) (first-line (get_or input at 0) (drop (suc at) input)) in
-      let n : stop - at ≡ length line = omega arith in
-      let m : stop + 1 ≡ at + suc (length line) = omega arith in
-      let whole : take (stop - at) text ≡ line = ap (λ (k : ℕ). take k text) n ∙ before-taken newline text in
-      let rest : drop (stop + 1) input ≡ after newline text =
-      ap (λ (k : ℕ). drop k input) m ∙ sym (drop-drop (suc (length line)) at input) ∙ after-dropped newline text in
-      first ∙ ap₂ (λ (a b : List ℕ). a ∷ lines b) (sym whole) (sym rest)
+-- by the two parts that a cut gives
+pub lines-on : (text line behind : List ℕ) → 0 < length text → line ≡ before newline text → behind ≡ after newline text → lines text ≡ line ∷ lines behind
+lines-on [] line behind h e f = absurd (omega arith)
+lines-on (b ∷ text) line behind h e f = first-line b text ∙ ap₂ (λ (l r : List ℕ). l ∷ lines r) (sym e) (sym f)
 
-  pub walk_end : length input ≤ at → lines (drop at input) ≡ []
-  unfolding lines
-  walk_end h = ap lines (drop_of_length-le input {i = at} h)
+pub lines-none : (text : List ℕ) → length text ≡ 0 → lines text ≡ []
+unfolding lines
+lines-none [] e = refl
+lines-none (b ∷ text) e = absurd (omega arith)
 
 -- no more lines than bytes
 joined_length : (b : ℕ) (ls : List (List ℕ)) (n : ℕ) → length ls ≤ n → length (joined b ls) ≤ suc n

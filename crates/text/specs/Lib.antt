@@ -1,4 +1,5 @@
 pub mod Letters
+pub mod Left
 pub mod Lines
 pub mod Numbers
 pub mod Put

@@ -15,7 +15,7 @@ pub fn end_of(text: &[u8], at: usize, separator: u8) -> usize
     text.len()
 }
 
-// Where the line that starts at `at` ends: at its newline, or at the text's end. Past the text's end, a line has no bytes.
+// Where the line that starts at `at` ends: at its newline, or at the text's end. Past the text's end, a line has no bytes. `lines` gives whole lines.
 pub fn line_end(text: &[u8], at: usize) -> usize
     ensures { result ≡ at + length (before newline (drop at text.now)) }
 {
@@ -25,24 +25,30 @@ pub fn line_end(text: &[u8], at: usize) -> usize
     at
 }
 
+// What stands before the first separator, and what follows it.
+pub fn cut(text: &[u8], separator: u8) -> (&[u8], &[u8])
+    ensures { (result.0.now ≡ before separator text.now) × (result.1.now ≡ after separator text.now) }
+{
+    let end = end_of(text, 0, separator);
+    if end < text.len() {
+        let next = end + 1;
+        return (&text[..end], &text[next..]);
+    }
+    (text, &text[end..])
+}
+
 // The first word of a line.
 pub fn word(line: &[u8]) -> &[u8]
     ensures { result.now ≡ before space line.now }
 {
-    let end = end_of(line, 0, b' ');
-    &line[..end]
+    cut(line, b' ').0
 }
 
 // What follows the first word and the space after it.
 pub fn rest(line: &[u8]) -> &[u8]
     ensures { result.now ≡ after space line.now }
 {
-    let end = end_of(line, 0, b' ');
-    if end < line.len() {
-        let next = end + 1;
-        return &line[next..];
-    }
-    &line[end..]
+    cut(line, b' ').1
 }
 
 // How many bytes a line has without the CR that may end it.

@@ -3,6 +3,8 @@
 
 mod cuts;
 mod putting;
+mod walking;
 
-pub use cuts::{end_of, line_end, plain_line, rest, word};
+pub use cuts::{cut, end_of, line_end, plain_line, rest, word};
 pub use putting::{field, number, put, refuse};
+pub use walking::{EachLine, lines};

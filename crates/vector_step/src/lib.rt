@@ -74,8 +74,8 @@ pub fn print_symbol(
     let mut re = [0.0f32; 1093];
     let mut im = [0.0f32; 1093];
     let answer = fill(mode, symbol, lower, upper, bytes, &mut re, &mut im);
-    let number = causes::number(answer);
-    if number != 0 {
+    if !causes::is_success(answer) {
+        let number = causes::number(answer);
         let place = causes::place(answer);
         let length = messages::put_in_words(out, number, place, 0);
         return Printed {

@@ -3,7 +3,6 @@ use mathlib.Core.Path.{sym, ◌∙◌}
 use mathlib.Core.Bool.{true≢false}
 use native.Mathlib.Omega.{arith}
 use Rattle.io.proofs.Counting.{prefix_len_of_le}
-use Rattle.celltext.proofs.Restored.{told_of}
 use Rattle.celltext.proofs.print_restored.Goals as goal
 
 pub returns-then-not-read_cells : goal.returns-then-not-read_cells
@@ -26,7 +25,7 @@ returns c =
               answer = _;
               read = read.cells yes;
               restored = c.restore-answer.ensures;
-              printed = told_of _ _ _ _ put.holds c.number-said.ensures;
+              printed = put.holds;
             };
         unfitted = λ e. absurd (true≢false (sym (sym read.judged ∙ yes) ∙ e));
       },

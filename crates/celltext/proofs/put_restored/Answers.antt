@@ -2,11 +2,11 @@
 use Rattle.celltext.proofs.Restored.{put-told-frame, put-told-none, put-told-several}
 use Rattle.celltext.proofs.put_restored.Goals as goal
 
-pub returns-then-number-eq0 : goal.returns-then-number-eq0
-returns-then-number-eq0 c = put-told-frame _ _ c.if-number-eq0.true c.put_frame.ensures
+pub returns-in-Success : goal.returns-in-Success
+returns-in-Success c = put-told-frame _ _ c.in-Success.is c.put_frame.ensures
 
-pub returns-then-number-eq14 : goal.returns-then-number-eq14
-returns-then-number-eq14 c = put-told-none _ _ c.if-number-eq0.false c.if-number-eq14.true c.put.ensures
+pub returns-in-NoFrameFits : goal.returns-in-NoFrameFits
+returns-in-NoFrameFits c = put-told-none _ _ c.in-NoFrameFits.is c.put.ensures
 
-pub returns : goal.returns
-returns c = put-told-several _ _ c.if-number-eq0.false c.if-number-eq14.false c.put-2.ensures
+pub returns-in_default : goal.returns-in_default
+returns-in_default c = put-told-several _ _ c.in_default.not-Success c.in_default.not-NoFrameFits c.put-in_default.ensures

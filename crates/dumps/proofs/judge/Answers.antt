@@ -9,38 +9,39 @@ use Rattle.layout.specs.Heads.{head_answer}
 use Rattle.layout.proofs.Heads.{head_of}
 use Rattle.dumps.proofs.Fresh.{memory-clear, room-delay, room-memory3, room-memory4}
 use Rattle.dumps.proofs.Taken.{refused-head, taken-by}
+use Rattle.causes.proofs.Success.{refused}
 use Rattle.dumps.proofs.judge.Goals as goal
-use Rattle.dumps.proofs.judge.Goals.{Else-number-ne0}
+use Rattle.dumps.proofs.judge.Goals.{Else-not-is_success}
 
 -- where the header was taken, it has eight bytes
-clear : (c : Else-number-ne0) → number_of (head_answer c.args.dump.now) ≡ 0
-clear c = ap number_of (sym c.head_answer-head.ensures) ∙ sym c.number.ensures ∙ c.if-number-ne0.false
+clear : (c : Else-not-is_success) → number_of (head_answer c.args.dump.now) ≡ 0
+clear c = ap number_of (sym c.head_answer-head.ensures) ∙ c.is_success.ensures.0 c.if-not-is_success.false
 
-long : (c : Else-number-ne0) → 8 ≤ length c.args.dump.now
+long : (c : Else-not-is_success) → 8 ≤ length c.args.dump.now
 long c = (head_of _ (clear c)).long
 
-pub returns-then-number-ne0 : goal.returns-then-number-ne0
-returns-then-number-ne0 c =
-    c.judged_as.ensures ∙ refused-head c.args.dump.now _ c.head_answer-head.ensures (λ z. c.if-number-ne0.true (c.number.ensures ∙ z))
+pub returns-then-not-is_success : goal.returns-then-not-is_success
+returns-then-not-is_success c =
+    c.judged_as.ensures ∙ refused-head c.args.dump.now _ c.head_answer-head.ensures (refused c.is_success.ensures c.if-not-is_success.true)
 
 pub bounds-dump-5 : goal.bounds-dump-5
 bounds-dump-5 c =
-    let l : 8 ≤ length c.args.dump.now = long (goal.at.bounds-dump-5 c).Else-number-ne0 in
+    let l : 8 ≤ length c.args.dump.now = long (goal.at.bounds-dump-5 c).Else-not-is_success in
     omega arith
 
 pub word_at-count-requires : goal.word_at-count-requires
 word_at-count-requires c =
-    let l : 8 ≤ length c.args.dump.now = long (goal.at.word_at-count-requires c).Else-number-ne0 in
+    let l : 8 ≤ length c.args.dump.now = long (goal.at.word_at-count-requires c).Else-not-is_success in
     omega arith
 
 pub slice_bounds-judge_frames-count : goal.slice_bounds-judge_frames-count
 slice_bounds-judge_frames-count c =
-    let l : 8 ≤ length c.args.dump.now = long (goal.at.slice_bounds-judge_frames-count c).Else-number-ne0 in
+    let l : 8 ≤ length c.args.dump.now = long (goal.at.slice_bounds-judge_frames-count c).Else-not-is_success in
     omega arith
 
 pub slice_bounds-judge_frames-start : goal.slice_bounds-judge_frames-start
 slice_bounds-judge_frames-start c =
-    let l : 8 ≤ length c.args.dump.now = long (goal.at.slice_bounds-judge_frames-start c).Else-number-ne0 in
+    let l : 8 ≤ length c.args.dump.now = long (goal.at.slice_bounds-judge_frames-start c).Else-not-is_success in
     omega arith
 
 pub slice_bounds-memory3-end : goal.slice_bounds-memory3-end
@@ -66,4 +67,4 @@ judge_frames-requires c = memory-clear _ _ c.reader_lengths-want.ensures
 
 pub returns : goal.returns
 returns c =
-    c.judge_frames.ensures ∙ taken-by c.args.dump.now c.word_at-count.result (clear (goal.at.returns c).Else-number-ne0) c.word_at-count.ensures
+    c.judge_frames.ensures ∙ taken-by c.args.dump.now c.word_at-count.result (clear (goal.at.returns c).Else-not-is_success) c.word_at-count.ensures

@@ -1,9 +1,10 @@
 -- `judge_signal` meets its contract: one stage after the other. Assumes nothing.
-use mathlib.Core.Path.{◌≡◌, sym, ◌∙◌}
+use mathlib.Core.Path.{◌≡◌, ◌∙◌}
 use native.Mathlib.Omega.{arith}
 use Rattle.runs.specs.Answers.{number_of}
 use Rattle.calls.specs.Called.{memory_behind, signal_behind}
 use Rattle.judging.proofs.Staged.{control-refused, control-right, at-control, at-pm, at-px}
+use Rattle.causes.proofs.Success.{refused}
 use Rattle.judging.proofs.judge_signal.Goals as goal
 
 pub returns-in-Some : goal.returns-in-Some
@@ -16,10 +17,10 @@ returns-in-Some c =
       same = search;
     }
 
-pub returns-then-number-ne0 : goal.returns-then-number-ne0
-returns-then-number-ne0 c =
+pub returns-then-not-is_success : goal.returns-then-not-is_success
+returns-then-not-is_success c =
     let a = c.args in
-    let zero-not : number_of c.judge_pm-answer.result ≡ 0 → ⊥ = λ z. c.if-number-ne0.true (c.number.ensures ∙ z) in
+    let zero-not : number_of c.judge_pm-answer.result ≡ 0 → ⊥ = refused c.is_success.ensures c.if-not-is_success.true in
     record {
       value = at-pm a.state (memory_behind a.memory.now) (signal_behind a.signal.now) _ (control-right _ _ _ c.in_default.ensures.lowest (omega arith)) c.judge_pm-answer.ensures.value zero-not;
       brought = λ z. absurd (zero-not z);
@@ -30,7 +31,7 @@ returns-then-number-ne0 c =
 pub returns : goal.returns
 returns c =
     let a = c.args in
-    let zero = sym c.number.ensures ∙ c.if-number-ne0.false in
+    let zero = c.is_success.ensures.0 c.if-not-is_success.false in
     record {
       value = at-px a.state (memory_behind a.memory.now) (signal_behind a.signal.now) _ (control-right _ _ _ c.in_default.ensures.lowest (omega arith)) c.judge_pm-answer.ensures.value zero _ c.judge_px.ensures.value;
       brought = λ z.

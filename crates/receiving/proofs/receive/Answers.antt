@@ -1,8 +1,9 @@
 -- `receive` meets its contract: a refusal leaves everything, and a success leaves what the parts of the work ensure. Assumes nothing.
-use mathlib.Core.Path.{sym, ◌∙◌}
+use mathlib.Core.Path.{◌∙◌}
 use Rattle.runs.specs.Lent.{Lent, Memory}
 use Rattle.calls.specs.Called.{frames_behind_mut, lent_to_read, memory_behind_mut}
 use Rattle.receiving.proofs.Leaves.{handed_out, kept}
+use Rattle.causes.proofs.Success.{refused}
 use Rattle.receiving.proofs.receive.Goals as goal
 use Rattle.receiving.proofs.receive.Goals.{Start}
 
@@ -13,16 +14,16 @@ lent_at s = lent_to_read 0 s.args.frames.now s.args.signal.now
 abbrev memory_at : Start → Memory
 memory_at s = memory_behind_mut s.args.memory.now
 
-pub returns-then-number-ne0 : goal.returns-then-number-ne0
-returns-then-number-ne0 c =
+pub returns-then-not-is_success : goal.returns-then-not-is_success
+returns-then-not-is_success c =
     record {
-      received = kept c.args.state (memory_at (goal.at.returns-then-number-ne0 c).Start) (lent_at (goal.at.returns-then-number-ne0 c).Start) _ c.judge-answer.ensures.value (λ z. c.if-number-ne0.true (c.number.ensures ∙ z));
+      received = kept c.args.state (memory_at (goal.at.returns-then-not-is_success c).Start) (lent_at (goal.at.returns-then-not-is_success c).Start) _ c.judge-answer.ensures.value (refused c.is_success.ensures c.if-not-is_success.true);
       same = search;
     }
 
 pub returns : goal.returns
 returns c =
-    let zero = sym c.number.ensures ∙ c.if-number-ne0.false in
+    let zero = c.is_success.ensures.0 c.if-not-is_success.false in
     let h = c.hand_out.ensures in
     record {
       received = handed_out c.args.state (memory_at (goal.at.returns c).Start) (lent_at (goal.at.returns c).Start) _ c.judge-answer.ensures.value zero _ _ _

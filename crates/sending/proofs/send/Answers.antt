@@ -1,8 +1,8 @@
 -- `send` meets its contract: a refusal leaves everything, and a success leaves what the work ensures. Assumes nothing.
-use mathlib.Core.Path.{sym, ◌∙◌}
 use Rattle.runs.specs.Lent.{Lent, Memory}
 use Rattle.calls.specs.Called.{lent, memory}
 use Rattle.sending.proofs.SendCases.{kept, meant-lengths, sendable, written}
+use Rattle.causes.proofs.Success.{refused}
 use Rattle.sending.proofs.send.Goals as goal
 use Rattle.sending.proofs.send.Goals.{Start}
 
@@ -15,18 +15,18 @@ lent_at s =
 abbrev memory_at : Start → Memory
 memory_at s = memory s.args.memory3.now s.args.memory4.now s.args.delay.now
 
-pub returns-then-number-ne0 : goal.returns-then-number-ne0
-returns-then-number-ne0 c =
-    let h = meant-lengths c.args.state (memory_at (goal.at.returns-then-number-ne0 c).Start) (lent_at (goal.at.returns-then-number-ne0 c).Start) _ c.sender_lengths-want.ensures _ _ c.meant_len.ensures c.meant_len-2.ensures in
-    kept c.args.state (memory_at (goal.at.returns-then-number-ne0 c).Start) (lent_at (goal.at.returns-then-number-ne0 c).Start) _ _ _ h c.sender_lengths-want.ensures c.admit-answer.ensures (λ z. c.if-number-ne0.true (c.number.ensures ∙ z))
+pub returns-then-not-is_success : goal.returns-then-not-is_success
+returns-then-not-is_success c =
+    let h = meant-lengths c.args.state (memory_at (goal.at.returns-then-not-is_success c).Start) (lent_at (goal.at.returns-then-not-is_success c).Start) _ c.sender_lengths-want.ensures _ _ c.meant_len.ensures c.meant_len-2.ensures in
+    kept c.args.state (memory_at (goal.at.returns-then-not-is_success c).Start) (lent_at (goal.at.returns-then-not-is_success c).Start) _ _ _ h c.sender_lengths-want.ensures c.admit-answer.ensures (refused c.is_success.ensures c.if-not-is_success.true)
 
 pub write-requires : goal.write-requires
 write-requires c =
     let h = meant-lengths c.args.state (memory_at (goal.at.write-requires c).Start) (lent_at (goal.at.write-requires c).Start) _ c.sender_lengths-want.ensures _ _ c.meant_len.ensures c.meant_len-2.ensures in
-    sendable c.args.state (memory_at (goal.at.write-requires c).Start) (lent_at (goal.at.write-requires c).Start) _ _ _ h c.sender_lengths-want.ensures c.admit-answer.ensures (sym c.number.ensures ∙ c.if-number-ne0.false)
+    sendable c.args.state (memory_at (goal.at.write-requires c).Start) (lent_at (goal.at.write-requires c).Start) _ _ _ h c.sender_lengths-want.ensures c.admit-answer.ensures (c.is_success.ensures.0 c.if-not-is_success.false)
 
 pub returns : goal.returns
 returns c =
     let h = meant-lengths c.args.state (memory_at (goal.at.returns c).Start) (lent_at (goal.at.returns c).Start) _ c.sender_lengths-want.ensures _ _ c.meant_len.ensures c.meant_len-2.ensures in
-    written c.args.state (memory_at (goal.at.returns c).Start) (lent_at (goal.at.returns c).Start) _ _ _ h c.sender_lengths-want.ensures c.admit-answer.ensures (sym c.number.ensures ∙ c.if-number-ne0.false)
+    written c.args.state (memory_at (goal.at.returns c).Start) (lent_at (goal.at.returns c).Start) _ _ _ h c.sender_lengths-want.ensures c.admit-answer.ensures (c.is_success.ensures.0 c.if-not-is_success.false)
     _ _ _ c.next_of-next.ensures c.write.ensures.control_after c.write.ensures.delay_after

@@ -1,15 +1,16 @@
 -- `leave` meets its contract: the working's answer in a word, and its numbers. Assumes nothing.
 use mathlib.Core.Path.{◌∙◌}
+use Rattle.causes.proofs.Success.{refused}
 use Rattle.exported_places.proofs.Numbers.{refused-left, length-left, done-left}
 use Rattle.exported_places.proofs.worked.leave.Goals as goal
 
-pub returns-then-number-ne0 : goal.returns-then-number-ne0
-returns-then-number-ne0 c =
-    refused-left _ _ _ c.number.ensures c.if-number-ne0.true _ c.answer_word.ensures
+pub returns-then-not-is_success : goal.returns-then-not-is_success
+returns-then-not-is_success c =
+    refused-left _ _ (refused c.is_success.ensures c.if-not-is_success.true) _ c.answer_word.ensures
 
 pub returns-then-out-ne25 : goal.returns-then-out-ne25
 returns-then-out-ne25 c =
-    length-left _ _ _ c.number.ensures c.if-number-ne0.false c.if-out-ne25.true _ c.answer_word-then-out-ne25.ensures
+    length-left _ _ (c.is_success.ensures.0 c.if-not-is_success.false) c.if-out-ne25.true _ c.answer_word-then-out-ne25.ensures
 
 pub numbers-requires : goal.numbers-requires
 numbers-requires c =
@@ -18,5 +19,5 @@ numbers-requires c =
 
 pub returns : goal.returns
 returns c =
-    done-left _ _ _ c.number.ensures c.if-number-ne0.false c.if-out-ne25.false _
+    done-left _ _ (c.is_success.ensures.0 c.if-not-is_success.false) c.if-out-ne25.false _
     (c.copy_from_slice.ensures.after ∙ c.numbers.ensures)

@@ -1,56 +1,41 @@
-use mathlib.Core.Path.{refl, ◌∙◌}
-use native.Mathlib.Omega.{arith}
+use Rattle.std.proofs.Common.{◌≡◌, ◌≤◌, ◌+◌, ◌*◌, [], ◌∷◌, length, rules, arith, ap}
 use Rattle.io.proofs.Counting.{prefix_len_of_le}
-use Rattle.text.specs.Lines.{newline}
-use Rattle.text.proofs.Ends.{end-within}
+use Rattle.text.specs.Left.{lines_left}
+use Rattle.text.specs.Lines.{lines}
+use Rattle.text.proofs.Walk.{lines-length}
+use Rattle.text.proofs.Left.{left-begins, left-done, left-on}
 use Rattle.placelines.proofs.Goes.{begins, goes_on, ends}
 use Rattle.placelines.proofs.printing.answer.Goals as goal
 
-pub loop-at-init : goal.loop-at-init
-loop-at-init c = (omega arith, omega arith, omega arith, refl, begins _ _)
-
-pub slice_bounds-put_line-count : goal.slice_bounds-put_line-count
-slice_bounds-put_line-count c = omega (arith, c.line_end-stop.ensures)
-
-pub slice_bounds-put_line-start : goal.slice_bounds-put_line-start
-slice_bounds-put_line-start c = omega (arith, c.line_end-stop.ensures)
-
-pub slice_bounds-put_line-end : goal.slice_bounds-put_line-end
-slice_bounds-put_line-end c =
-    omega (arith, c.line_end-stop.ensures, end-within newline c.args.input.now c.loop-at.at (omega (arith, c.loop-at-test.true)))
+pub loop-line-init : goal.loop-line-init
+loop-line-init c =
+    let start : lines_left c.into_iter-line-iterator.result ≡ lines c.args.input.now = search rules in
+    (omega (arith, ap length start), omega (arith, ap length start), left-begins _ _ _ _ (begins _ _ start))
 
 pub put_line-end-requires : goal.put_line-end-requires
 put_line-end-requires c =
-    omega (arith, c.requires.0, c.loop-at.invariant.1, c.loop-at.invariant.3, c.loop-at-test.true)
+    let next : lines_left c.loop-line.line-iterator ≡ c.in-Some.line.now ∷ lines_left c.next.new.self = search rules in
+    omega (arith, c.requires.0, ap length next, c.loop-line.invariant.0, c.loop-line.invariant.2.size, lines-length c.args.input.now)
 
 pub overflow_add-number : goal.overflow_add-number
 overflow_add-number c =
-    omega (arith, c.requires.1, c.loop-at.invariant.2, c.loop-at-test.true)
+    omega (arith, c.requires.1, c.loop-line.invariant.1, lines-length c.args.input.now)
 
-pub overflow_add-at : goal.overflow_add-at
-overflow_add-at c =
-    omega (arith, c.requires.1, c.line_end-stop.ensures, end-within newline c.args.input.now c.loop-at.at (omega (arith, c.loop-at-test.true)))
-
-pub loop-at-smaller : goal.loop-at-smaller
-loop-at-smaller c =
-    omega (arith, c.line_end-stop.ensures, c.loop-at-test.true)
-
-pub loop-at-preserved : goal.loop-at-preserved
-loop-at-preserved c =
-    let l = c.loop-at.invariant in
-    let p = c.put_line-end.ensures in
-    let s = c.line_end-stop.ensures in (
-      omega (arith, s, end-within newline c.args.input.now c.loop-at.at (omega (arith, c.loop-at-test.true))),
-      omega (arith, s, p.within, l.1),
-      omega (arith, s, l.2),
-      p.size ∙ l.3,
-      goes_on _ _ _ _ _ l.4 _ _ _ c.loop-at-test.true s _ p,
+pub loop-line-preserved : goal.loop-line-preserved
+loop-line-preserved c =
+    let next : lines_left c.loop-line.line-iterator ≡ c.in-Some.line.now ∷ lines_left c.next.new.self = search rules in (
+      omega (arith, ap length next, c.loop-line.invariant.0, c.put_line-end.ensures.within),
+      omega (arith, ap length next, c.loop-line.invariant.1),
+      left-on c.loop-line.invariant.2 (goes_on _ _ _ _ next) c.put_line-end.ensures,
     )
 
 pub shape_of-out : goal.shape_of-out
-shape_of-out c = c.loop-at.invariant.3
+shape_of-out c = c.loop-line.invariant.2.size
 
 pub returns : goal.returns
 returns c =
-    let l = c.loop-at.invariant in
-    (prefix_len_of_le _ _ (omega (arith, c.requires.0, l.0, l.1, l.3)), ends _ _ _ _ _ l.4 c.loop-at-test.false)
+    let none : lines_left c.loop-line.line-iterator ≡ [] = search rules in
+    let inv = c.loop-line.invariant in
+    let short = lines-length c.args.input.now in
+    let fits : c.loop-line.end ≤ 0 + 64 * length c.args.input.now = omega (arith, inv.0, short) in
+    (prefix_len_of_le _ _ (omega (arith, c.requires.0, inv.0, inv.2.size, short)), (left-done _ inv.2 (ends _ _ none) fits).holds)

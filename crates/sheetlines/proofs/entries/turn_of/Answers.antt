@@ -5,16 +5,16 @@ use Rattle.sheetlines.proofs.entries.turn_of.Goals as goal
 
 pub returns-then-sent-count : goal.returns-then-sent-count
 unfolding turn_of
-returns-then-sent-count c = rw c.in-Stands.is (omega (arith, c.if-sent-count.true))
+returns-then-sent-count c = rw (c.in-Some.is, c.in-Stands.is) (omega (arith, c.if-sent-count.true))
 
 pub returns-else-sent-count : goal.returns-else-sent-count
 unfolding turn_of
-returns-else-sent-count c = rw c.in-Stands.is (omega (arith, c.if-sent-count.false))
+returns-else-sent-count c = rw (c.in-Some.is, c.in-Stands.is) (omega (arith, c.if-sent-count.false))
 
 pub returns-in-Fill : goal.returns-in-Fill
 unfolding turn_of
-returns-in-Fill c = rw c.in-Fill.is
+returns-in-Fill c = rw (c.in-Some.is, c.in-Fill.is)
 
-pub returns-in-Refused : goal.returns-in-Refused
+pub returns-in_default : goal.returns-in_default
 unfolding turn_of
-returns-in-Refused c = rw c.in-Refused.is
+returns-in_default c = rw c.in_default.is

@@ -3,6 +3,7 @@ use Prim.Native.Nat.{ℕ, ◌*◌}
 use native.Mathlib.Omega.{arith}
 use Rattle.sheetruns.proofs.Loop.{bytes-few, frame-within, going-begins, going-ends, going_on, going-stops, room_for, room-last}
 use Rattle.sheetruns.proofs.Loop.{put_first}
+use Rattle.causes.proofs.Success.{refused}
 use Rattle.sheetruns.proofs.frames.put_frames.Goals as goal
 
 pub frame_size-n-requires : goal.frame_size-n-requires
@@ -44,25 +45,25 @@ pub put_no_frame-requires : goal.put_no_frame-requires
 put_no_frame-requires c =
     omega (arith, c.requires.6, c.loop-t.invariant.4, c.take_turn-turned.ensures.size)
 
-pub shape_of-memory3-then-number-ne0 : goal.shape_of-memory3-then-number-ne0
-shape_of-memory3-then-number-ne0 c =
+pub shape_of-memory3-then-not-is_success : goal.shape_of-memory3-then-not-is_success
+shape_of-memory3-then-not-is_success c =
     c.memory3-in-loop-t-1.given ∙ c.loop-t.invariant.1 ∙ c.memory3-1.given
 
-pub shape_of-memory4-then-number-ne0 : goal.shape_of-memory4-then-number-ne0
-shape_of-memory4-then-number-ne0 c =
+pub shape_of-memory4-then-not-is_success : goal.shape_of-memory4-then-not-is_success
+shape_of-memory4-then-not-is_success c =
     c.memory4-in-loop-t-1.given ∙ c.loop-t.invariant.2 ∙ c.memory4-1.given
 
-pub shape_of-delay-then-number-ne0 : goal.shape_of-delay-then-number-ne0
-shape_of-delay-then-number-ne0 c =
+pub shape_of-delay-then-not-is_success : goal.shape_of-delay-then-not-is_success
+shape_of-delay-then-not-is_success c =
     c.delay-in-loop-t-1.given ∙ c.loop-t.invariant.3 ∙ c.delay-1.given
 
-pub shape_of-out-then-number-ne0 : goal.shape_of-out-then-number-ne0
-shape_of-out-then-number-ne0 c = c.out-then-number-ne0-1.given ∙ c.out-1.given ∙ c.loop-t.invariant.4
+pub shape_of-out-then-not-is_success : goal.shape_of-out-then-not-is_success
+shape_of-out-then-not-is_success c = c.out-then-not-is_success-1.given ∙ c.out-1.given ∙ c.loop-t.invariant.4
 
-pub returns-then-number-ne0 : goal.returns-then-number-ne0
-returns-then-number-ne0 c =
+pub returns-then-not-is_success : goal.returns-then-not-is_success
+returns-then-not-is_success c =
     put_first _ _ (omega (arith, c.requires.6, c.loop-t.invariant.4, c.take_turn-turned.ensures.size))
-    (going-stops c.loop-t.invariant.5 c.loop-t-test.true _ _ c.loop-t.invariant.0 refl _ refl _ c.take_turn-turned.result _ c.take_turn-turned.ensures (λ z. c.if-number-ne0.true (c.number.ensures ∙ z))) c.put_no_frame.ensures
+    (going-stops c.loop-t.invariant.5 c.loop-t-test.true _ _ c.loop-t.invariant.0 refl _ refl _ c.take_turn-turned.result _ c.take_turn-turned.ensures (refused c.is_success.ensures c.if-not-is_success.true)) c.put_no_frame.ensures
 
 pub loop-t-preserved : goal.loop-t-preserved
 loop-t-preserved c = (
@@ -71,7 +72,7 @@ loop-t-preserved c = (
   c.memory4-in-loop-t-1.given ∙ c.loop-t.invariant.2,
   c.delay-in-loop-t-1.given ∙ c.loop-t.invariant.3,
   c.take_turn-turned.ensures.size ∙ c.loop-t.invariant.4,
-  going_on c.loop-t.invariant.5 c.loop-t-test.true _ _ c.loop-t.invariant.0 refl _ refl _ c.take_turn-turned.result _ c.take_turn-turned.ensures (sym c.number.ensures ∙ c.if-number-ne0.false),
+  going_on c.loop-t.invariant.5 c.loop-t-test.true _ _ c.loop-t.invariant.0 refl _ refl _ c.take_turn-turned.result _ c.take_turn-turned.ensures (c.is_success.ensures.0 c.if-not-is_success.false),
 )
 
 pub put_last-requires : goal.put_last-requires

@@ -1,15 +1,17 @@
--- `is_refused` meets its contract: the match is the definition's. Assumes nothing.
+-- `is_refused` meets its contract: what has no entry is refused. Assumes nothing.
+use mathlib.Core.Path.{◌≡◌, refl, sym}
+use mathlib.Core.Bool.{Bool, true, false, not, true≢false}
+use Rattle.std.specs.Prelude.{Option, Some, None, is_some}
+use Rattle.sheetlines.specs.declared.entries.Entry.{Entry}
 use Rattle.sheettext.specs.Texts.{is_refused}
 use Rattle.sheettext.proofs.lines.is_refused.Goals as goal
 
-pub returns-in-Stands : goal.returns-in-Stands
+without : (e : Option Entry) (b : Bool) → is_some e ≡ not b → b ≡ is_refused e
 unfolding is_refused
-returns-in-Stands c = rw c.in-Stands.is
+without (Some entry) true h = absurd (true≢false h)
+without (Some entry) false h = refl
+without None true h = refl
+without None false h = absurd (true≢false (sym h))
 
-pub returns-in-Fill : goal.returns-in-Fill
-unfolding is_refused
-returns-in-Fill c = rw c.in-Fill.is
-
-pub returns-in-Refused : goal.returns-in-Refused
-unfolding is_refused
-returns-in-Refused c = rw c.in-Refused.is
+pub returns : goal.returns
+returns c = without _ _ c.is_none.ensures

@@ -8,12 +8,12 @@ use Rattle.sheettext.proofs.lines.put_names.Goals as goal
 
 pub returns-in-Stands : goal.returns-in-Stands
 unfolding names
-returns-in-Stands c = put-text (sym (rw c.in-Stands.is)) (put_then c.put_asked-m.ensures c.put_found.ensures)
+returns-in-Stands c = put-text (sym (rw (c.in-Some.is, c.in-Stands.is))) (put_then c.put_asked-m.ensures c.put_found.ensures)
 
 pub returns-in-Fill : goal.returns-in-Fill
 unfolding names
-returns-in-Fill c = put-text (sym (rw c.in-Fill.is)) (put-most (omega arith) (put_then c.put_asked-m-in-Fill.ensures c.put.ensures))
+returns-in-Fill c = put-text (sym (rw (c.in-Some.is, c.in-Fill.is))) (put-most (omega arith) (put_then c.put_asked-m-in-Fill.ensures c.put.ensures))
 
-pub returns-in-Refused : goal.returns-in-Refused
+pub returns-in_default : goal.returns-in_default
 unfolding names
-returns-in-Refused c = put-nothing _ _ _ _ (rw c.in-Refused.is)
+returns-in_default c = put-nothing _ _ _ _ (rw c.in_default.is)

@@ -8,12 +8,12 @@ use Rattle.sheettext.proofs.lines.put_value.Goals as goal
 
 pub returns-in-Stands : goal.returns-in-Stands
 unfolding value_text
-returns-in-Stands c = put-text (sym (rw c.in-Stands.is)) c.put_bit.ensures
+returns-in-Stands c = put-text (sym (rw (c.in-Some.is, c.in-Stands.is))) c.put_bit.ensures
 
 pub returns-in-Fill : goal.returns-in-Fill
 unfolding value_text
-returns-in-Fill c = put-most (omega arith) (put-text (sym (rw c.in-Fill.is)) c.put.ensures)
+returns-in-Fill c = put-most (omega arith) (put-text (sym (rw (c.in-Some.is, c.in-Fill.is))) c.put.ensures)
 
-pub returns-in-Refused : goal.returns-in-Refused
+pub returns-in_default : goal.returns-in_default
 unfolding value_text
-returns-in-Refused c = put-nothing _ _ _ _ (rw c.in-Refused.is)
+returns-in_default c = put-nothing _ _ _ _ (rw c.in_default.is)

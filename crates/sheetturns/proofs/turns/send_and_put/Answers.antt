@@ -1,34 +1,35 @@
 -- `send_and_put` meets its contract: refused, or sent. Assumes nothing.
 use native.Mathlib.Omega.{arith}
+use Rattle.causes.proofs.Success.{refused}
 use Rattle.sheetturns.proofs.Turning.{turned_down, turned_up}
 use Rattle.sheetturns.proofs.turns.send_and_put.Goals as goal
 
-pub shape_of-pm-then-number-ne0 : goal.shape_of-pm-then-number-ne0
-shape_of-pm-then-number-ne0 c = c.pm-1.given
+pub shape_of-pm-then-not-is_success : goal.shape_of-pm-then-not-is_success
+shape_of-pm-then-not-is_success c = c.pm-1.given
 
-pub shape_of-px1-then-number-ne0 : goal.shape_of-px1-then-number-ne0
-shape_of-px1-then-number-ne0 c = c.px1-1.given
+pub shape_of-px1-then-not-is_success : goal.shape_of-px1-then-not-is_success
+shape_of-px1-then-not-is_success c = c.px1-1.given
 
-pub shape_of-px2-then-number-ne0 : goal.shape_of-px2-then-number-ne0
-shape_of-px2-then-number-ne0 c = c.px2-1.given
+pub shape_of-px2-then-not-is_success : goal.shape_of-px2-then-not-is_success
+shape_of-px2-then-not-is_success c = c.px2-1.given
 
-pub shape_of-control-then-number-ne0 : goal.shape_of-control-then-number-ne0
-shape_of-control-then-number-ne0 c = c.control-1.given
+pub shape_of-control-then-not-is_success : goal.shape_of-control-then-not-is_success
+shape_of-control-then-not-is_success c = c.control-1.given
 
-pub shape_of-memory3-then-number-ne0 : goal.shape_of-memory3-then-number-ne0
-shape_of-memory3-then-number-ne0 c = c.memory3-1.given
+pub shape_of-memory3-then-not-is_success : goal.shape_of-memory3-then-not-is_success
+shape_of-memory3-then-not-is_success c = c.memory3-1.given
 
-pub shape_of-memory4-then-number-ne0 : goal.shape_of-memory4-then-number-ne0
-shape_of-memory4-then-number-ne0 c = c.memory4-1.given
+pub shape_of-memory4-then-not-is_success : goal.shape_of-memory4-then-not-is_success
+shape_of-memory4-then-not-is_success c = c.memory4-1.given
 
-pub shape_of-delay-then-number-ne0 : goal.shape_of-delay-then-number-ne0
-shape_of-delay-then-number-ne0 c = c.delay-1.given
+pub shape_of-delay-then-not-is_success : goal.shape_of-delay-then-not-is_success
+shape_of-delay-then-not-is_success c = c.delay-1.given
 
-pub returns-then-number-ne0 : goal.returns-then-number-ne0
-returns-then-number-ne0 c =
+pub returns-then-not-is_success : goal.returns-then-not-is_success
+returns-then-not-is_success c =
     let a = c.args in
     let s = c.send_frame-sent in
-    turned_down _ s.result _ _ s.ensures _ a.mode a.count a.t a.list.now _ _ _ c.number.ensures c.if-number-ne0.true
+    turned_down _ s.result _ _ s.ensures _ a.mode a.count a.t a.list.now _ _ (refused c.is_success.ensures c.if-not-is_success.true)
 
 pub put_answers-end-requires : goal.put_answers-end-requires
 put_answers-end-requires c =
@@ -63,4 +64,4 @@ pub returns : goal.returns
 returns c =
     let a = c.args in
     let s = c.send_frame-sent in
-    turned_up _ s.result _ _ s.ensures _ a.mode a.count a.t a.list.now _ _ _ c.number.ensures _ _ c.put_answers-end.ensures
+    turned_up _ s.result _ _ s.ensures _ a.mode a.count a.t a.list.now _ _ _ _ c.put_answers-end.ensures
