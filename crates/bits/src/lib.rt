@@ -42,6 +42,7 @@ pub fn fill(dst: &mut [u8], b: u8)
 }
 
 // Whether two buffers hold the same bytes.
+#[tactic(auto, using(crate::proofs::Tests::same_pointwise))]
 pub fn same(a: &[u8], b: &[u8]) -> bool
     ensures { result ≡ «same_bytes» a.now b.now }
 {
