@@ -28,7 +28,10 @@ pub fn copy(src: &[u8], dst: &mut [u8])
     requires { length src.now ≡ length dst.old }
     ensures { dst.new ≡ src.now }
 {
-    dst.copy_from_slice(src);
+    // Not `copy_from_slice`, which calls memmove: the C library calls nothing of C but memcpy and memset (include/layer1.h).
+    for i in 0..src.len() {
+        dst[i] = src[i];
+    }
 }
 
 // Fills dst with the byte b.
@@ -39,6 +42,7 @@ pub fn fill(dst: &mut [u8], b: u8)
 }
 
 // Whether two buffers hold the same bytes.
+#[tactic(auto, using(crate::proofs::Tests::same_pointwise))]
 pub fn same(a: &[u8], b: &[u8]) -> bool
     ensures { result ≡ «same_bytes» a.now b.now }
 {

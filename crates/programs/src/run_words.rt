@@ -97,13 +97,18 @@ pub fn read_without(rt: &impl Env) -> Option<Without> {
     })
 }
 
-// The arguments MODE and COUNT of a sender's program, and which channels are without data, where these are `words` words.
+// The arguments MODE and COUNT of a sender's program, and which channels are without data, where these are `words` words: 0 for words that name none.
 pub fn read_sending(rt: &impl Env, words: usize) -> Option<Sending> {
+    let none = Without {
+        p3: false,
+        p4: false,
+        words: 0,
+    };
     let Without {
         p3,
         p4,
         words: named,
-    } = read_without(rt)?;
+    } = read_without(rt).unwrap_or(none);
     if words != named {
         return None;
     }

@@ -35,5 +35,6 @@ pub fn lookup_frame(control: &[u8]) -> Result<FrameNumbers, Answer>
     if control.len() != 4096 {
         return Err(Answer::WrongLength(0));
     }
-    blockset::lookup_frame(control).map_err(answer_to)
+    let FrameNumbers { mode, reserved } = blockset::lookup_frame(control).map_err(answer_to)?;
+    Ok(FrameNumbers { mode, reserved })
 }

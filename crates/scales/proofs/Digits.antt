@@ -39,24 +39,18 @@ module _ (most : ℕ) where
 -- ---- the digits from place i on
 
 module _ (text : List ℕ) (i : ℕ) where
-  digits-opened : i < length text → digits_alone (drop i text) ≡ (is_digit (get_or text i 0) && digits_alone (drop (i + 1) text))
+  pub digits_at : i < length text → digits_alone (drop i text) ≡ (is_digit (get_or text i 0) && digits_alone (drop (i + 1) text))
   unfolding digits_alone
-  digits-opened h =
+  digits_at h =
       ap digits_alone (drop-cons text i 0 h) ∙ ap (λ (k : ℕ). is_digit (get_or text i 0) && digits_alone (drop k text)) (sym (add-one i))
 
-  pub digit-not : i < length text → is_digit (get_or text i 0) ≡ false → false ≡ digits_alone (drop i text)
-  digit-not h e = sym (digits-opened h ∙ ap (λ (t : Bool). t && digits_alone (drop (i + 1) text)) e)
-
-  pub digit-next : i < length text → is_digit (get_or text i 0) ≡ true → digits_alone (drop i text) ≡ digits_alone (drop (i + 1) text)
-  digit-next h e = digits-opened h ∙ ap (λ (t : Bool). t && digits_alone (drop (i + 1) text)) e
-
-  pub digits-end : length text ≤ i → true ≡ digits_alone (drop i text)
+  pub digits_end : length text ≤ i → true ≡ digits_alone (drop i text)
   unfolding digits_alone
-  digits-end h = sym (ap digits_alone (drop_of_length-le text {i = i} h))
+  digits_end h = sym (ap digits_alone (drop_of_length-le text {i = i} h))
 
   module _ (h : i < length text) (d : digits_alone (drop i text) ≡ true) where
     parts : (is_digit (get_or text i 0) ≡ true) × (digits_alone (drop (i + 1) text) ≡ true)
-    parts = both (is_digit (get_or text i 0)) (digits_alone (drop (i + 1) text)) (sym (digits-opened h) ∙ d)
+    parts = both (is_digit (get_or text i 0)) (digits_alone (drop (i + 1) text)) (sym (digits_at h) ∙ d)
 
     pub digit-here : (48 ≤ get_or text i 0) × (get_or text i 0 ≤ 57)
     digit-here = digit-bounds (get_or text i 0) parts.0
@@ -115,9 +109,10 @@ value-below (b ∷ text) h =
 
 -- ---- zeros behind them
 
-module _ (number digits zeros : ℕ) (z : digits + zeros ≡ 16) (h : number < 10 ^ digits) where
+module _ (number digits zeros : ℕ) (z : digits + zeros ≤ 16) (h : number < 10 ^ digits) where
   pub padded_below : number * 10 ^ zeros < 10 ^ 16
   padded_below =
       let p : 10 ^ 0 ≤ 10 ^ zeros = pow-le-pow_right {n = 10} (omega arith) {i = 0} {j = zeros} (omega arith) in
       let m : number * 10 ^ zeros < 10 ^ digits * 10 ^ zeros = mul-lt-mul_of_pos_right h (omega arith) in
-      subst (λ (n : ℕ). number * 10 ^ zeros < n) (sym (pow-add 10 digits zeros) ∙ ap (λ (n : ℕ). 10 ^ n) z) m
+      let n : 10 ^ (digits + zeros) ≤ 10 ^ 16 = pow-le-pow_right {n = 10} (omega arith) {i = digits + zeros} {j = 16} z in
+      omega (arith, n, subst (λ (n : ℕ). number * 10 ^ zeros < n) (sym (pow-add 10 digits zeros)) m)

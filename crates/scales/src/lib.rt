@@ -7,6 +7,7 @@ ghost use Rattle.text.specs.Numbers.{digits_alone, value};
 ghost use Rattle.scales.specs.Scales.{exact_of, is_short, is_single, scale_of};
 
 // Whether a text is digits alone.
+#[tactic(auto, using(crate::proofs::Digits::digits_at, crate::proofs::Digits::digits_end), unfolding(text::specs::Numbers::is_digit))]
 fn are_digits(text: &[u8]) -> bool
     ensures { result ≡ digits_alone text.now }
 {
@@ -39,6 +40,7 @@ fn worth(text: &[u8]) -> u64
 }
 
 // The number of so many digits behind the point, with zeros behind it till there are sixteen.
+#[tactic(auto, using(crate::proofs::Digits::padded_below))]
 fn padded(number: u64, digits: usize) -> u64
     requires { (digits ≤ 16) × (number < 10 ^ digits) }
     ensures { (result ≡ number * 10 ^ (16 - digits)) × (result < 10 ^ 16) }

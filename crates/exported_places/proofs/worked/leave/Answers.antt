@@ -12,12 +12,12 @@ pub returns-then-out-ne25 : goal.returns-then-out-ne25
 returns-then-out-ne25 c =
     length-left _ _ (c.is_success.ensures.0 c.if-not-is_success.false) c.if-out-ne25.true _ c.answer_word-then-out-ne25.ensures
 
-pub numbers-requires : goal.numbers-requires
-numbers-requires c =
+pub numbers-told-requires : goal.numbers-told-requires
+numbers-told-requires c =
     let h = c.requires in
     (h.1, h.2)
 
 pub returns : goal.returns
 returns c =
     done-left _ _ (c.is_success.ensures.0 c.if-not-is_success.false) c.if-out-ne25.false _
-    (c.copy_from_slice.ensures.after ∙ c.numbers.ensures)
+    (c.copy.ensures ∙ c.numbers-told.ensures)

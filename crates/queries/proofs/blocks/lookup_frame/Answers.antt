@@ -1,5 +1,6 @@
 -- `lookup_frame` meets its contract: the length decides, and then what the sixteen control blocks are. Assumes nothing.
 use mathlib.Core.Path.{◌≡◌, sym, ap, ◌∙◌}
+use native.Mathlib.Omega.{arith}
 use Rattle.std.specs.Prelude.{Result, Ok, Err, MatchResult, IsErrAnd}
 use Rattle.blockset.specs.declared.FrameNumbers.{FrameNumbers}
 use Rattle.blockset.specs.declared.SetFault.{SetFault}
@@ -19,6 +20,13 @@ told-is (Ok numbers) r e = e
 told-is (Err fault) (Ok numbers) e = absurd e
 told-is (Err fault) (Err answer) e = ap Err e
 
+pub returns-in_err-mode : goal.returns-in_err-mode
+returns-in_err-mode c =
+    let fault : Err c.in_err-mode.field-0.0 ≡ told c.lookup_frame.result = told-is _ _ c.in_err-mode.ensures.cases in
+    let refused : c.from_residual.result ≡ Err c.in_err-mode.field-0.0 = grind arith in
+    valued values (refused ∙ fault ∙ ap told c.lookup_frame.ensures ∙ sym (of_blocks _ c.if-control-ne4096.false))
+
 pub returns : goal.returns
 returns c =
-    valued values (told-is _ _ c.map_err.ensures.cases ∙ ap told c.lookup_frame.ensures ∙ sym (of_blocks _ c.if-control-ne4096.false))
+    let numbers : Ok c.in_ok-mode.field-0 ≡ told c.lookup_frame.result = told-is _ _ c.in_ok-mode.ensures.cases in
+    valued values (numbers ∙ ap told c.lookup_frame.ensures ∙ sym (of_blocks _ c.if-control-ne4096.false))
